@@ -1,0 +1,107 @@
+-- Causality in a sound log: what a closed vector counts has smaller vectors. From this: some lacking op is not early. Assumes nothing.
+use mathlib.Core.Path.{_≡_, refl, sym, subst}
+use mathlib.Core.Bool.{Bool, true, false}
+use mathlib.Core.List.{map}
+use Prim.Native.Nat.{ℕ, zero, suc, _+_, _-_, _≤_, _<_}
+use native.Mathlib.Nat.{le-refl, add-zero}
+use native.Mathlib.Omega.{arith}
+use borrow.Author.Tests.{leb-true, leb-false, ne-eqb}
+use lib.Dec.{leb, lit≤}
+use Rattle.rules.specs.Bytes.{upFrom, sum}
+use Rattle.rules.specs.Op.{Vector, replicas, countIn, vectorOf, seqOf, ownCount}
+use Rattle.rules.specs.Log.{Log, opAt, countsOf, within, covered, closedAt, closed}
+use Rattle.rules.proofs.BoolLaws.{replica-passes, replica-fails, replica-cases}
+use Rattle.rules.proofs.StructureLaws.{held-in, HeldOps}
+
+-- a vector nowhere greater than another
+abbrev pub Le : Vector → Vector → Type 0
+Le v u = (s : ℕ) → 1 ≤ s → s ≤ 8 → countIn v s ≤ countIn u s
+
+pub within-le : (v u : Vector) → within v u ≡ true → Le v u
+unfolding within
+within-le v u e s l h = leb-true _ _ (replica-passes (λ t. leb (countIn v t) (countIn u t)) e s l h)
+
+-- the number of ops that a vector counts
+unfoldable pub total : Vector → ℕ
+total v = sum (map (countIn v) replicas)
+
+pub total-less : (v u : Vector) → Le v u → (s : ℕ) → 1 ≤ s → s ≤ 8 → countIn v s < countIn u s → total v < total u
+unfolding total sum replicas upFrom
+total-less v u b =
+    let b₁ = b 1 (lit≤ tt) (lit≤ tt) in
+    let b₂ = b 2 (lit≤ tt) (lit≤ tt) in
+    let b₃ = b 3 (lit≤ tt) (lit≤ tt) in
+    let b₄ = b 4 (lit≤ tt) (lit≤ tt) in
+    let b₅ = b 5 (lit≤ tt) (lit≤ tt) in
+    let b₆ = b 6 (lit≤ tt) (lit≤ tt) in
+    let b₇ = b 7 (lit≤ tt) (lit≤ tt) in
+    let b₈ = b 8 (lit≤ tt) (lit≤ tt) in
+    replica-cases (λ s. countIn v s < countIn u s → total v < total u)
+    (λ h. omega arith) (λ h. omega arith) (λ h. omega arith) (λ h. omega arith) (λ h. omega arith) (λ h. omega arith) (λ h. omega arith) (λ h. omega arith)
+
+pub closed-le : (log : Log) (v : Vector) → closed log v ≡ true → (s : ℕ) → 1 ≤ s → s ≤ 8 → 1 ≤ countIn v s → Le (vectorOf (opAt log s (countIn v s))) v
+unfolding closed closedAt
+closed-le log v c s l u p =
+    within-le _ v (rw (ne-eqb (countIn v s) 0 (λ e. omega arith)) at (replica-passes (closedAt log v) c s l u))
+
+module _ (log : Log) (ops : HeldOps log) where
+  -- the vector of replica s's op q
+  abbrev vec : ℕ → ℕ → Vector
+  vec s q = vectorOf (opAt log s q)
+
+  pub own : (s q : ℕ) → 1 ≤ s → s ≤ 8 → 1 ≤ q → q ≤ countIn (countsOf log) s → countIn (vec s q) s + 1 ≡ q
+  unfolding seqOf ownCount
+  own s q l u lq uq = let x = ops s q l u lq uq in rw (x .origin) at (x .number)
+
+  later : (s q d : ℕ) → 1 ≤ s → s ≤ 8 → 1 ≤ q → q + d ≤ countIn (countsOf log) s → Le (vec s q) (vec s (q + d))
+  later s q zero l u lq uq = rw (add-zero q) (λ t a b. le-refl _)
+  later s q (suc d) l u lq uq =
+      let v : Vector = vec s (q + suc d) in
+      let k : countIn v s ≡ q + d = omega (arith, own s (q + suc d) l u (omega arith) uq) in
+      let c : Le (vec s (countIn v s)) v = closed-le log v (ops s (q + suc d) l u (omega arith) uq .is-closed) s l u (omega arith) in
+      let c′ : Le (vec s (q + d)) v = subst (λ (j : ℕ). Le (vec s j) v) k c in
+      λ t a b. omega (arith, later s q d l u lq (omega arith) t a b, c′ t a b)
+
+  -- an op that a closed and held vector counts
+  module _ (v : Vector) (cv : covered log v ≡ true) (cl : closed log v ≡ true) (s q : ℕ) (l : 1 ≤ s) (u : s ≤ 8) (lq : 1 ≤ q) (uq : q ≤ countIn v s) where
+    held-q : q ≤ countIn (countsOf log) s
+    held-q = omega (arith, held-in log v cv s l u)
+
+    pub counted-le : Le (vec s q) v
+    counted-le t a b =
+        let d : ℕ = countIn v s - q in
+        let k : q + d ≡ countIn v s = omega arith in
+        let c : Le (vec s (q + d)) v = subst (λ (j : ℕ). Le (vec s j) v) (sym k) (closed-le log v cl s l u (omega arith)) in
+        omega (arith, later s q d l u lq (omega (arith, held-in log v cv s l u)) t a b, c t a b)
+
+    pub counted-less : total (vec s q) < total v
+    counted-less = total-less (vec s q) v counted-le s l u (omega (arith, own s q l u lq held-q))
+
+-- the op number q of replica s is in a and not in b
+pub record Lacking (a b : Log) (s q : ℕ) : Type 0 where
+  pub low : 1 ≤ s
+  pub high : s ≤ 8
+  pub first : 1 ≤ q
+  pub here : q ≤ countIn (countsOf a) s
+  pub not-there : countIn (countsOf b) s < q
+
+module _ (a b : Log) (ops : HeldOps a) where
+  -- of what is lacking, something is not early
+  pub some-ready : (n s q : ℕ) → Lacking a b s q → total (vectorOf (opAt a s q)) < n → (t : ℕ) × (k : ℕ) × Lacking a b t k × (covered b (vectorOf (opAt a t k)) ≡ true)
+  unfolding covered within
+  some-ready zero s q x h = absurd (omega arith)
+  some-ready (suc n) s q x h = go (covered b v) refl (some-ready n)
+    where
+      v : Vector
+      v = vectorOf (opAt a s q)
+
+      go : (c : Bool) → covered b v ≡ c → ((t k : ℕ) → Lacking a b t k → total (vectorOf (opAt a t k)) < n → (t : ℕ) × (k : ℕ) × Lacking a b t k × (covered b (vectorOf (opAt a t k)) ≡ true)) → (t : ℕ) × (k : ℕ) × Lacking a b t k × (covered b (vectorOf (opAt a t k)) ≡ true)
+      go true e ih = (s, q, x, e)
+      go false e ih =
+          let (t, lt, ut, f) = replica-fails (λ r. leb (countIn v r) (countIn (countsOf b) r)) e in
+          let y = ops s q (x .low) (x .high) (x .first) (x .here) in
+          let k : ℕ = countIn (countsOf b) t + 1 in
+          let m : k ≤ countIn v t = omega (arith, leb-false (countIn v t) (countIn (countsOf b) t) f) in
+          let i : k ≤ countIn (countsOf a) t = omega (arith, held-in a v (y .is-covered) t lt ut) in
+          ih t k (record { low = lt; high = ut; first = omega arith; here = i; not-there = omega arith })
+          (omega (arith, counted-less a ops v (y .is-covered) (y .is-closed) t k lt ut (omega arith) m))

@@ -1,0 +1,12 @@
+pub mod BoolLaws
+pub mod ListLaws
+pub mod FileLaws
+pub mod StructureLaws
+pub mod AppendLaws
+pub mod SoundLaws
+pub mod DeliverLaws
+pub mod InsertLaws
+pub mod OfferLaws
+pub mod CausalLaws
+pub mod TimeLaws
+pub mod TreeLaws

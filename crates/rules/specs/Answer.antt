@@ -1,0 +1,23 @@
+-- What a call hands back (the table "Numbers handed back"): one type for all calls. Assumes nothing.
+use Prim.Native.Nat.{ℕ}
+use mathlib.Core.Bool.{Bool, true, false}
+
+-- refused with the paper's number; "had it"; judging is done; or accepted, with the number handed back: the new file end, the entries of a
+-- path, the bytes of a listing
+pub data Answer : Type 0 where
+  refused : ℕ → Answer
+  hadIt : Answer
+  done : Answer
+  accepted : ℕ → Answer
+
+-- go on if the test passes, else refuse with the number
+unfoldable pub require : Bool → ℕ → Answer → Answer
+require true n next = next
+require false n next = refused n
+
+-- what a call leaves behind: the old content unless it did what was asked
+abbrev pub ifAccepted {ℓ} : {A : Type ℓ} → Answer → A → A → A
+ifAccepted (refused n) new old = old
+ifAccepted hadIt new old = old
+ifAccepted done new old = new
+ifAccepted (accepted n) new old = new

@@ -1,0 +1,14 @@
+pub mod Answer
+pub mod Bytes
+pub mod Op
+pub mod Log
+pub mod Sound
+pub mod Deliver
+pub mod Tree
+pub mod Replay
+pub mod Judge
+pub mod Issue
+pub mod Path
+pub mod Views
+pub mod Listing
+pub mod Examples

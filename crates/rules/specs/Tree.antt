@@ -1,0 +1,41 @@
+-- The tree that a parent table holds: slots, paths to the root, depth, what lies below. Assumes nothing.
+use Prim.Native.Nat.{ℕ, zero, suc, _+_, _*_, _-_, _/_, _%_}
+use mathlib.Core.Bool.{Bool, cond}
+use mathlib.Core.List.{List, [], _∷_}
+use lib.ListN.{length, getD}
+use lib.Dec.{eqb}
+use Rattle.rules.specs.Bytes.{isIn}
+
+-- "seat s, sequence q has slot 255 x (s - 1) + q"; slot 0 is the root
+unfoldable pub slot : ℕ → ℕ → ℕ
+slot s q = 255 * (s - 1) + q
+
+unfoldable pub slotOf : ℕ → ℕ
+slotOf n = cond (eqb n 0) 0 (slot (n / 256) (n % 256))
+
+-- how many slots a table has, and the parent entry of a slot without an added node
+abbrev pub slots : ℕ
+slots = 2041
+
+abbrev pub noParent : ℕ
+noParent = 65535
+
+unfoldable pub parentIn : List ℕ → ℕ → ℕ
+parentIn parents n = getD parents (slotOf n) noParent
+
+-- n, its parent, and so on to the root, in at most k entries
+unfoldable pub climb : ℕ → List ℕ → ℕ → List ℕ
+climb zero parents n = []
+climb (suc k) parents n = let above = climb k parents (parentIn parents n) in n ∷ cond (eqb n 0) [] above
+
+-- a table has 2,041 slots, so no path in a tree has more entries
+unfoldable pub path : List ℕ → ℕ → List ℕ
+path parents n = climb slots parents n
+
+-- "the number of steps to the root"
+unfoldable pub depth : List ℕ → ℕ → ℕ
+depth parents n = length (path parents n) - 1
+
+-- m is n or lies below it
+unfoldable pub atOrBelow : List ℕ → ℕ → ℕ → Bool
+atOrBelow parents m n = isIn n (path parents m)

@@ -1,0 +1,29 @@
+-- The two views: which nodes are shown. Assumes nothing.
+use Prim.Native.Nat.{ℕ}
+use mathlib.Core.Bool.{Bool, _&&_, _||_, not}
+use mathlib.Core.List.{List, map}
+use lib.Dec.{eqb}
+use Rattle.rules.specs.Bytes.{concat, all, any, filter, isIn}
+use Rattle.rules.specs.Op.{nodeOf, isAdd, isRemove}
+use Rattle.rules.specs.Log.{Log}
+use Rattle.rules.specs.Tree.{path, atOrBelow}
+
+-- the added nodes, in rising order: replica by replica, in sequence order
+unfoldable pub nodes : Log → List ℕ
+nodes log = map nodeOf (filter isAdd (concat log))
+
+-- the nodes with a tombstone (the paper's mark): "remove marks it; the mark stays"
+unfoldable pub removed : Log → List ℕ
+removed log = map nodeOf (filter isRemove (concat log))
+
+unfoldable pub tombstone : Log → ℕ → Bool
+tombstone log n = isIn n (removed log)
+
+pub data View : Type 0 where
+  keeping : View
+  skipping : View
+
+-- keeping: "it or some node below it is unmarked"; skipping: "neither it nor any node above it is marked". The root is always shown
+unfoldable pub shown : View → Log → List ℕ → ℕ → Bool
+shown keeping log parents n = eqb n 0 || any (λ m. atOrBelow parents m n && not (tombstone log m)) (nodes log)
+shown skipping log parents n = eqb n 0 || all (λ m. not (tombstone log m)) (path parents n)

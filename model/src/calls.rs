@@ -1,0 +1,134 @@
+//! Making, delivering, issuing and judging on lent bytes.
+
+use crate::log::{Log, HEADER_LEN};
+use crate::op::{node_number, replica_index, Kind, Op, MAX_SEQUENCE, OP_LEN};
+use crate::tree::{Tree, SLOTS};
+use crate::{refusal, Answer};
+
+/// Writes an empty log.
+pub fn make(buffer: &mut [u8]) -> Answer {
+    answer(try_make(buffer))
+}
+
+fn try_make(buffer: &mut [u8]) -> Result<Answer, u8> {
+    let lent = buffer.get_mut(..HEADER_LEN).ok_or(refusal::ROOM)?;
+    lent.copy_from_slice(&Log::default().bytes());
+    Ok(Answer::Accepted(HEADER_LEN))
+}
+
+/// Takes an op from another replica.
+pub fn deliver(buffer: &mut [u8], op: &[u8]) -> Answer {
+    answer(try_deliver(buffer, op))
+}
+
+fn try_deliver(buffer: &mut [u8], bytes: &[u8]) -> Result<Answer, u8> {
+    let log = open(buffer)?;
+    let op = Op::read(bytes)?;
+    if let Some(held) = log.get(op.index(), op.sequence()) {
+        return if *held == op {
+            Ok(Answer::HadIt)
+        } else {
+            Err(refusal::CONFLICT)
+        };
+    }
+    log.test_against(&op)?;
+    append(buffer, log, op)
+}
+
+/// Issues an add; its node is worked out here.
+pub fn issue_add(buffer: &mut [u8], replica: u8, parent: u16, out: &mut [u8]) -> Answer {
+    answer(issue(buffer, replica, out, |sequence| {
+        (Kind::Add, node_number(replica, sequence) as u16, parent)
+    }))
+}
+
+pub fn issue_remove(buffer: &mut [u8], replica: u8, node: u16, out: &mut [u8]) -> Answer {
+    answer(issue(buffer, replica, out, |_| (Kind::Remove, node, 0)))
+}
+
+/// Issues a move; whether it is upward is worked out here.
+pub fn issue_move(
+    buffer: &mut [u8],
+    replica: u8,
+    node: u16,
+    parent: u16,
+    out: &mut [u8],
+) -> Answer {
+    answer(issue(buffer, replica, out, |_| (Kind::Down, node, parent)))
+}
+
+/// Tests 1, 2, 3, 9, 7, 10, 8; `draft` gives kind, node and parent.
+fn issue(
+    buffer: &mut [u8],
+    replica: u8,
+    out: &mut [u8],
+    draft: impl FnOnce(usize) -> (Kind, u16, u16),
+) -> Result<Answer, u8> {
+    let log = open(buffer)?;
+    let out = out.get_mut(..OP_LEN).ok_or(refusal::LENGTH)?;
+    let index = replica_index(replica).ok_or(refusal::FORM)?;
+    let vector = log.held();
+    let sequence = usize::from(vector[index]) + 1;
+    if sequence > MAX_SEQUENCE {
+        return Err(refusal::REPLICA_FULL);
+    }
+    let (kind, node, parent) = draft(sequence);
+    let mut op = Op {
+        kind,
+        replica,
+        node,
+        parent,
+        vector,
+    };
+    // The held counts are never early and always closed: only 7 can come.
+    log.test_against(&op)?;
+    if kind.is_move() {
+        op.kind = move_kind(&log, node, parent)?;
+    }
+    let accepted = append(buffer, log, op)?;
+    out.copy_from_slice(&op.bytes());
+    Ok(accepted)
+}
+
+/// Test 10, then the kind by the depths in the present tree.
+fn move_kind(log: &Log, node: u16, parent: u16) -> Result<Kind, u8> {
+    let tree = Tree::judge(log);
+    if tree.path(parent).any(|above| above == node) {
+        return Err(refusal::BELOW_ITSELF);
+    }
+    let upward = tree.depth(node) > tree.depth(parent);
+    Ok(if upward { Kind::Up } else { Kind::Down })
+}
+
+/// Test 8, then the file with the op in its place.
+fn append(buffer: &mut [u8], mut log: Log, op: Op) -> Result<Answer, u8> {
+    log.push(op);
+    let file = log.bytes();
+    let lent = buffer.get_mut(..file.len()).ok_or(refusal::ROOM)?;
+    lent.copy_from_slice(&file);
+    Ok(Answer::Accepted(file.len()))
+}
+
+/// Fills the parent and outcome tables.
+pub fn judge(file: &[u8], parents: &mut [u16], outcomes: &mut [u8]) -> Answer {
+    answer(try_judge(file, parents, outcomes))
+}
+
+fn try_judge(file: &[u8], parents: &mut [u16], outcomes: &mut [u8]) -> Result<Answer, u8> {
+    let log = open(file)?;
+    let parents = parents.get_mut(..SLOTS).ok_or(refusal::LENGTH)?;
+    let outcomes = outcomes.get_mut(..SLOTS).ok_or(refusal::LENGTH)?;
+    let tree = Tree::judge(&log);
+    parents.copy_from_slice(&tree.parents);
+    outcomes.copy_from_slice(&tree.outcomes);
+    Ok(Answer::Done)
+}
+
+/// Test 1.
+pub(crate) fn open(buffer: &[u8]) -> Result<Log, u8> {
+    Log::open(buffer).ok_or(refusal::UNSOUND)
+}
+
+pub(crate) fn answer(result: Result<Answer, u8>) -> Answer {
+    result.unwrap_or_else(Answer::Refused)
+}

@@ -1,0 +1,69 @@
+//! The cases of the vectors, section by section. All are deterministic.
+
+pub mod damage;
+mod deliver;
+pub mod examples;
+mod issue;
+mod judge;
+mod view;
+pub mod world;
+
+use crate::script::{Case, Machine};
+
+/// Cases with the lines to print for them.
+#[derive(Default)]
+pub struct Script {
+    machine: Machine,
+    pub cases: Vec<String>,
+    pub answers: Vec<String>,
+}
+
+impl Script {
+    /// Runs one case and hands back the line to print.
+    pub fn push(&mut self, case: Case) -> &str {
+        assert!(case.fits(), "the grammar has no such line");
+        self.cases.push(case.line());
+        self.answers.push(self.machine.run(&case));
+        self.answers.last().map_or("", String::as_str)
+    }
+
+    pub fn extend(&mut self, cases: impl IntoIterator<Item = Case>) {
+        for case in cases {
+            self.push(case);
+        }
+    }
+
+    pub fn load(&mut self, bytes: &[u8]) {
+        self.push(Case::Load(bytes.to_vec()));
+    }
+
+    /// Loads a file into a buffer of this length.
+    pub fn load_in(&mut self, file: &[u8], length: usize) {
+        self.load(file);
+        self.resize(length);
+    }
+
+    pub fn resize(&mut self, length: usize) {
+        self.push(Case::Resize(length as u16));
+    }
+
+    pub fn deliver(&mut self, op: &[u8]) -> &str {
+        self.push(Case::Deliver(op.to_vec()))
+    }
+
+    pub fn buffer(&self) -> &[u8] {
+        &self.machine.buffer
+    }
+
+    /// Adds the cases of a section; false if there is none of this name.
+    pub fn section(&mut self, name: &str) -> bool {
+        match name {
+            "deliver" => deliver::write(self),
+            "judge" => judge::write(self),
+            "issue" => issue::write(self),
+            "view" => view::write(self),
+            _ => return false,
+        }
+        true
+    }
+}

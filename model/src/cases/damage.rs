@@ -1,0 +1,60 @@
+//! Damaged bytes: one changed, or the end cut off.
+
+use crate::rng::Rng;
+
+/// Values for a damaged byte, given the old one.
+pub fn values(old: u8) -> impl Iterator<Item = u8> {
+    let mut values = vec![
+        0,
+        1,
+        2,
+        3,
+        4,
+        old.wrapping_add(1),
+        old.wrapping_sub(1),
+        0x0e,
+        0x7f,
+        0xff,
+    ];
+    values.sort_unstable();
+    values.dedup();
+    values.into_iter().filter(move |&value| value != old)
+}
+
+/// Every single changed byte, with each of its values.
+pub fn changed(file: &[u8]) -> impl Iterator<Item = Vec<u8>> + '_ {
+    (0..file.len()).flat_map(move |at| values(file[at]).map(move |value| with(file, at, value)))
+}
+
+/// The bytes cut at every length.
+pub fn cut(file: &[u8]) -> impl Iterator<Item = Vec<u8>> + '_ {
+    (0..file.len()).map(|length| file[..length].to_vec())
+}
+
+/// A copy with one byte set.
+pub fn with(bytes: &[u8], at: usize, value: u8) -> Vec<u8> {
+    let mut bytes = bytes.to_vec();
+    bytes[at] = value;
+    bytes
+}
+
+/// A copy with one byte changed at random; small values meet more rules.
+pub fn random(rng: &mut Rng, bytes: &[u8]) -> Vec<u8> {
+    let at = rng.below(bytes.len());
+    let value = match rng.below(4) {
+        0 => rng.byte(),
+        1 => bytes[at].wrapping_add(1),
+        2 => bytes[at].wrapping_sub(1),
+        _ => rng.below(5) as u8,
+    };
+    with(bytes, at, value)
+}
+
+/// A record of another length, or with a changed byte.
+pub fn record(rng: &mut Rng, bytes: &[u8]) -> Vec<u8> {
+    match rng.below(12) {
+        0 => bytes[..rng.below(bytes.len())].to_vec(),
+        1 => [bytes, &[rng.byte()]].concat(),
+        _ => random(rng, bytes),
+    }
+}

@@ -1,0 +1,202 @@
+//! Small logs that the document or its traps name.
+
+use crate::op::{node_number, MAX_SEQUENCE, REPLICAS};
+use crate::{Kind, Log, Op, Vector};
+
+/// Counts of the first replicas; the rest are 0.
+pub fn v(counts: &[u8]) -> Vector {
+    std::array::from_fn(|i| counts.get(i).copied().unwrap_or(0))
+}
+
+/// An add whose node is the right one.
+pub fn add(replica: u8, parent: u16, counts: &[u8]) -> Op {
+    let mut op = named(Kind::Add, replica, 0, parent, counts);
+    op.node = node_number(replica, op.sequence()) as u16;
+    op
+}
+
+pub fn remove(replica: u8, node: u16, counts: &[u8]) -> Op {
+    named(Kind::Remove, replica, node, 0, counts)
+}
+
+pub fn up(replica: u8, node: u16, parent: u16, counts: &[u8]) -> Op {
+    named(Kind::Up, replica, node, parent, counts)
+}
+
+pub fn down(replica: u8, node: u16, parent: u16, counts: &[u8]) -> Op {
+    named(Kind::Down, replica, node, parent, counts)
+}
+
+fn named(kind: Kind, replica: u8, node: u16, parent: u16, counts: &[u8]) -> Op {
+    Op {
+        kind,
+        replica,
+        node,
+        parent,
+        vector: v(counts),
+    }
+}
+
+/// The log of these ops, whether sound or not.
+pub fn log_of(ops: &[Op]) -> Log {
+    let mut log = Log::default();
+    ops.iter().for_each(|op| log.push(*op));
+    log
+}
+
+pub fn file_of(ops: &[Op]) -> Vec<u8> {
+    log_of(ops).bytes()
+}
+
+pub fn p1() -> Vec<Op> {
+    vec![
+        add(1, 0, &[]),
+        add(1, 0, &[1]),
+        down(1, 258, 257, &[2]),
+        down(2, 257, 258, &[2]),
+    ]
+}
+
+/// Replica 4 adds the siblings 1025, 1026, 1027; then one circle of three.
+pub fn p10() -> Vec<Op> {
+    let mut ops = siblings(4);
+    ops.extend([
+        down(1, 1025, 1026, &[0, 0, 0, 3]),
+        down(2, 1026, 1027, &[0, 0, 0, 3]),
+        down(3, 1027, 1025, &[0, 0, 0, 3]),
+    ]);
+    ops
+}
+
+pub fn p11() -> Vec<Op> {
+    let mut ops = siblings(3);
+    ops.extend([
+        down(1, 769, 771, &[0, 0, 3]),
+        up(1, 769, 770, &[1, 0, 3]),
+        down(2, 770, 771, &[0, 0, 3]),
+        up(2, 770, 769, &[0, 1, 3]),
+    ]);
+    ops
+}
+
+pub fn p12() -> Vec<Op> {
+    vec![
+        add(3, 0, &[]),
+        add(3, 769, &[0, 0, 1]),
+        add(3, 769, &[0, 0, 2]),
+        up(1, 770, 0, &[0, 0, 3]),
+        down(2, 770, 771, &[0, 0, 3]),
+    ]
+}
+
+/// Replica 1's move meets a rival and a circle at once: outcome 2.
+pub fn rival_before_circle() -> Vec<Op> {
+    let mut ops = siblings(4);
+    ops.extend([
+        down(3, 1026, 1025, &[0, 0, 0, 3]),
+        down(2, 1025, 1027, &[0, 0, 0, 3]),
+        down(1, 1025, 1026, &[0, 0, 0, 3]),
+    ]);
+    ops
+}
+
+/// Replica 2's move is passed over, so it is no rival of replica 1's.
+pub fn rival_passed_over() -> Vec<Op> {
+    let mut ops = siblings(4);
+    ops.extend([
+        down(3, 1026, 1025, &[0, 0, 0, 3]),
+        down(2, 1025, 1026, &[0, 0, 0, 3]),
+        down(1, 1025, 1027, &[0, 0, 0, 3]),
+    ]);
+    ops
+}
+
+/// Rivals at one timestamp with different vectors.
+pub fn rivals_with_different_vectors() -> Vec<Op> {
+    vec![
+        add(3, 0, &[]),
+        add(3, 0, &[0, 0, 1]),
+        add(4, 0, &[]),
+        down(1, 769, 770, &[0, 0, 2]),
+        up(2, 769, 0, &[0, 0, 2, 1]),
+    ]
+}
+
+/// Replica 2's move has seen more ops, yet both have timestamp 2.
+pub fn chain_not_count() -> Vec<Op> {
+    let mut ops: Vec<Op> = (3..=8).map(|replica| add(replica, 0, &[])).collect();
+    ops.extend([
+        down(1, 769, 0, &[0, 0, 1]),
+        down(2, 769, 1025, &[0, 0, 1, 1, 1, 1, 1, 1]),
+    ]);
+    ops
+}
+
+/// A removed node with a kept one below, and one removed below a kept one.
+pub fn tombstones() -> Vec<Op> {
+    vec![
+        add(1, 0, &[]),
+        add(1, 257, &[1]),
+        add(1, 258, &[2]),
+        add(1, 0, &[3]),
+        remove(1, 257, &[4]),
+        remove(2, 259, &[4]),
+        remove(3, 259, &[4, 1]),
+        add(3, 259, &[4, 1, 1]),
+        remove(1, 260, &[5]),
+        up(8, 258, 260, &[4]),
+    ]
+}
+
+/// Two ops that count each other: never sound, and a check must still end.
+pub fn mutual() -> Vec<Op> {
+    vec![add(1, 0, &[0, 1]), add(2, 0, &[1, 0])]
+}
+
+/// One chain of every node there can be.
+pub fn longest_chain() -> Vec<Op> {
+    let mut ops = vec![];
+    let mut counts = [0; REPLICAS];
+    let mut parent = 0;
+    for replica in 1..=REPLICAS {
+        for _ in 0..MAX_SEQUENCE {
+            let op = add(replica as u8, parent, &counts);
+            counts[replica - 1] += 1;
+            parent = op.node;
+            ops.push(op);
+        }
+    }
+    ops
+}
+
+/// `count` adds of one replica under the root.
+pub fn adds(replica: u8, count: usize) -> Vec<Op> {
+    let mut counts = [0; REPLICAS];
+    let mut ops = vec![];
+    for _ in 0..count {
+        ops.push(add(replica, 0, &counts));
+        counts[usize::from(replica) - 1] += 1;
+    }
+    ops
+}
+
+/// Three nodes under the root.
+fn siblings(replica: u8) -> Vec<Op> {
+    adds(replica, 3)
+}
+
+/// The small sound logs above.
+pub fn small_logs() -> Vec<Vec<Op>> {
+    vec![
+        vec![],
+        p1(),
+        p10(),
+        p11(),
+        p12(),
+        rival_before_circle(),
+        rival_passed_over(),
+        rivals_with_different_vectors(),
+        chain_not_count(),
+        tombstones(),
+    ]
+}

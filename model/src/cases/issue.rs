@@ -1,0 +1,231 @@
+//! Issuing.
+
+use super::damage;
+use super::examples::{adds, file_of, mutual, p1, small_logs, tombstones};
+use super::world::{full, Style, World};
+use super::Script;
+use crate::log::{HEADER_LEN, MAX_FILE};
+use crate::op::{Op, OP_LEN};
+use crate::rng::Rng;
+use crate::script::Case;
+use crate::{deliver, issue_add, issue_move, issue_remove, make, Log};
+
+const ROOM: u8 = 14;
+const NUMBERS: [u16; 17] = [
+    0, 1, 255, 256, 257, 258, 259, 260, 512, 513, 769, 770, 1025, 2303, 2304, 2305, 65535,
+];
+
+pub fn write(script: &mut Script) {
+    edges(script);
+    order_of_tests(script);
+    names(script);
+    sequence_edge(script);
+    damaged_files(script);
+    exchanges(script);
+    full_logs(script);
+}
+
+/// One call of each sort.
+fn each(replica: u8, node: u16, parent: u16, room: u8) -> [Case; 3] {
+    [
+        Case::Add(replica, parent, room),
+        Case::Remove(replica, node, room),
+        Case::Move(replica, node, parent, room),
+    ]
+}
+
+fn edges(script: &mut Script) {
+    let file = file_of(&p1());
+    for room in [0, 1, 13, 14, 15, 40] {
+        for case in each(2, 258, 0, room) {
+            script.load_in(&file, 120);
+            script.push(case);
+        }
+    }
+    for replica in [0, 1, 2, 3, 8, 9, 128, 255] {
+        for case in each(replica, 257, 0, ROOM) {
+            script.load_in(&file, 120);
+            script.push(case);
+        }
+    }
+    for room in [0, 1, 13, 14, 15, 27, 28, 29] {
+        for case in each(1, 257, 0, 16) {
+            script.load_in(&file, file.len() + room);
+            script.extend([case.clone(), case]);
+        }
+    }
+    for file in [vec![], vec![0; 31], vec![0; 32], file_of(&mutual())] {
+        script.load(&file);
+        script.extend(each(1, 257, 0, ROOM));
+    }
+}
+
+/// Calls with several causes at once: the first in order is answered.
+fn order_of_tests(script: &mut Script) {
+    let sound = [
+        file_of(&p1()),
+        file_of(&adds(1, 255)),
+        file_of(&tombstones()),
+    ];
+    for file in sound {
+        for damaged in [false, true] {
+            for room in [0, 14] {
+                script.load_in(
+                    &damage::with(&file, 0, u8::from(damaged)),
+                    file.len() + room,
+                );
+                for replica in [0, 1, 9] {
+                    script.extend(each(replica, 257, 4000, 13));
+                    script.extend(each(replica, 4000, 257, 14));
+                    script.push(Case::Move(replica, 258, 258, 14));
+                    script.push(Case::Move(replica, 258, 257, 14));
+                }
+            }
+        }
+    }
+}
+
+/// Every pair of node and parent, known or not, in three trees.
+fn names(script: &mut Script) {
+    for ops in [p1(), tombstones()] {
+        let file = file_of(&ops);
+        for node in NUMBERS {
+            script.load_in(&file, file.len() + OP_LEN);
+            script.push(Case::Remove(3, node, ROOM));
+            script.load_in(&file, file.len() + OP_LEN);
+            script.push(Case::Add(3, node, ROOM));
+            for parent in NUMBERS {
+                script.load_in(&file, file.len() + OP_LEN);
+                script.push(Case::Move(3, node, parent, ROOM));
+            }
+        }
+    }
+}
+
+/// P4: the issue at count 254 is the last one.
+fn sequence_edge(script: &mut Script) {
+    for replica in [1, 8] {
+        script.load_in(&file_of(&[]), HEADER_LEN + OP_LEN * 256);
+        for sequence in 1..=256u16 {
+            let newest = 256 * u16::from(replica) + sequence - 1;
+            let parent = if sequence % 7 == 1 { 0 } else { newest };
+            script.push(Case::Add(replica, parent, ROOM));
+        }
+        script.push(Case::Remove(replica, 0, ROOM));
+        script.push(Case::Remove(5, 256 * u16::from(replica) + 255, ROOM));
+    }
+}
+
+fn damaged_files(script: &mut Script) {
+    let rng = &mut Rng::new(31);
+    for ops in small_logs() {
+        let file = [file_of(&ops), vec![0; OP_LEN]].concat();
+        for _ in 0..40 {
+            script.load(&damage::random(rng, &file));
+            let replica = 1 + rng.below(8) as u8;
+            let case = rng.below(3);
+            script.push(each(replica, rng.pick(&NUMBERS), 0, ROOM)[case].clone());
+        }
+    }
+}
+
+/// The script's buffer is one replica among others, which it meets.
+fn exchanges(script: &mut Script) {
+    for seed in 0..14 {
+        let rng = &mut Rng::new(300 + seed);
+        let replicas = 1 + rng.below(8);
+        let steps = 40 + rng.below(80);
+        let mut others: Vec<Vec<u8>> = (1..replicas).map(|_| empty()).collect();
+        script.load_in(&file_of(&[]), 2000);
+        for _ in 0..steps {
+            if others.is_empty() || rng.one_in(2) {
+                // Any replica may issue here, but mostly the first does.
+                let stranger = rng.one_in(20);
+                let replica = 1 + rng.below(if stranger { 8 } else { 1 }) as u8;
+                issue_here(script, rng, replica);
+                continue;
+            }
+            let at = rng.below(others.len());
+            match rng.below(4) {
+                0 => give(script, &others[at]),
+                1 => give_all(&mut others[at], script.buffer()),
+                _ => issue_there(rng, &mut others[at], at as u8 + 2),
+            }
+        }
+    }
+}
+
+fn empty() -> Vec<u8> {
+    let mut buffer = vec![0; 4000];
+    make(&mut buffer);
+    buffer
+}
+
+fn issue_here(script: &mut Script, rng: &mut Rng, replica: u8) {
+    let node = some_node(rng, script.buffer());
+    let parent = some_node(rng, script.buffer());
+    let case = pick_sort(rng);
+    script.push(each(replica, node, parent, ROOM)[case].clone());
+}
+
+fn issue_there(rng: &mut Rng, buffer: &mut [u8], replica: u8) {
+    let node = some_node(rng, buffer);
+    let parent = some_node(rng, buffer);
+    let out = &mut [0; OP_LEN];
+    match pick_sort(rng) {
+        0 => issue_add(buffer, replica, parent, out),
+        1 => issue_remove(buffer, replica, node, out),
+        _ => issue_move(buffer, replica, node, parent, out),
+    };
+}
+
+/// 0 add, 1 remove, 2 move.
+fn pick_sort(rng: &mut Rng) -> usize {
+    rng.pick(&[0, 0, 0, 1, 2, 2, 2, 2])
+}
+
+/// Mostly an added node, now and then the root or a wrong number.
+fn some_node(rng: &mut Rng, buffer: &[u8]) -> u16 {
+    let ops: Vec<Op> = ops(buffer);
+    match rng.below(20) {
+        0 => rng.pick(&NUMBERS),
+        1 | 2 => 0,
+        _ if ops.is_empty() => 0,
+        _ => rng.pick(&ops).node,
+    }
+}
+
+fn ops(buffer: &[u8]) -> Vec<Op> {
+    Log::open(buffer).map_or(vec![], |log| log.ops().copied().collect())
+}
+
+/// Delivers what the script's buffer lacks; early ones come again later.
+fn give(script: &mut Script, from: &[u8]) {
+    let held = ops(script.buffer());
+    for op in ops(from) {
+        if !held.contains(&op) {
+            script.deliver(&op.bytes());
+        }
+    }
+}
+
+fn give_all(to: &mut [u8], from: &[u8]) {
+    for op in ops(from) {
+        deliver(to, &op.bytes());
+    }
+}
+
+/// The last ops of a nearly full log, then only 9.
+fn full_logs(script: &mut Script) {
+    let rng = &mut Rng::new(32);
+    let most = World::random(rng, Style::mixed(8, 2025)).ops;
+    script.load_in(&file_of(&most), MAX_FILE);
+    for step in 0..120 {
+        issue_here(script, rng, 1 + step % 8);
+    }
+    let file = file_of(&full(rng, Style::moves));
+    script.load(&file);
+    for replica in [0, 1, 8, 9] {
+        script.extend(each(replica, 257, 0, ROOM));
+    }
+}

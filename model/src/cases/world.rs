@@ -1,0 +1,140 @@
+//! Random sound logs: replicas that hear of each other now and then.
+
+use crate::op::{join, node_number, replica_index, MAX_SEQUENCE, REPLICAS};
+use crate::rng::Rng;
+use crate::{Kind, Op, Vector};
+
+/// How a world grows.
+#[derive(Clone, Copy)]
+pub struct Style {
+    pub replicas: usize,
+    pub ops: usize,
+    /// Adds stop at this number, so that moves meet on few nodes.
+    pub nodes: usize,
+    /// One op in so many is a remove.
+    pub remove_one_in: usize,
+    /// Before one op in so many the replica hears of another one's op.
+    pub hear_one_in: usize,
+}
+
+impl Style {
+    /// Few nodes and rare meetings: many moves at one timestamp.
+    pub fn moves(replicas: usize, ops: usize) -> Style {
+        Style {
+            replicas,
+            ops,
+            nodes: 3 + ops / 12,
+            remove_one_in: 15,
+            hear_one_in: 4,
+        }
+    }
+
+    /// Half of the ops add.
+    pub fn mixed(replicas: usize, ops: usize) -> Style {
+        Style {
+            nodes: ops / 2,
+            remove_one_in: 6,
+            hear_one_in: 2,
+            ..Style::moves(replicas, ops)
+        }
+    }
+}
+
+/// Ops in an order in which each comes after all it counts.
+pub struct World {
+    pub ops: Vec<Op>,
+    nodes: Vec<u16>,
+    seen: [Vector; REPLICAS],
+}
+
+impl World {
+    pub fn random(rng: &mut Rng, style: Style) -> World {
+        let mut world = World {
+            ops: vec![],
+            nodes: vec![],
+            seen: [[0; REPLICAS]; REPLICAS],
+        };
+        // The seats of fewer than eight replicas are drawn too.
+        let mut replicas: Vec<u8> = (1..=REPLICAS as u8).collect();
+        rng.shuffle(&mut replicas);
+        replicas.truncate(style.replicas);
+        let most = style.ops.min(MAX_SEQUENCE * replicas.len());
+        while world.ops.len() < most {
+            let replica = rng.pick(&replicas);
+            if rng.one_in(style.hear_one_in) {
+                world.hear(rng, replica);
+            }
+            world.issue(rng, replica, style);
+        }
+        world
+    }
+
+    /// The replica gets an op with all that it counts.
+    fn hear(&mut self, rng: &mut Rng, replica: u8) {
+        if self.ops.is_empty() {
+            return;
+        }
+        let heard = rng.pick(&self.ops);
+        let seen = &mut self.seen[usize::from(replica) - 1];
+        *seen = join(seen, &heard.vector);
+        let count = &mut seen[heard.index()];
+        *count = (*count).max(heard.sequence() as u8);
+    }
+
+    /// The kind of a move is free: a delivered one is taken as written.
+    fn issue(&mut self, rng: &mut Rng, replica: u8, style: Style) {
+        let vector = self.seen[usize::from(replica) - 1];
+        let sequence = usize::from(vector[usize::from(replica) - 1]) + 1;
+        if sequence > MAX_SEQUENCE {
+            return;
+        }
+        let known = self.known(rng, &vector);
+        let wants_add = self.nodes.len() < style.nodes && rng.one_in(2);
+        let (kind, node, parent) = match known {
+            Some(node) if !wants_add => {
+                let parent = self.known(rng, &vector).unwrap_or(0);
+                if rng.one_in(style.remove_one_in) {
+                    (Kind::Remove, node, 0)
+                } else {
+                    let kind = rng.pick(&[Kind::Up, Kind::Down]);
+                    (kind, node, if parent == node { 0 } else { parent })
+                }
+            }
+            _ => {
+                let parent = if rng.one_in(4) { None } else { known };
+                let node = node_number(replica, sequence) as u16;
+                (Kind::Add, node, parent.unwrap_or(0))
+            }
+        };
+        self.put(Op {
+            kind,
+            replica,
+            node,
+            parent,
+            vector,
+        });
+    }
+
+    fn put(&mut self, op: Op) {
+        if op.kind == Kind::Add {
+            self.nodes.push(op.node);
+        }
+        self.seen[op.index()][op.index()] += 1;
+        self.ops.push(op);
+    }
+
+    /// Some added node within the vector.
+    fn known(&self, rng: &mut Rng, vector: &Vector) -> Option<u16> {
+        let within = |node: &u16| {
+            let [replica, sequence] = node.to_be_bytes();
+            replica_index(replica).is_some_and(|index| sequence <= vector[index])
+        };
+        let known: Vec<u16> = self.nodes.iter().copied().filter(within).collect();
+        (!known.is_empty()).then(|| rng.pick(&known))
+    }
+}
+
+/// A full log: every replica has issued all it can.
+pub fn full(rng: &mut Rng, style: fn(usize, usize) -> Style) -> Vec<Op> {
+    World::random(rng, style(REPLICAS, REPLICAS * MAX_SEQUENCE)).ops
+}

@@ -1,0 +1,50 @@
+//! A plain reference model of the replicated outline. Simple before fast:
+//! every call reads the whole buffer into a [`Log`] and works on that.
+//!
+//! Each definition names the scope document's own term in its comment.
+
+#![forbid(unsafe_code)]
+
+pub mod calls;
+pub mod cases;
+pub mod log;
+pub mod op;
+pub mod rng;
+pub mod script;
+pub mod tree;
+pub mod view;
+
+pub use calls::{deliver, issue_add, issue_move, issue_remove, judge, make};
+pub use log::{Log, HEADER_LEN, MAX_FILE};
+pub use op::{Kind, Op, Vector, MAX_SEQUENCE, OP_LEN, REPLICAS};
+pub use tree::{slot_of, Tree, NO_PARENT, SLOTS};
+pub use view::{listing, outline, path, View};
+
+/// What a call hands back ("Numbers handed back").
+#[derive(Clone, Copy, PartialEq, Eq, Debug)]
+pub enum Answer {
+    /// Accepted, with the new file end.
+    Accepted(usize),
+    /// The same op was there already; nothing changed.
+    HadIt,
+    /// Judging is done.
+    Done,
+    /// Entries of a path, or bytes of a listing.
+    Count(usize),
+    /// Refused with this number; nothing changed.
+    Refused(u8),
+}
+
+/// The numbers of the refusals, by their cause.
+pub mod refusal {
+    pub const UNSOUND: u8 = 1;
+    pub const LENGTH: u8 = 2;
+    pub const FORM: u8 = 3;
+    pub const CONFLICT: u8 = 4;
+    pub const EARLY: u8 = 5;
+    pub const NOT_CLOSED: u8 = 6;
+    pub const UNKNOWN: u8 = 7;
+    pub const ROOM: u8 = 8;
+    pub const REPLICA_FULL: u8 = 9;
+    pub const BELOW_ITSELF: u8 = 10;
+}

@@ -1,0 +1,202 @@
+//! The case lines that the verified program reads, and the lines it prints.
+//! The grammar is in README.md.
+
+use crate::{
+    deliver, issue_add, issue_move, issue_remove, judge, listing, make, outline, path, Answer, View,
+};
+
+/// Limits of the grammar.
+pub const MAX_LINE: usize = 40_000;
+pub const MAX_BUFFER: usize = 40_000;
+pub const MAX_TABLE: u16 = 2_100;
+pub const MAX_LISTING: u16 = 24_000;
+pub const MAX_RECORD: u8 = 40;
+
+/// Bytes with at most this length are printed in full.
+const SHORT: usize = 64;
+const FRESH: u8 = 0xa5;
+const LENT: u8 = 0xee;
+const LENT_ENTRY: u16 = 0xeeee;
+
+/// One case line.
+#[derive(Clone, PartialEq, Eq, Debug)]
+pub enum Case {
+    Load(Vec<u8>),
+    Make,
+    Deliver(Vec<u8>),
+    Judge(u16, u16),
+    Add(u8, u16, u8),
+    Remove(u8, u16, u8),
+    Move(u8, u16, u16, u8),
+    Path(u16, u16),
+    Listing(View, u16),
+    Outline,
+    Resize(u16),
+}
+
+impl Case {
+    pub fn bytes(&self) -> Vec<u8> {
+        let mut line = vec![];
+        match self {
+            Case::Load(bytes) => start(&mut line, 0x00, bytes),
+            Case::Make => start(&mut line, 0x01, &[]),
+            Case::Deliver(op) => start(&mut line, 0x02, op),
+            Case::Judge(parents, outcomes) => numbers(&mut line, 0x03, &[*parents, *outcomes]),
+            Case::Add(replica, parent, room) => {
+                start(&mut line, 0x04, &[*replica]);
+                line.extend(parent.to_be_bytes());
+                line.push(*room);
+            }
+            Case::Remove(replica, node, room) => {
+                start(&mut line, 0x05, &[*replica]);
+                line.extend(node.to_be_bytes());
+                line.push(*room);
+            }
+            Case::Move(replica, node, parent, room) => {
+                start(&mut line, 0x06, &[*replica]);
+                line.extend(node.to_be_bytes());
+                line.extend(parent.to_be_bytes());
+                line.push(*room);
+            }
+            Case::Path(node, room) => numbers(&mut line, 0x07, &[*node, *room]),
+            Case::Listing(view, room) => {
+                start(&mut line, 0x08, &[u8::from(*view == View::Skipping)]);
+                line.extend(room.to_be_bytes());
+            }
+            Case::Outline => start(&mut line, 0x09, &[]),
+            Case::Resize(length) => numbers(&mut line, 0x0a, &[*length]),
+        }
+        line
+    }
+
+    pub fn line(&self) -> String {
+        hex(&self.bytes())
+    }
+
+    /// Whether the line keeps the limits of the grammar.
+    pub fn fits(&self) -> bool {
+        self.bytes().len() <= MAX_LINE
+            && match self {
+                Case::Judge(parents, outcomes) => *parents <= MAX_TABLE && *outcomes <= MAX_TABLE,
+                Case::Add(_, _, room) | Case::Remove(_, _, room) | Case::Move(_, _, _, room) => {
+                    *room <= MAX_RECORD
+                }
+                Case::Path(_, room) => *room <= MAX_TABLE,
+                Case::Listing(_, room) => *room <= MAX_LISTING,
+                Case::Resize(length) => usize::from(*length) <= MAX_BUFFER,
+                _ => true,
+            }
+    }
+}
+
+fn start(line: &mut Vec<u8>, call: u8, rest: &[u8]) {
+    line.push(call);
+    line.extend(rest);
+}
+
+fn numbers(line: &mut Vec<u8>, call: u8, numbers: &[u16]) {
+    line.push(call);
+    line.extend(numbers.iter().flat_map(|number| number.to_be_bytes()));
+}
+
+/// Runs cases on one buffer, as the verified program does.
+#[derive(Clone, Default)]
+pub struct Machine {
+    pub buffer: Vec<u8>,
+}
+
+impl Machine {
+    /// The line to print for this case.
+    pub fn run(&mut self, case: &Case) -> String {
+        let (answer, other) = self.call(case);
+        let mut line = answer;
+        if *case != Case::Outline {
+            line += &show(&self.buffer);
+        }
+        other.iter().for_each(|memory| line += &show(memory));
+        line
+    }
+
+    /// The answer, and the lent memories besides the buffer.
+    fn call(&mut self, case: &Case) -> (String, Vec<Vec<u8>>) {
+        let buffer = &mut self.buffer;
+        match case {
+            Case::Load(bytes) => {
+                buffer.clone_from(bytes);
+                ("l".into(), vec![])
+            }
+            Case::Resize(length) => {
+                buffer.resize(usize::from(*length), FRESH);
+                ("l".into(), vec![])
+            }
+            Case::Make => (text(make(buffer)), vec![]),
+            Case::Deliver(op) => (text(deliver(buffer, op)), vec![]),
+            Case::Judge(parents, outcomes) => run_judge(buffer, *parents, *outcomes),
+            Case::Add(replica, parent, room) => {
+                with_bytes(*room, |out| issue_add(buffer, *replica, *parent, out))
+            }
+            Case::Remove(replica, node, room) => {
+                with_bytes(*room, |out| issue_remove(buffer, *replica, *node, out))
+            }
+            Case::Move(replica, node, parent, room) => with_bytes(*room, |out| {
+                issue_move(buffer, *replica, *node, *parent, out)
+            }),
+            Case::Path(node, room) => {
+                let mut out = vec![LENT_ENTRY; usize::from(*room)];
+                let answer = path(buffer, *node, &mut out);
+                (text(answer), vec![entry_bytes(&out)])
+            }
+            Case::Listing(view, room) => with_bytes(*room, |out| listing(buffer, *view, out)),
+            Case::Outline => ("o".into(), vec![outline(buffer)]),
+        }
+    }
+}
+
+fn run_judge(file: &[u8], parents: u16, outcomes: u16) -> (String, Vec<Vec<u8>>) {
+    let mut parents = vec![LENT_ENTRY; usize::from(parents)];
+    let mut outcomes = vec![LENT; usize::from(outcomes)];
+    let answer = judge(file, &mut parents, &mut outcomes);
+    (text(answer), vec![entry_bytes(&parents), outcomes])
+}
+
+/// Makes a call that is lent bytes besides the buffer.
+fn with_bytes(
+    room: impl Into<u16>,
+    call: impl FnOnce(&mut [u8]) -> Answer,
+) -> (String, Vec<Vec<u8>>) {
+    let mut out = vec![LENT; usize::from(room.into())];
+    let answer = call(&mut out);
+    (text(answer), vec![out])
+}
+
+fn text(answer: Answer) -> String {
+    match answer {
+        Answer::Accepted(number) | Answer::Count(number) => format!("a {number}"),
+        Answer::HadIt => "h".into(),
+        Answer::Done => "d".into(),
+        Answer::Refused(number) => format!("r {number}"),
+    }
+}
+
+fn show(memory: &[u8]) -> String {
+    let mut text = format!(" {}", digest(memory));
+    if memory.len() <= SHORT {
+        text += " ";
+        text += &hex(memory);
+    }
+    text
+}
+
+fn digest(bytes: &[u8]) -> u64 {
+    bytes
+        .iter()
+        .fold(0, |h, &b| (h * 257 + u64::from(b) + 1) % 4_294_967_291)
+}
+
+fn entry_bytes(entries: &[u16]) -> Vec<u8> {
+    entries.iter().flat_map(|e| e.to_be_bytes()).collect()
+}
+
+pub fn hex(bytes: &[u8]) -> String {
+    bytes.iter().map(|byte| format!("{byte:02x}")).collect()
+}

@@ -1,0 +1,178 @@
+//! Calls that also check what every call owes: a refused one changes no lent
+//! byte, an accepted one changes only what it says and leaves a sound file.
+
+#![allow(dead_code)]
+
+use outline_model::*;
+
+pub use Answer::{Accepted, Count, Done, HadIt, Refused};
+
+pub const FULL: usize = 28_592;
+
+/// The file in a buffer of this length; what follows it is 0x5a.
+pub fn in_buffer(file: &[u8], length: usize) -> Vec<u8> {
+    let mut buffer = file.to_vec();
+    buffer.resize(length, 0x5a);
+    buffer
+}
+
+/// The empty file in a buffer of this length.
+pub fn empty(length: usize) -> Vec<u8> {
+    let mut buffer = vec![0x5a; length];
+    assert_eq!(make_checked(&mut buffer), Accepted(32));
+    buffer
+}
+
+pub fn make_checked(buffer: &mut [u8]) -> Answer {
+    let before = buffer.to_vec();
+    let answer = make(buffer);
+    match answer {
+        Accepted(32) => {
+            assert_eq!(buffer[..32], [0, 0, 0, 32].repeat(8));
+            assert_eq!(buffer[32..], before[32..]);
+        }
+        Refused(8) => assert_eq!(buffer, before),
+        other => panic!("{other:?}"),
+    }
+    answer
+}
+
+pub fn deliver_checked(buffer: &mut [u8], op: &[u8]) -> Answer {
+    let before = buffer.to_vec();
+    let answer = deliver(buffer, op);
+    match answer {
+        Accepted(end) => check_added(&before, buffer, op, end),
+        HadIt | Refused(1..=8) => assert_eq!(buffer, before),
+        other => panic!("{other:?}"),
+    }
+    answer
+}
+
+/// An op to be issued.
+#[derive(Clone, Copy, Debug)]
+pub enum Issue {
+    Add(u16),
+    Remove(u16),
+    Move(u16, u16),
+}
+
+/// Issues with 14 bytes lent, and hands the op back.
+pub fn issue_checked(buffer: &mut [u8], replica: u8, issue: Issue) -> (Answer, Vec<u8>) {
+    issue_in(buffer, replica, issue, 14)
+}
+
+pub fn issue_in(buffer: &mut [u8], replica: u8, issue: Issue, room: usize) -> (Answer, Vec<u8>) {
+    let before = buffer.to_vec();
+    let mut out = vec![0xee; room];
+    let answer = match issue {
+        Issue::Add(parent) => issue_add(buffer, replica, parent, &mut out),
+        Issue::Remove(node) => issue_remove(buffer, replica, node, &mut out),
+        Issue::Move(node, parent) => issue_move(buffer, replica, node, parent, &mut out),
+    };
+    match answer {
+        Accepted(end) => {
+            check_added(&before, buffer, &out[..14], end);
+            assert!(out[14..].iter().all(|&byte| byte == 0xee));
+            // An issued op is one that could have been delivered.
+            let mut other = before;
+            assert_eq!(deliver(&mut other, &out[..14]), Accepted(end));
+            assert_eq!(buffer, other);
+        }
+        Refused(1 | 2 | 3 | 7..=10) => {
+            assert_eq!(buffer, before);
+            assert!(out.iter().all(|&byte| byte == 0xee));
+        }
+        other => panic!("{other:?}"),
+    }
+    (answer, out)
+}
+
+/// The buffer is the old file with one op more, and nothing else changed.
+fn check_added(before: &[u8], after: &[u8], op: &[u8], end: usize) {
+    let mut bodies = bodies(before);
+    bodies.push(op.to_vec());
+    let file = layout(&bodies);
+    assert_eq!(file.len(), end);
+    assert_eq!(after[..end], file);
+    assert_eq!(after[end..], before[end..]);
+    assert!(Log::open(after).is_some());
+}
+
+/// Judges with tables of the given lengths.
+pub fn judge_in(file: &[u8], parents: usize, outcomes: usize) -> (Answer, Vec<u16>, Vec<u8>) {
+    let mut parents = vec![0xeeee; parents];
+    let mut outcomes = vec![0xee; outcomes];
+    let answer = judge(file, &mut parents, &mut outcomes);
+    let written = match answer {
+        Done => 2041,
+        Refused(1 | 2) => 0,
+        other => panic!("{other:?}"),
+    };
+    assert!(parents[written..].iter().all(|&entry| entry == 0xeeee));
+    assert!(outcomes[written..].iter().all(|&entry| entry == 0xee));
+    (answer, parents, outcomes)
+}
+
+/// The judged tables of a sound file.
+pub fn judged(file: &[u8]) -> (Vec<u16>, Vec<u8>) {
+    let (answer, parents, outcomes) = judge_in(file, 2041, 2041);
+    assert_eq!(answer, Done);
+    (parents, outcomes)
+}
+
+/// The outcome of one op.
+pub fn outcome(file: &[u8], replica: usize, sequence: usize) -> u8 {
+    judged(file).1[255 * (replica - 1) + sequence]
+}
+
+pub fn path_in(file: &[u8], node: u16, room: usize) -> (Answer, Vec<u16>) {
+    let mut out = vec![0xeeee; room];
+    let answer = path(file, node, &mut out);
+    let written = match answer {
+        Count(count) => count,
+        Refused(1 | 7 | 8) => 0,
+        other => panic!("{other:?}"),
+    };
+    assert!(out[written..].iter().all(|&entry| entry == 0xeeee));
+    out.truncate(written);
+    (answer, out)
+}
+
+pub fn listing_in(file: &[u8], view: View, room: usize) -> (Answer, String) {
+    let mut out = vec![0xee; room];
+    let answer = listing(file, view, &mut out);
+    let written = match answer {
+        Count(count) => count,
+        Refused(1 | 8) => 0,
+        other => panic!("{other:?}"),
+    };
+    assert!(out[written..].iter().all(|&byte| byte == 0xee));
+    out.truncate(written);
+    (answer, String::from_utf8(out).unwrap())
+}
+
+pub fn listed(file: &[u8], view: View) -> String {
+    listing_in(file, view, 24_000).1
+}
+
+/// The bodies of a sound file, read by its counts alone.
+pub fn bodies(file: &[u8]) -> Vec<Vec<u8>> {
+    let count: usize = (0..8)
+        .map(|i| usize::from(file[4 * i]) * 256 + usize::from(file[4 * i + 1]))
+        .sum();
+    let end = 32 + 14 * count;
+    file[32..end].chunks(14).map(<[u8]>::to_vec).collect()
+}
+
+/// The file of these bodies; those of one replica stand in their order.
+pub fn layout(bodies: &[Vec<u8>]) -> Vec<u8> {
+    let mut header = vec![];
+    let mut rest = vec![];
+    for replica in 1..=8 {
+        let own: Vec<&Vec<u8>> = bodies.iter().filter(|body| body[1] == replica).collect();
+        let start = 32 + rest.len();
+        header.extend([0, own.len() as u8, (start / 256) as u8, (start % 256) as u8]);
+        own.iter().for_each(|body| rest.extend_from_slice(body));
+    }
+    [header, rest].concat()
+}
