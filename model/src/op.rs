@@ -2,9 +2,9 @@
 
 use crate::refusal;
 
-/// Bytes of an op.
+/// Bytes of an op (the document's record).
 pub const OP_LEN: usize = 14;
-/// Number of replicas; they are called 1 to 8.
+/// Number of replicas (the document's seats); they are called 1 to 8.
 pub const REPLICAS: usize = 8;
 /// Ops that one replica can issue.
 pub const MAX_SEQUENCE: usize = 255;

@@ -168,14 +168,7 @@ fn p10_a_circle_of_three() {
     assert_eq!(listed(&file, View::Keeping), text);
     // The same with the siblings made by each other replica.
     for maker in 1..=8 {
-        let mut ops = adds(maker, 3);
-        let mut counts = [0; 8];
-        counts[usize::from(maker) - 1] = 3;
-        let [a, b, c] = [0, 1, 2].map(|i| ops[i].node);
-        for (replica, node, parent) in [(1, a, b), (2, b, c), (3, c, a)] {
-            ops.push(down(replica, node, parent, &counts));
-        }
-        let file = file_of(&ops);
+        let file = file_of(&circle(maker));
         for replica in 1..=3 {
             let sequence = if replica == usize::from(maker) { 4 } else { 1 };
             let expected = if replica == 1 { 3 } else { 1 };

@@ -11,4 +11,5 @@ pub mod Issue
 pub mod Path
 pub mod Views
 pub mod Listing
+pub mod TreeClaim
 pub mod Examples

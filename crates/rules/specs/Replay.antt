@@ -6,15 +6,22 @@ use mathlib.Core.List.{List, [], _∷_, _++_, map, foldl}
 use lib.ListN.{length, take, getD, set, replicate}
 use lib.Dec.{leb, ltb, eqb}
 use Rattle.rules.specs.Bytes.{upFrom, downFrom, greatest, concat, filter}
-use Rattle.rules.specs.Op.{Op, Vector, replicas, countIn, kindOf, replicaOf, nodeOf, parentOf, vectorOf, seqOf, isAdd, isMove}
+use Rattle.rules.specs.Op.{Op, Vector, replicas, countIn, kindOf, replicaOf, nodeOf, parentOf, vectorOf, seqOf, isAdd, isRemove, isMove}
 use Rattle.rules.specs.Log.{Log, opsOf, countsOf}
 use Rattle.rules.specs.Tree.{slot, slotOf, slots, noParent, atOrBelow}
 
----- timestamps
+---- the ops of a cut, and timestamps
 
 -- the ops that a vector counts
 unfoldable pub opsWithin : Log → Vector → List Op
 opsWithin log v = concat (map (λ s. take (countIn v s) (opsOf log s)) replicas)
+
+-- the nodes that its adds made, in rising order; those that its removes name
+unfoldable pub addedIn : Log → Vector → List ℕ
+addedIn log v = map nodeOf (filter isAdd (opsWithin log v))
+
+unfoldable pub removedIn : Log → Vector → List ℕ
+removedIn log v = map nodeOf (filter isRemove (opsWithin log v))
 
 -- the timestamp (the paper's stamp): "1 plus the greatest stamp within its context". k bounds how deep vectors lie within each other; a
 -- log has at most 2,040 ops, so they lie no deeper

@@ -1,23 +1,20 @@
 -- The two views: which nodes are shown. Assumes nothing.
 use Prim.Native.Nat.{ℕ}
 use mathlib.Core.Bool.{Bool, _&&_, _||_, not}
-use mathlib.Core.List.{List, map}
+use mathlib.Core.List.{List}
 use lib.Dec.{eqb}
-use Rattle.rules.specs.Bytes.{concat, all, any, filter, isIn}
-use Rattle.rules.specs.Op.{nodeOf, isAdd, isRemove}
-use Rattle.rules.specs.Log.{Log}
+use Rattle.rules.specs.Bytes.{all, any, isIn}
+use Rattle.rules.specs.Log.{Log, countsOf}
 use Rattle.rules.specs.Tree.{path, atOrBelow}
+use Rattle.rules.specs.Replay.{addedIn, removedIn}
 
--- the added nodes, in rising order: replica by replica, in sequence order
+-- "the added nodes are those made by the adds among the held records", in rising order
 unfoldable pub nodes : Log → List ℕ
-nodes log = map nodeOf (filter isAdd (concat log))
+nodes log = addedIn log (countsOf log)
 
--- the nodes with a tombstone (the paper's mark): "remove marks it; the mark stays"
-unfoldable pub removed : Log → List ℕ
-removed log = map nodeOf (filter isRemove (concat log))
-
+-- the node has a tombstone (the paper's mark): "remove marks it; the mark stays"
 unfoldable pub tombstone : Log → ℕ → Bool
-tombstone log n = isIn n (removed log)
+tombstone log n = isIn n (removedIn log (countsOf log))
 
 pub data View : Type 0 where
   keeping : View

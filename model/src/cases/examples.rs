@@ -59,11 +59,19 @@ pub fn p1() -> Vec<Op> {
 
 /// Replica 4 adds the siblings 1025, 1026, 1027; then one circle of three.
 pub fn p10() -> Vec<Op> {
-    let mut ops = siblings(4);
+    circle(4)
+}
+
+/// Three siblings of any replica, moved in a circle by replicas 1, 2 and 3.
+pub fn circle(maker: u8) -> Vec<Op> {
+    let mut ops = siblings(maker);
+    let mut counts = [0; REPLICAS];
+    counts[usize::from(maker) - 1] = 3;
+    let [a, b, c] = [0, 1, 2].map(|i| ops[i].node);
     ops.extend([
-        down(1, 1025, 1026, &[0, 0, 0, 3]),
-        down(2, 1026, 1027, &[0, 0, 0, 3]),
-        down(3, 1027, 1025, &[0, 0, 0, 3]),
+        down(1, a, b, &counts),
+        down(2, b, c, &counts),
+        down(3, c, a, &counts),
     ]);
     ops
 }

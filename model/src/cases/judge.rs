@@ -1,7 +1,7 @@
 //! Judging.
 
 use super::damage;
-use super::examples::{file_of, longest_chain, mutual, p1, p10, small_logs};
+use super::examples::{circle, file_of, longest_chain, mutual, p1, p10, small_logs};
 use super::world::{full, Style, World};
 use super::Script;
 use crate::rng::Rng;
@@ -14,7 +14,9 @@ pub fn write(script: &mut Script) {
         judge(script, &file_of(&ops));
     }
     judge(script, &file_of(&mutual()));
-    circle_of_the_first_replica(script);
+    for maker in 1..=8 {
+        judge(script, &file_of(&circle(maker)));
+    }
     tables(script);
     damaged_files(script);
     random_logs(script);
@@ -24,22 +26,6 @@ pub fn write(script: &mut Script) {
 fn judge(script: &mut Script, file: &[u8]) {
     script.load(file);
     script.push(Case::Judge(TABLE, TABLE));
-}
-
-/// P10 with every replica as the one that made the siblings.
-fn circle_of_the_first_replica(script: &mut Script) {
-    for maker in 1..=8 {
-        let mut world = super::examples::adds(maker, 3);
-        let mut counts = [0; 8];
-        counts[usize::from(maker) - 1] = 3;
-        let [a, b, c] = [world[0].node, world[1].node, world[2].node];
-        world.extend([
-            super::examples::down(1, a, b, &counts),
-            super::examples::down(2, b, c, &counts),
-            super::examples::down(3, c, a, &counts),
-        ]);
-        judge(script, &file_of(&world));
-    }
 }
 
 /// Lengths of the tables, on sound and on unsound files.

@@ -1,0 +1,6 @@
+pub mod LevelLaws
+pub mod GrowLaws
+pub mod NodeLaws
+pub mod DepthLaws
+pub mod TreeTheorem
+pub mod FuelLaws

@@ -1,0 +1,282 @@
+//! Two collections that meet: random lists of calls, then rounds.
+
+mod common;
+
+use common::*;
+use outline_model::cases::world::{Style, World};
+use outline_model::cases::{damage, examples};
+use outline_model::rng::Rng;
+use outline_model::*;
+use std::collections::BTreeMap;
+
+/// A collection with what the calls so far say that it holds.
+struct Side {
+    buffer: Vec<u8>,
+    held: Vec<Vec<u8>>,
+    /// The replicas that issue here and nowhere else.
+    replicas: Vec<u8>,
+}
+
+impl Side {
+    fn new(length: usize, replicas: Vec<u8>) -> Side {
+        Side {
+            buffer: empty(length),
+            held: vec![],
+            replicas,
+        }
+    }
+
+    fn make(&mut self) {
+        make_checked(&mut self.buffer);
+        self.held.clear();
+    }
+
+    fn deliver(&mut self, op: &[u8]) {
+        if let Accepted(_) = deliver_checked(&mut self.buffer, op) {
+            self.held.push(op.to_vec());
+        }
+    }
+
+    fn issue(&mut self, replica: u8, issue: Issue) -> Option<Vec<u8>> {
+        let (answer, op) = issue_checked(&mut self.buffer, replica, issue);
+        matches!(answer, Accepted(_)).then(|| {
+            self.held.push(op.clone());
+            op
+        })
+    }
+
+    fn count(&self, replica: u8) -> usize {
+        self.held.iter().filter(|op| op[1] == replica).count()
+    }
+
+    /// The file is the table and bodies of the held ops.
+    fn check(&self) {
+        let file = layout(&self.held);
+        assert_eq!(self.buffer[..file.len()], file);
+    }
+}
+
+/// All sides, and every op that was issued anywhere.
+struct Meeting {
+    sides: Vec<Side>,
+    issued: Vec<Vec<u8>>,
+}
+
+impl Meeting {
+    fn random(rng: &mut Rng) -> Meeting {
+        let count = 2 + rng.below(7);
+        let sides = (0..count)
+            .map(|side| {
+                let length = rng.pick(&[FULL, FULL, 2000, 300, 100]);
+                let own = (1..=8).filter(|replica| replica % count == side);
+                Side::new(length, own.map(|replica| replica as u8).collect())
+            })
+            .collect();
+        let mut meeting = Meeting {
+            sides,
+            issued: vec![],
+        };
+        for _ in 0..20 + rng.below(200) {
+            let at = rng.below(count);
+            meeting.step(rng, at);
+            meeting.sides[at].check();
+        }
+        meeting
+    }
+
+    fn step(&mut self, rng: &mut Rng, at: usize) {
+        match rng.below(60) {
+            0 => self.sides[at].make(),
+            1..=3 => self.refused(rng, at),
+            4..=25 => self.issue(rng, at),
+            26..=35 => self.meet(rng, at),
+            _ if self.issued.is_empty() => {}
+            36 => {
+                let issued = &self.issued[rng.below(self.issued.len())];
+                self.sides[at].deliver(&damage::record(rng, issued));
+            }
+            _ => self.sides[at].deliver(&self.issued[rng.below(self.issued.len())]),
+        }
+    }
+
+    fn refused(&mut self, rng: &mut Rng, at: usize) {
+        let buffer = &mut self.sides[at].buffer;
+        let node = rng.below(3000) as u16;
+        let replica = rng.pick(&[0, 9, 255]);
+        assert_eq!(
+            issue_checked(buffer, replica, Issue::Add(node)).0,
+            Refused(3)
+        );
+        let answer = issue_in(buffer, 1, Issue::Remove(node), 13).0;
+        assert_eq!(answer, Refused(2));
+    }
+
+    /// A replica that lost its ops by making again waits until it has them
+    /// back, or it would issue others under the same sequences.
+    fn issue(&mut self, rng: &mut Rng, at: usize) {
+        let replica = rng.pick(&self.sides[at].replicas);
+        let issued = self.issued.iter().filter(|op| op[1] == replica).count();
+        if self.sides[at].count(replica) != issued {
+            return;
+        }
+        let node = some_node(rng, &self.sides[at].held);
+        let parent = some_node(rng, &self.sides[at].held);
+        let issue = match rng.below(8) {
+            0..=2 => Issue::Add(parent),
+            3 => Issue::Remove(node),
+            _ => Issue::Move(node, parent),
+        };
+        self.issued.extend(self.sides[at].issue(replica, issue));
+    }
+
+    /// One side takes all that another holds.
+    fn meet(&mut self, rng: &mut Rng, at: usize) {
+        let from = rng.below(self.sides.len());
+        for op in self.sides[from].held.clone() {
+            self.sides[at].deliver(&op);
+        }
+    }
+}
+
+fn some_node(rng: &mut Rng, held: &[Vec<u8>]) -> u16 {
+    if held.is_empty() || rng.one_in(10) {
+        return 0;
+    }
+    let op = &held[rng.below(held.len())];
+    u16::from_be_bytes([op[2], op[3]])
+}
+
+/// Ops by replica and sequence.
+type Ops = BTreeMap<(u8, u8), Vec<u8>>;
+
+fn ops(file: &[u8]) -> Ops {
+    let key = |op: &Vec<u8>| (op[1], op[5 + usize::from(op[1])]);
+    bodies(file).into_iter().map(|op| (key(&op), op)).collect()
+}
+
+/// The same replica and sequence is the same op on both sides.
+fn premise(a: &Ops, b: &Ops) -> bool {
+    a.iter().all(|(key, op)| b.get(key).is_none_or(|o| o == op))
+}
+
+/// Runs rounds until nothing is lacking, and checks all that is claimed.
+fn rounds(rng: &mut Rng, files: [&[u8]; 2]) {
+    let mut buffers = files.map(|file| in_buffer(file, FULL));
+    let held = [ops(&buffers[0]), ops(&buffers[1])];
+    let mut all = held[0].clone();
+    all.extend(held[1].clone());
+    let lacking = 2 * all.len() - held[0].len() - held[1].len();
+    let mut accepted: Vec<(usize, Vec<u8>)> = vec![];
+    let mut count = 0;
+    while accepted.len() < lacking {
+        let before = accepted.len();
+        accepted.extend(round(rng, &mut buffers));
+        assert!(accepted.len() > before, "a round without progress");
+        count += 1;
+        assert!(count <= lacking);
+    }
+    let mut expected: Vec<(usize, Vec<u8>)> = vec![];
+    for side in [0, 1] {
+        let missing = all.iter().filter(|(key, _)| !held[side].contains_key(key));
+        expected.extend(missing.map(|(_, op)| (side, op.clone())));
+    }
+    accepted.sort();
+    expected.sort();
+    assert_eq!(accepted, expected);
+    check_alike(&buffers, &all.into_values().collect::<Vec<_>>());
+    assert!(round(rng, &mut buffers).is_empty());
+}
+
+/// One round; hands back who accepted what.
+fn round(rng: &mut Rng, buffers: &mut [Vec<u8>; 2]) -> Vec<(usize, Vec<u8>)> {
+    let mut offers = vec![];
+    for (to, from) in [(0, 1), (1, 0)] {
+        for op in bodies(&buffers[from]) {
+            let times = if rng.one_in(5) { 1 + rng.below(3) } else { 1 };
+            offers.extend(vec![(to, op); times]);
+        }
+    }
+    match rng.below(4) {
+        0 => offers.reverse(),
+        1 => {}
+        _ => rng.shuffle(&mut offers),
+    }
+    offers.retain(|(to, op)| match deliver_checked(&mut buffers[*to], op) {
+        Accepted(_) => true,
+        HadIt | Refused(5) => false,
+        other => panic!("{other:?}"),
+    });
+    offers
+}
+
+fn check_alike(buffers: &[Vec<u8>; 2], all: &[Vec<u8>]) {
+    let file = layout(all);
+    buffers
+        .iter()
+        .for_each(|buffer| assert_eq!(buffer[..file.len()], file));
+    let tables = judged(&buffers[0]);
+    assert_eq!(tables, judged(&buffers[1]));
+    let added: Vec<&Vec<u8>> = all.iter().filter(|op| op[0] == 1).collect();
+    for op in &added {
+        let mut node = u16::from_be_bytes([op[2], op[3]]);
+        let mut steps = 0;
+        while node != 0 {
+            node = tables.0[slot_of(node)];
+            steps += 1;
+            assert!(node != NO_PARENT && steps <= added.len());
+        }
+    }
+}
+
+#[test]
+fn random_lists_then_rounds() {
+    let mut met = 0;
+    let mut skipped = 0;
+    for seed in 0..300 {
+        let rng = &mut Rng::new(800 + seed);
+        let meeting = Meeting::random(rng);
+        for i in 0..meeting.sides.len() {
+            for j in 0..i {
+                let (a, b) = (&meeting.sides[i], &meeting.sides[j]);
+                let files = [layout(&a.held), layout(&b.held)];
+                if premise(&ops(&files[0]), &ops(&files[1])) {
+                    rounds(rng, [&files[0], &files[1]]);
+                    met += 1;
+                } else {
+                    skipped += 1;
+                }
+            }
+        }
+    }
+    assert!(met > 1000 && skipped < met, "{met} {skipped}");
+}
+
+/// Parts of one large world, as two sides came to hold them.
+#[test]
+fn large_parts_meet() {
+    for seed in 0..3 {
+        let rng = &mut Rng::new(900 + seed);
+        let world = World::random(rng, Style::mixed(8, 500)).ops;
+        let parts = [0, 1].map(|_| {
+            let mut buffer = empty(FULL);
+            for op in &world {
+                // One left out makes what builds on it early.
+                if !rng.one_in(40) {
+                    deliver_checked(&mut buffer, &op.bytes());
+                }
+            }
+            layout(&bodies(&buffer))
+        });
+        rounds(rng, [&parts[0], &parts[1]]);
+    }
+}
+
+#[test]
+fn nothing_and_everything_meet() {
+    let rng = &mut Rng::new(950);
+    let full = examples::file_of(&examples::longest_chain()[..300]);
+    let none = empty(32);
+    rounds(rng, [&full, &none]);
+    rounds(rng, [&none, &none]);
+    rounds(rng, [&full, &full]);
+}

@@ -1,0 +1,268 @@
+//! The model against the document's definitions, written out a second time on
+//! plain lists with no thought of speed.
+
+mod common;
+
+use common::*;
+use outline_model::cases::examples::*;
+use outline_model::cases::{damage, world};
+use outline_model::rng::Rng;
+use outline_model::*;
+use std::collections::{BTreeMap, BTreeSet};
+
+type Body = Vec<u8>;
+
+fn own(body: &Body) -> (usize, usize) {
+    let replica = usize::from(body[1]);
+    (replica, usize::from(body[5 + replica]) + 1)
+}
+
+fn node(body: &Body) -> u16 {
+    u16::from(body[2]) * 256 + u16::from(body[3])
+}
+
+fn parent(body: &Body) -> u16 {
+    u16::from(body[4]) * 256 + u16::from(body[5])
+}
+
+/// Whether `inner` is within the context of `body`.
+fn within(inner: &Body, body: &Body) -> bool {
+    let (replica, sequence) = own(inner);
+    sequence <= usize::from(body[5 + replica])
+}
+
+/// Grows until nothing changes; every op within a context counts.
+fn timestamps(bodies: &[Body]) -> Vec<usize> {
+    let mut stamps = vec![1; bodies.len()];
+    loop {
+        let next: Vec<usize> = bodies
+            .iter()
+            .map(|body| {
+                let seen = (0..bodies.len()).filter(|&i| within(&bodies[i], body));
+                1 + seen.map(|i| stamps[i]).max().unwrap_or(0)
+            })
+            .collect();
+        if next == stamps {
+            return stamps;
+        }
+        stamps = next;
+    }
+}
+
+#[derive(Default)]
+struct Naive {
+    parents: BTreeMap<u16, u16>,
+    marks: BTreeSet<u16>,
+    fates: BTreeMap<(usize, usize), u8>,
+}
+
+impl Naive {
+    fn judge(bodies: &[Body]) -> Naive {
+        let stamps = timestamps(bodies);
+        let mut order: Vec<usize> = (0..bodies.len()).collect();
+        order.sort_by_key(|&i| (stamps[i], bodies[i][0], 9 - bodies[i][1]));
+        let mut tree = Naive::default();
+        let mut applied: Vec<(usize, u16)> = vec![];
+        for i in order {
+            let (body, node, parent) = (&bodies[i], node(&bodies[i]), parent(&bodies[i]));
+            let fate = match body[0] {
+                1 => {
+                    tree.parents.insert(node, parent);
+                    1
+                }
+                2 => {
+                    tree.marks.insert(node);
+                    1
+                }
+                _ if applied.contains(&(stamps[i], node)) => 2,
+                _ if parent == node || tree.below(node).contains(&parent) => 3,
+                _ => {
+                    tree.parents.insert(node, parent);
+                    applied.push((stamps[i], node));
+                    1
+                }
+            };
+            tree.fates.insert(own(body), fate);
+        }
+        tree
+    }
+
+    fn children(&self, node: u16) -> Vec<u16> {
+        let mut children: Vec<u16> = self.parents.keys().copied().collect();
+        children.retain(|child| self.parents[child] == node);
+        children
+    }
+
+    /// Everything below the node, found downwards.
+    fn below(&self, node: u16) -> Vec<u16> {
+        let mut found = vec![];
+        for child in self.children(node) {
+            found.push(child);
+            found.extend(self.below(child));
+        }
+        found
+    }
+
+    fn shown(&self, node: u16, view: View) -> bool {
+        let marked = |node: &u16| self.marks.contains(node);
+        match view {
+            View::Keeping => !marked(&node) || self.below(node).iter().any(|n| !marked(n)),
+            View::Skipping => {
+                let above = |n: &&u16| **n == node || self.below(**n).contains(&node);
+                !self.parents.keys().filter(above).any(marked)
+            }
+        }
+    }
+
+    fn lines(&self, node: u16, depth: usize, view: View) -> String {
+        if !self.shown(node, view) {
+            return String::new();
+        }
+        let mark = if self.marks.contains(&node) { 'r' } else { 'k' };
+        let mut text = format!("{depth} {node} {mark}\n");
+        for child in self.children(node) {
+            text += &self.lines(child, depth + 1, view);
+        }
+        text
+    }
+
+    fn path(&self, node: u16) -> Vec<u16> {
+        match self.parents.get(&node) {
+            Some(&parent) => [vec![node], self.path(parent)].concat(),
+            None => vec![node],
+        }
+    }
+}
+
+fn compare(ops: &[Op]) -> [usize; 4] {
+    let file = file_of(ops);
+    let bodies: Vec<Body> = ops.iter().map(|op| op.bytes().to_vec()).collect();
+    let naive = Naive::judge(&bodies);
+    let (parents, outcomes) = judged(&file);
+    let mut seen = [0; 4];
+    for replica in 1..=8usize {
+        for sequence in 1..=255 {
+            let slot = 255 * (replica - 1) + sequence;
+            let number = (256 * replica + sequence) as u16;
+            let parent = naive.parents.get(&number).copied().unwrap_or(65535);
+            let fate = naive.fates.get(&(replica, sequence)).copied().unwrap_or(0);
+            assert_eq!((parents[slot], outcomes[slot]), (parent, fate));
+            seen[usize::from(fate)] += 1;
+        }
+    }
+    for view in [View::Keeping, View::Skipping] {
+        assert_eq!(listed(&file, view), naive.lines(0, 0, view));
+    }
+    for &node in naive.parents.keys() {
+        assert_eq!(path_in(&file, node, 2041).1, naive.path(node));
+    }
+    seen
+}
+
+#[test]
+fn judging_views_and_paths() {
+    small_logs().iter().for_each(|ops| {
+        compare(ops);
+    });
+    let mut seen = [0; 4];
+    for seed in 0..400 {
+        let rng = &mut Rng::new(700 + seed);
+        let replicas = 2 + rng.below(7);
+        let count = 5 + rng.below(60);
+        let style = if rng.one_in(3) {
+            world::Style::mixed
+        } else {
+            world::Style::moves
+        };
+        let ops = world::World::random(rng, style(replicas, count)).ops;
+        let counted = compare(&ops);
+        (0..4).for_each(|fate| seen[fate] += counted[fate]);
+    }
+    // The random logs are of use only if moves do collide.
+    assert!(seen[2] > 300 && seen[3] > 300, "{seen:?}");
+}
+
+/// Soundness as the document puts it, number by number.
+fn is_sound(file: &[u8]) -> bool {
+    let number = |at: usize| usize::from(file[at]) * 256 + usize::from(file[at + 1]);
+    if file.len() < 32 {
+        return false;
+    }
+    let counts: Vec<usize> = (0..8).map(|i| number(4 * i)).collect();
+    let start = |i: usize| 32 + 14 * counts[..i].iter().sum::<usize>();
+    if counts.iter().any(|&count| count > 255)
+        || (0..8).any(|i| number(4 * i + 2) != start(i))
+        || start(8) > file.len()
+    {
+        return false;
+    }
+    let body = |replica: usize, sequence: usize| {
+        let at = start(replica - 1) + 14 * (sequence - 1);
+        file[at..at + 14].to_vec()
+    };
+    (1..=8).all(|replica| {
+        (1..=counts[replica - 1]).all(|sequence| {
+            let this = body(replica, sequence);
+            usize::from(this[1]) == replica
+                && usize::from(this[5 + replica]) + 1 == sequence
+                && passes(&this, &counts, &body)
+        })
+    })
+}
+
+/// Tests 3, 5, 6 and 7.
+fn passes(this: &Body, counts: &[usize], body: &dyn Fn(usize, usize) -> Body) -> bool {
+    let count = |replica: usize| usize::from(this[5 + replica]);
+    let form = matches!(this[0], 1..=4) && (this[0] != 2 || parent(this) == 0);
+    if !form || (1..=8).any(|replica| count(replica) > counts[replica - 1]) {
+        return false;
+    }
+    let closed = (1..=8).all(|replica| {
+        count(replica) == 0 || {
+            let last = body(replica, count(replica));
+            (6..14).all(|at| last[at] <= this[at])
+        }
+    });
+    let known = |node: u16| {
+        let (replica, sequence) = (usize::from(node / 256), usize::from(node % 256));
+        (1..=8).contains(&replica)
+            && sequence >= 1
+            && sequence <= count(replica)
+            && body(replica, sequence)[0] == 1
+    };
+    let parent_known = parent(this) == 0 || known(parent(this));
+    let (replica, sequence) = own(this);
+    closed
+        && match this[0] {
+            1 => parent_known && usize::from(node(this)) == 256 * replica + sequence,
+            2 => known(node(this)),
+            _ => known(node(this)) && parent_known && node(this) != parent(this),
+        }
+}
+
+#[test]
+fn soundness() {
+    let rng = &mut Rng::new(71);
+    let mut sound = 0;
+    for ops in small_logs() {
+        let file = file_of(&ops);
+        for damaged in damage::changed(&file).chain(damage::cut(&file)) {
+            assert_eq!(Log::open(&damaged).is_some(), is_sound(&damaged));
+            sound += usize::from(is_sound(&damaged));
+        }
+    }
+    for _ in 0..300 {
+        let style = world::Style::mixed(3, 20);
+        let file = file_of(&world::World::random(rng, style).ops);
+        assert!(is_sound(&file));
+        for _ in 0..30 {
+            let mut damaged = damage::random(rng, &file);
+            if rng.one_in(2) {
+                damaged = damage::random(rng, &damaged);
+            }
+            assert_eq!(Log::open(&damaged).is_some(), is_sound(&damaged));
+            sound += usize::from(is_sound(&damaged));
+        }
+    }
+    assert!(sound > 300, "{sound}");
+}

@@ -1,0 +1,104 @@
+//! The vectors: their grammar, their size, and a few lines known by hand.
+
+use outline_model::cases::Script;
+use outline_model::script::{Case, Machine};
+use outline_model::View;
+
+const SECTIONS: [&str; 4] = ["deliver", "judge", "issue", "view"];
+
+fn section(name: &str) -> Script {
+    let mut script = Script::default();
+    assert!(script.section(name));
+    script
+}
+
+#[test]
+fn lines_by_hand() {
+    let mut machine = Machine::default();
+    let mut run = |case| machine.run(&case);
+    assert_eq!(run(Case::Make), "r 8 0 ");
+    assert_eq!(run(Case::Resize(2)), "l 42828 a5a5");
+    assert_eq!(run(Case::Load(vec![0, 1, 2])), "l 66566 000102");
+    let path = run(Case::Path(0, 1));
+    assert_eq!(path, "r 1 66566 000102 61662 eeee");
+    let judged = run(Case::Judge(1, 2));
+    assert_eq!(judged, "r 1 66566 000102 61662 eeee 61662 eeee");
+    assert_eq!(run(Case::Add(1, 0, 1)), "r 1 66566 000102 239 ee");
+    assert!(run(Case::Outline).ends_with(" 7265667573656420310a"));
+}
+
+#[test]
+fn case_bytes() {
+    let cases = [
+        (Case::Load(vec![9]), "0009"),
+        (Case::Make, "01"),
+        (Case::Deliver(vec![]), "02"),
+        (Case::Judge(2041, 1), "0307f90001"),
+        (Case::Add(1, 257, 14), "040101010e"),
+        (Case::Remove(1, 257, 14), "050101010e"),
+        (Case::Move(1, 257, 258, 14), "0601010101020e"),
+        (Case::Path(257, 3), "0701010003"),
+        (Case::Listing(View::Keeping, 1), "08000001"),
+        (Case::Listing(View::Skipping, 1), "08010001"),
+        (Case::Outline, "09"),
+        (Case::Resize(40_000), "0a9c40"),
+    ];
+    for (case, line) in cases {
+        assert_eq!(case.line(), line);
+        assert!(case.fits());
+    }
+}
+
+#[test]
+fn sections_are_of_good_size_and_repeat() {
+    for name in SECTIONS {
+        let script = section(name);
+        assert_eq!(script.cases, section(name).cases);
+        assert_eq!(script.cases.len(), script.answers.len());
+        let bytes: usize = script.cases.iter().map(|line| line.len() + 1).sum();
+        let most = if name == "deliver" {
+            1_500_000
+        } else {
+            1_000_000
+        };
+        assert!(bytes < most && script.cases.len() > 1000);
+        assert!(script.cases.iter().all(|line| line.len() <= 80_000));
+        // Each section starts by setting the buffer.
+        assert!(script.cases[0].starts_with("00"));
+    }
+}
+
+#[test]
+fn sections_reach_every_answer() {
+    let reaches = |name: &str, answers: &[&str]| {
+        let script = section(name);
+        for answer in answers {
+            let starts = |line: &&String| line.starts_with(answer);
+            assert!(script.answers.iter().any(|line| starts(&line)), "{answer}");
+        }
+    };
+    let refusals = |numbers: &[u8]| -> Vec<String> {
+        numbers
+            .iter()
+            .map(|number| format!("r {number} "))
+            .collect()
+    };
+    let owned = refusals(&[1, 2, 3, 4, 5, 6, 7, 8]);
+    let mut deliver: Vec<&str> = owned.iter().map(String::as_str).collect();
+    deliver.extend(["h ", "a 32 ", "a 28592 "]);
+    reaches("deliver", &deliver);
+    reaches("judge", &["r 1 ", "r 2 ", "d "]);
+    let owned = refusals(&[1, 2, 3, 7, 8, 9, 10]);
+    let mut issue: Vec<&str> = owned.iter().map(String::as_str).collect();
+    issue.push("a 28592 ");
+    reaches("issue", &issue);
+    reaches(
+        "view",
+        &["r 1 ", "r 7 ", "r 8 ", "a 22638 ", "a 2041 ", "o "],
+    );
+}
+
+#[test]
+fn no_such_section() {
+    assert!(!Script::default().section("none"));
+}
