@@ -1,4 +1,4 @@
--- Causality in a sound log: what a closed vector counts has smaller vectors. From this: some lacking op is not early. Assumes nothing.
+-- Causality in a sound log: what a closed vector counts has smaller vectors. From this: some missing op is not early. Assumes nothing.
 use mathlib.Core.Path.{_≡_, refl, sym, subst}
 use mathlib.Core.Bool.{Bool, true, false}
 use mathlib.Core.List.{map}
@@ -78,7 +78,7 @@ module _ (log : Log) (ops : HeldOps log) where
     counted-less = total-less (vec s q) v counted-le s l u (omega (arith, own s q l u lq held-q))
 
 -- the op number q of replica s is in a and not in b
-pub record Lacking (a b : Log) (s q : ℕ) : Type 0 where
+pub record Missing (a b : Log) (s q : ℕ) : Type 0 where
   pub low : 1 ≤ s
   pub high : s ≤ 8
   pub first : 1 ≤ q
@@ -86,8 +86,8 @@ pub record Lacking (a b : Log) (s q : ℕ) : Type 0 where
   pub not-there : countIn (countsOf b) s < q
 
 module _ (a b : Log) (ops : HeldOps a) where
-  -- of what is lacking, something is not early
-  pub some-ready : (n s q : ℕ) → Lacking a b s q → total (vectorOf (opAt a s q)) < n → (t : ℕ) × (k : ℕ) × Lacking a b t k × (covered b (vectorOf (opAt a t k)) ≡ true)
+  -- of what is missing, something is not early
+  pub some-ready : (n s q : ℕ) → Missing a b s q → total (vectorOf (opAt a s q)) < n → (t : ℕ) × (k : ℕ) × Missing a b t k × (covered b (vectorOf (opAt a t k)) ≡ true)
   unfolding covered within
   some-ready zero s q x h = absurd (omega arith)
   some-ready (suc n) s q x h = go (covered b v) refl (some-ready n)
@@ -95,7 +95,7 @@ module _ (a b : Log) (ops : HeldOps a) where
       v : Vector
       v = vectorOf (opAt a s q)
 
-      go : (c : Bool) → covered b v ≡ c → ((t k : ℕ) → Lacking a b t k → total (vectorOf (opAt a t k)) < n → (t : ℕ) × (k : ℕ) × Lacking a b t k × (covered b (vectorOf (opAt a t k)) ≡ true)) → (t : ℕ) × (k : ℕ) × Lacking a b t k × (covered b (vectorOf (opAt a t k)) ≡ true)
+      go : (c : Bool) → covered b v ≡ c → ((t k : ℕ) → Missing a b t k → total (vectorOf (opAt a t k)) < n → (t : ℕ) × (k : ℕ) × Missing a b t k × (covered b (vectorOf (opAt a t k)) ≡ true)) → (t : ℕ) × (k : ℕ) × Missing a b t k × (covered b (vectorOf (opAt a t k)) ≡ true)
       go true e ih = (s, q, x, e)
       go false e ih =
           let (t, lt, ut, f) = replica-fails (λ r. leb (countIn v r) (countIn (countsOf b) r)) e in

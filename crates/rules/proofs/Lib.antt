@@ -7,6 +7,7 @@ pub mod SoundLaws
 pub mod DeliverLaws
 pub mod InsertLaws
 pub mod OfferLaws
+pub mod IssueLaws
 pub mod CausalLaws
 pub mod TimeLaws
 pub mod TreeLaws

@@ -15,9 +15,16 @@ unfoldable pub require : Bool → ℕ → Answer → Answer
 require true n next = next
 require false n next = refused n
 
--- what a call leaves behind: the old content unless it did what was asked
+-- what a call leaves behind: the new content if it was accepted, else the old
 abbrev pub ifAccepted {ℓ} : {A : Type ℓ} → Answer → A → A → A
 ifAccepted (refused n) new old = old
 ifAccepted hadIt new old = old
-ifAccepted done new old = new
+ifAccepted done new old = old
 ifAccepted (accepted n) new old = new
+
+-- what judging leaves behind
+abbrev pub ifDone {ℓ} : {A : Type ℓ} → Answer → A → A → A
+ifDone (refused n) new old = old
+ifDone hadIt new old = old
+ifDone done new old = new
+ifDone (accepted n) new old = old

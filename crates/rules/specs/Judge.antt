@@ -4,7 +4,7 @@ use mathlib.Core.Bool.{_&&_}
 use mathlib.Core.List.{List, _++_}
 use lib.ListN.{length, drop}
 use lib.Dec.{leb}
-use Rattle.rules.specs.Answer.{Answer, done, require, ifAccepted}
+use Rattle.rules.specs.Answer.{Answer, done, require, ifDone}
 use Rattle.rules.specs.Log.{logOf}
 use Rattle.rules.specs.Sound.{sound}
 use Rattle.rules.specs.Tree.{slots}
@@ -25,6 +25,6 @@ judge w f p o =
     let a = judgeAnswer w f p o in
     record {
       answer = a;
-      parents = ifAccepted a (parentsOf (logOf w f) ++ drop slots p) p;
-      outcomes = ifAccepted a (outcomesOf (logOf w f) ++ drop slots o) o;
+      parents = ifDone a (parentsOf (logOf w f) ++ drop slots p) p;
+      outcomes = ifDone a (outcomesOf (logOf w f) ++ drop slots o) o;
     }

@@ -12,4 +12,6 @@ pub mod Path
 pub mod Views
 pub mod Listing
 pub mod TreeClaim
+pub mod Exchange
+pub mod Converges
 pub mod Examples

@@ -1,5 +1,5 @@
 -- The log (the paper's collection): the ops of each replica in sequence order; its layout in bytes; the tests of an op against a log
--- (numbers 5, 6 and 7); and structural soundness. The layout is stated for ops of w bytes. Assumes nothing.
+-- (numbers 5, 6 and 7); and structural soundness. Assumes nothing.
 use Prim.Native.Nat.{ℕ, zero, suc, _+_, _*_, _-_, _/_, _%_}
 use mathlib.Core.Bool.{Bool, true, false, cond, _&&_, _||_, not}
 use mathlib.Core.List.{List, [], _∷_, _++_, map}
@@ -31,6 +31,10 @@ unfoldable pub append : Log → Op → Log
 append log r = set log (replicaOf r - 1) (opsOf log (replicaOf r) ++ (r ∷ []))
 
 ---- layout
+
+-- the bytes of an op; the layout is stated for ops of w bytes
+abbrev pub width : ℕ
+width = 14
 
 -- the count and the start that the header (the paper's table of contents) gives for replica s
 unfoldable pub countAt : List ℕ → ℕ → ℕ

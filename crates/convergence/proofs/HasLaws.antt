@@ -1,0 +1,121 @@
+-- Laws of lists of ops: what a list has, how often, and what one list has and another lacks. Assumes nothing.
+use mathlib.Core.Path.{_≡_, refl, sym, ap, _∙_}
+use mathlib.Core.Logic.{⊎-elim}
+use mathlib.Core.Bool.{Bool, true, false, cond, _||_, not, or-assoc, or-false, or-true}
+use mathlib.Core.List.{List, [], _∷_, _++_, append-nil}
+use Prim.Native.Nat.{ℕ, _+_, _≤_}
+use native.Mathlib.Omega.{arith}
+use lib.ListN.{length, length-append}
+use Rattle.rules.specs.Bytes.{same, any, filter}
+use Rattle.rules.specs.Op.{Op}
+use Rattle.rules.specs.Exchange.{has, times, onlyIn}
+use Rattle.rules.proofs.BoolLaws.{never, both-ways, or-cases}
+use Rattle.rules.proofs.ListLaws.{same-refl, filter-append, same-eq}
+
+pub same-sym : (a b : List ℕ) → same a b ≡ same b a
+same-sym a b =
+    both-ways (same a b) (same b a) (λ e. rw (same-eq a b e) (same-refl b)) (λ e. rw (same-eq b a e) (same-refl a))
+
+module _ {A : Type 0} (t : A → Bool) where
+  pub any-append : (a b : List A) → any t (a ++ b) ≡ (any t a || any t b)
+  unfolding any
+  any-append [] b = refl
+  any-append (x ∷ a) b = rw (any-append a b) (sym (or-assoc (t x) (any t a) (any t b)))
+
+---- has and times
+
+pub has-head : (x : Op) (a : List Op) → has (x ∷ a) x ≡ true
+unfolding has any
+has-head x a = rw (same-refl x)
+
+pub has-tail : (x : Op) (a : List Op) (r : Op) → has a r ≡ true → has (x ∷ a) r ≡ true
+unfolding has any
+has-tail x a r e = rw (e, or-true)
+
+pub has-append : (a b : List Op) (r : Op) → has (a ++ b) r ≡ (has a r || has b r)
+unfolding has
+has-append a b r = any-append (same r) a b
+
+pub has-last : (a : List Op) (x r : Op) → has (a ++ (x ∷ [])) r ≡ (has a r || same r x)
+unfolding has any
+has-last a x r = any-append (same r) a (x ∷ []) ∙ ap (λ t. any (same r) a || t) (or-false (same r x))
+
+pub has-new : (a : List Op) (r : Op) → has (a ++ (r ∷ [])) r ≡ true
+has-new a r = rw (has-last, same-refl, or-true)
+
+pub has-old : (a b : List Op) (r : Op) → has a r ≡ true → has (a ++ b) r ≡ true
+has-old a b r e = rw (has-append, e)
+
+pub times-append : (a b : List Op) (r : Op) → times (a ++ b) r ≡ times a r + times b r
+unfolding times
+times-append a b r = rw (filter-append, length-append)
+
+pub times-none : (a : List Op) (r : Op) → has a r ≡ false → times a r ≡ 0
+unfolding times has any filter
+times-none [] r e = refl
+times-none (x ∷ a) r e = go (same r x) e (times-none a r)
+  where
+    go : (b : Bool) → (b || any (same r) a) ≡ false → (any (same r) a ≡ false → length (filter (same r) a) ≡ 0) → length (cond b (x ∷ filter (same r) a) (filter (same r) a)) ≡ 0
+    go true z ih = never (sym z)
+    go false z ih = ih z
+
+pub times-some : (a : List Op) (r : Op) → has a r ≡ true → 1 ≤ times a r
+unfolding times has any filter
+times-some [] r e = never e
+times-some (x ∷ a) r e = go (same r x) e (times-some a r)
+  where
+    go : (b : Bool) → (b || any (same r) a) ≡ true → (any (same r) a ≡ true → 1 ≤ length (filter (same r) a)) → 1 ≤ length (cond b (x ∷ filter (same r) a) (filter (same r) a))
+    go true z ih = omega arith
+    go false z ih = ih z
+
+pub times-once : (a : List Op) (r : Op) → times a r ≤ 1 → times a r ≡ cond (has a r) 1 0
+times-once a r h = go (has a r) refl
+  where
+    go : (b : Bool) → has a r ≡ b → times a r ≡ cond b 1 0
+    go true e = omega (arith, times-some a r e)
+    go false e = times-none a r e
+
+pub once-last : (a : List Op) (x r : Op) → times a r ≤ 1 → has a x ≡ false → times (a ++ (x ∷ [])) r ≤ 1
+unfolding times filter
+once-last a x r h e = rw (times-append a (x ∷ []) r) (go (same r x) refl)
+  where
+    go : (b : Bool) → same r x ≡ b → length (filter (same r) a) + length (cond b (x ∷ []) []) ≤ 1
+    go true q = let z : has a r ≡ false = rw (same-eq r x q) e in omega (arith, times-none a r z)
+    go false q = omega arith
+
+---- what one list has and another lacks
+
+-- b comes to have an op of a
+pub onlyIn-less : (a b : List Op) (r : Op) → has b r ≡ false → length (onlyIn a b) ≡ length (onlyIn a (b ++ (r ∷ []))) + times a r
+unfolding onlyIn times filter
+onlyIn-less [] b r h = refl
+onlyIn-less (x ∷ a) b r h = rw (has-last b r x, same-sym x r) (go (has b x) (same r x) refl refl (onlyIn-less a b r h))
+  where
+    go : (c d : Bool) → has b x ≡ c → same r x ≡ d → length (onlyIn a b) ≡ length (onlyIn a (b ++ (r ∷ []))) + times a r → length (cond (not c) (x ∷ onlyIn a b) (onlyIn a b)) ≡ length (cond (not (c || d)) (x ∷ onlyIn a (b ++ (r ∷ []))) (onlyIn a (b ++ (r ∷ [])))) + length (cond d (x ∷ filter (same r) a) (filter (same r) a))
+    go true true p q ih = never (sym h ∙ rw (same-eq r x q) p)
+    go true false p q ih = ih
+    go false true p q ih = omega arith
+    go false false p q ih = omega arith
+
+-- a comes to have an op of b
+pub onlyIn-same : (a b : List Op) (r : Op) → has b r ≡ true → onlyIn (a ++ (r ∷ [])) b ≡ onlyIn a b
+unfolding onlyIn filter
+onlyIn-same a b r h = rw (filter-append, h) (append-nil (onlyIn a b))
+
+pub some-onlyIn : (a b : List Op) → 1 ≤ length (onlyIn a b) → (r : Op) × (has a r ≡ true) × (has b r ≡ false)
+unfolding onlyIn filter has any
+some-onlyIn [] b h = absurd (omega arith)
+some-onlyIn (x ∷ a) b h = go (has b x) refl h (some-onlyIn a b)
+  where
+    go : (c : Bool) → has b x ≡ c → 1 ≤ length (cond (not c) (x ∷ onlyIn a b) (onlyIn a b)) → (1 ≤ length (onlyIn a b) → (r : Op) × (has a r ≡ true) × (has b r ≡ false)) → (r : Op) × ((same r x || has a r) ≡ true) × (has b r ≡ false)
+    go true e l ih = let (r, i, n) = ih l in (r, rw (i, or-true), n)
+    go false e l ih = (x, rw (same-refl x), e)
+
+pub none-onlyIn : (a b : List Op) → onlyIn a b ≡ [] → (r : Op) → has a r ≡ true → has b r ≡ true
+unfolding onlyIn filter has any
+none-onlyIn [] b h r e = never e
+none-onlyIn (x ∷ a) b h r e = go (has b x) refl h (none-onlyIn a b)
+  where
+    go : (c : Bool) → has b x ≡ c → cond (not c) (x ∷ onlyIn a b) (onlyIn a b) ≡ [] → (onlyIn a b ≡ [] → (r : Op) → has a r ≡ true → has b r ≡ true) → has b r ≡ true
+    go true i z ih = ⊎-elim (λ (q : same r x ≡ true). rw (same-eq r x q) i) (λ (q : has a r ≡ true). ih z r q) (or-cases (same r x) (has a r) e)
+    go false i z ih = let z : _≡_ {A = ℕ} 0 1 = cc in absurd (omega arith)

@@ -1,0 +1,163 @@
+-- After every list of calls the buffer is the file of the held ops and a rest. Assumes nothing.
+use mathlib.Core.Path.{_≡_, refl, ap, _∙_}
+use mathlib.Core.Bool.{true, false}
+use mathlib.Core.List.{List, [], _∷_, _++_, foldl}
+use Prim.Native.Nat.{ℕ, _+_, _≤_, _<_}
+use native.Mathlib.Omega.{arith}
+use borrow.Author.Tests.{leb-false, le-leb}
+use lib.ListN.{length, take, drop, take-append-drop}
+use lib.Seq.{drop-at, take-at}
+use lib.Dec.{lit≤}
+use Rattle.rules.specs.Op.{Op, countIn, replicaOf, seqOf}
+use Rattle.rules.specs.Log.{Log, countsOf, append, fileEnd, logOf, fileOf, emptyLog, appended, width}
+use Rattle.rules.specs.Deliver.{makeAnswer, makeBuffer, held, deliverAnswer, deliverBuffer}
+use Rattle.rules.specs.Issue.{issued, issueAnswer, issueBuffer, issueOut}
+use Rattle.rules.specs.Exchange.{Call, make, issue, deliver, Site, answer, bufferAfter, heldThen, perform, run, standing, has, times, arrange, filed, fileIn}
+use Rattle.rules.specs.Bytes.{any, filter}
+use Rattle.rules.specs.Sound.{sound}
+use Rattle.rules.specs.Answer.{Answer, refused, hadIt, accepted, require, ifAccepted, done}
+use Rattle.rules.proofs.BoolLaws.{never, replica-cases, fails}
+use Rattle.rules.proofs.DeliverLaws.{Admitted, admitted, appended-log, appended-end, appended-sound, wide-new, end-new}
+use Rattle.rules.proofs.IssueLaws.{issue-admitted}
+use Rattle.rules.proofs.AppendLaws.{in-range, own-next}
+use Rattle.rules.proofs.FileLaws.{length-logOf, counts-logOf, length-file, WideLog, logOf-fileOf, file-end}
+use Rattle.rules.proofs.StructureLaws.{GoodLog, HeldOps, good-ops}
+use Rattle.rules.proofs.SoundLaws.{sound-good, good-empty, sound-laid, wide-empty, sound-file, sound-wide}
+use Rattle.convergence.proofs.HasLaws.{once-last}
+use Rattle.convergence.proofs.TrackLaws.{Tracks, seq-first, tracks-append, arrange-log}
+
+abbrev pub logIn : Site → Log
+logIn x = logOf width (x .buffer)
+
+pub record Kept (x : Site) : Type 0 where
+  pub is-sound : sound width (x .buffer) ≡ true
+  pub front : x .buffer ≡ fileOf width (logIn x) ++ drop (fileEnd width (x .buffer)) (x .buffer)
+  pub tracks : Tracks (logIn x) (x .held)
+  pub once : (r : Op) → times (x .held) r ≤ 1
+
+-- what a kept site says of its log
+pub kept-good : (x : Site) → Kept x → GoodLog (logIn x)
+kept-good x k = sound-good width (x .buffer) (k .is-sound)
+
+pub kept-wide : (x : Site) → Kept x → WideLog width (logIn x)
+kept-wide x k = sound-wide width (x .buffer) (k .is-sound)
+
+pub kept-ops : (x : Site) → Kept x → HeldOps (logIn x)
+kept-ops x k = good-ops (kept-good x k)
+
+pub kept-arrange : (x : Site) → Kept x → arrange (x .held) ≡ logIn x
+kept-arrange x k =
+    arrange-log (logIn x) (x .held) (k .tracks) (kept-ops x k) (kept-good x k .eight) (kept-good x k .counts)
+
+pub kept-end : (x : Site) → Kept x → length (fileOf width (logIn x)) ≡ fileEnd width (x .buffer)
+unfolding fileEnd
+kept-end x k = rw (length-file width (logIn x) (kept-wide x k), counts-logOf)
+
+-- a file in front of a rest
+pub kept-file : (log : Log) (rest : List ℕ) (ops : List Op) → GoodLog log → WideLog width log → Tracks log ops → ((r : Op) → times ops r ≤ 1) → Kept (record { buffer = fileOf width log ++ rest; held = ops })
+kept-file log rest ops g w t o = record {
+  is-sound = sound-file width log rest g w;
+  front = rw (logOf-fileOf width log rest (g .eight) w, file-end width log rest (g .eight), drop-at (fileOf width log) rest _ (length-file width log w));
+  tracks = rw (logOf-fileOf width log rest (g .eight) w) t;
+  once = o;
+}
+
+---- an accepted op
+
+module _ (x : Site) (r : Op) (n : ℕ) (k : Kept x) (h : Admitted width (x .buffer) r n) where
+  abbrev grown : Site
+  grown = record { buffer = appended width (x .buffer) r; held = x .held ++ (r ∷ []) }
+
+  pub grown-past : drop (fileEnd width (x .buffer) + width) (appended width (x .buffer) r) ≡ drop (fileEnd width (x .buffer) + width) (x .buffer)
+  unfolding appended
+  grown-past =
+      drop-at (fileOf width (append (logIn x) r)) _ _ (length-file width (append (logIn x) r) (wide-new width (x .buffer) r n h) ∙ end-new width (x .buffer) r n h)
+
+  pub grown-new : has (x .held) r ≡ false
+  unfolding Rattle.rules.specs.Deliver.held
+  grown-new = fails _ (λ e. let i = k .tracks .inside r e in let z : countIn (countsOf (logIn x)) (replicaOf r) < seqOf r = leb-false _ _ (h .admits .new) in omega (arith, i .here))
+
+  grown-front : appended width (x .buffer) r ≡ fileOf width (append (logIn x) r) ++ drop (fileEnd width (x .buffer) + width) (x .buffer)
+  unfolding appended
+  grown-front = refl
+
+  pub kept-grown : Kept grown
+  kept-grown =
+      let i = in-range (logIn x) r (kept-good x k) (h .admits) in
+      record {
+        is-sound = appended-sound width (x .buffer) r n h;
+        front = rw (appended-log width (x .buffer) r n h, appended-end width (x .buffer) r n h, grown-past) grown-front;
+        tracks = rw (appended-log width (x .buffer) r n h) (tracks-append (logIn x) r (length-logOf width (x .buffer)) (i .0) (i .1) (own-next (logIn x) r (kept-good x k) (h .admits)) (x .held) (k .tracks));
+        once = λ y. once-last (x .held) r y (k .once y) grown-new;
+      }
+
+---- a call
+
+empty-count : (s : ℕ) → 1 ≤ s → s ≤ 8 → countIn (countsOf emptyLog) s ≡ 0
+unfolding emptyLog countsOf countIn
+empty-count = replica-cases (λ s. countIn (countsOf emptyLog) s ≡ 0) refl refl refl refl refl refl refl refl
+
+empty-tracks : Tracks emptyLog []
+unfolding has any
+empty-tracks = record {
+  inside = λ r e. never e;
+  outside = λ r i. absurd (omega (arith, i .here, empty-count (replicaOf r) (i .low) (i .high), seq-first r));
+}
+
+empty-once : (r : Op) → times [] r ≤ 1
+unfolding times filter
+empty-once r = lit≤ tt
+
+pub kept-make : (x : Site) → 32 ≤ length (x .buffer) → Kept (perform x make)
+unfolding perform bufferAfter answer heldThen makeBuffer makeAnswer require
+kept-make x h = rw (le-leb 32 (length (x .buffer)) h) (kept-file emptyLog (drop 32 (x .buffer)) [] good-empty (wide-empty width) empty-tracks empty-once)
+
+pub kept-perform : (x : Site) (c : Call) → Kept x → Kept (perform x c)
+unfolding perform bufferAfter answer heldThen issueBuffer issueOut deliverBuffer
+kept-perform x make k = kept-make x (sound-laid width (x .buffer) (k .is-sound) .header)
+kept-perform x (issue lent s q) k = go (issueAnswer width (x .buffer) (length lent) s q) refl
+  where
+    go : (a : Answer) → issueAnswer width (x .buffer) (length lent) s q ≡ a → Kept (record { buffer = ifAccepted a (appended width (x .buffer) (issued (logIn x) s q)) (x .buffer); held = ifAccepted a (x .held ++ (take width (ifAccepted a (issued (logIn x) s q ++ drop width lent) lent) ∷ [])) (x .held) })
+    go (refused n) e = k
+    go hadIt e = k
+    go done e = k
+    go (accepted n) e =
+        let h = issue-admitted (x .buffer) (length lent) s q n e in
+        rw (take-at (issued (logIn x) s q) (drop width lent) width (h .long)) (kept-grown x (issued (logIn x) s q) n k h)
+kept-perform x (deliver r) k = go (deliverAnswer width (x .buffer) r) refl
+  where
+    go : (a : Answer) → deliverAnswer width (x .buffer) r ≡ a → Kept (record { buffer = ifAccepted a (appended width (x .buffer) r) (x .buffer); held = ifAccepted a (x .held ++ (r ∷ [])) (x .held) })
+    go (refused n) e = k
+    go hadIt e = k
+    go done e = k
+    go (accepted n) e = kept-grown x r n k (admitted width (x .buffer) r n e)
+
+-- after every list of calls
+pub kept-calls : (calls : List Call) (x : Site) → Kept x → Kept (foldl perform x calls)
+kept-calls [] x k = k
+kept-calls (c ∷ calls) x k = kept-calls calls (perform x c) (kept-perform x c k)
+
+pub kept-run : (f : List ℕ) (calls : List Call) → 32 ≤ length f → Kept (run f calls)
+unfolding run
+kept-run f calls h = kept-calls calls (perform (record { buffer = f; held = [] }) make) (kept-make (record { buffer = f; held = [] }) h)
+
+-- the file in another buffer
+pub kept-standing : (x : Site) (rest : List ℕ) → Kept x → Kept (standing x rest)
+unfolding standing fileIn
+kept-standing x rest k =
+    let g = kept-good x k in
+    let e : take (fileEnd width (x .buffer)) (x .buffer) ≡ fileOf width (logIn x) = ap (take (fileEnd width (x .buffer))) (k .front) ∙ take-at (fileOf width (logIn x)) _ _ (kept-end x k) in
+    rw e (kept-file (logIn x) rest (x .held) g (kept-wide x k) (k .tracks) (k .once))
+
+-- a buffer stands for itself: what lies past the file is its own
+pub standing-own : (x : Site) → standing x (drop (fileEnd width (x .buffer)) (x .buffer)) ≡ x
+unfolding standing fileIn
+standing-own x = rw (take-append-drop (fileEnd width (x .buffer)) (x .buffer))
+
+pub kept-filed : (x : Site) → Kept x → x .buffer ≡ filed (x .held) (x .buffer)
+unfolding filed
+kept-filed x k = rw (kept-arrange x k, kept-end x k) (k .front)
+
+-- after every list the file is, to its end, the table and bodies of the held ops
+pub list-file : (f : List ℕ) (calls : List Call) → 32 ≤ length f → run f calls .buffer ≡ filed (run f calls .held) (run f calls .buffer)
+list-file f calls h = kept-filed (run f calls) (kept-run f calls h)

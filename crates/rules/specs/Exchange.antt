@@ -1,0 +1,167 @@
+-- "Two collections that meet": lists of calls and what is held after them; rounds of offers, their answers, and what is missing (the paper's
+-- lacking). Assumes nothing.
+use Prim.Native.Nat.{ℕ}
+use mathlib.Core.Path.{_≡_}
+use mathlib.Core.Bool.{Bool, true, false, cond, _&&_, not}
+use mathlib.Core.List.{List, [], _∷_, _++_, map, foldl}
+use lib.ListN.{length, take, drop}
+use lib.Dec.{eqb}
+use Rattle.rules.specs.Answer.{Answer, ifAccepted}
+use Rattle.rules.specs.Bytes.{upFrom, same, concat, any, filter}
+use Rattle.rules.specs.Op.{Op, replicas, replicaOf, seqOf}
+use Rattle.rules.specs.Log.{Log, width, fileEnd, fileOf}
+use Rattle.rules.specs.Deliver.{makeAnswer, makeBuffer, deliverAnswer, deliverBuffer}
+use Rattle.rules.specs.Issue.{Request, issueAnswer, issueBuffer, issueOut}
+
+---- a list of calls
+
+-- a call that is lent the log's buffer to write in; judging, path and listing only read it, so any of them may stand between
+pub data Call : Type 0 where
+  make : Call
+  issue : (out : List ℕ) (replica : ℕ) → Request → Call
+  deliver : (op : List ℕ) → Call
+
+-- a buffer, and the ops held there, in the order in which they were accepted
+pub record Site : Type 0 where
+  pub buffer : List ℕ
+  pub held : List Op
+
+unfoldable pub answer : List ℕ → Call → Answer
+answer f make = makeAnswer f
+answer f (issue out s q) = issueAnswer width f (length out) s q
+answer f (deliver r) = deliverAnswer width f r
+
+unfoldable pub bufferAfter : List ℕ → Call → List ℕ
+bufferAfter f make = makeBuffer width f
+bufferAfter f (issue out s q) = issueBuffer width f (length out) s q
+bufferAfter f (deliver r) = deliverBuffer width f r
+
+-- what is held once the call is accepted: nothing; or one op more, which issuing put in the first lent bytes, or which was delivered
+unfoldable pub heldThen : Site → Call → List Op
+heldThen x make = []
+heldThen x (issue out s q) = x .held ++ (take width (issueOut width (x .buffer) out s q) ∷ [])
+heldThen x (deliver r) = x .held ++ (r ∷ [])
+
+unfoldable pub perform : Site → Call → Site
+perform x c = record {
+  buffer = bufferAfter (x .buffer) c;
+  held = ifAccepted (answer (x .buffer) c) (heldThen x c) (x .held);
+}
+
+-- a list starts with making, in a buffer that holds f
+unfoldable pub run : List ℕ → List Call → Site
+run f calls = foldl perform (record { buffer = f; held = [] }) (make ∷ calls)
+
+-- the file at the front of a buffer
+unfoldable pub fileIn : Site → List ℕ
+fileIn x = take (fileEnd width (x .buffer)) (x .buffer)
+
+-- the file with rest after it: where it was, or copied into another buffer
+unfoldable pub standing : Site → List ℕ → Site
+standing x rest = record { buffer = fileIn x ++ rest; held = x .held }
+
+---- ops in a list of ops
+
+unfoldable pub has : List Op → Op → Bool
+has ops r = any (same r) ops
+
+unfoldable pub times : List Op → Op → ℕ
+times ops r = length (filter (same r) ops)
+
+-- an op of a replica and sequence that stand in both lists is the same in both
+abbrev pub Agreed : List Op → List Op → Type 0
+Agreed a b =
+    (r x : Op) → has a r ≡ true → has b x ≡ true → replicaOf r ≡ replicaOf x → seqOf r ≡ seqOf x → r ≡ x
+
+-- ops as a log: for each replica, op 1, op 2 and so on, each once, in whatever order they come
+unfoldable pub opNumbered : List Op → ℕ → ℕ → List Op
+opNumbered ops s q = take 1 (filter (λ r. eqb (replicaOf r) s && eqb (seqOf r) q) ops)
+
+unfoldable pub inOrder : List Op → ℕ → List Op
+inOrder ops s = concat (map (opNumbered ops s) (upFrom 1 255))
+
+unfoldable pub arrange : List Op → Log
+arrange ops = map (inOrder ops) replicas
+
+-- a buffer with the file of these ops at its front; what lies past it is that of the buffer f
+unfoldable pub filed : List Op → List ℕ → List ℕ
+filed ops f = fileOf width (arrange ops) ++ drop (length (fileOf width (arrange ops))) f
+
+---- two logs
+
+pub data Side : Type 0 where
+  left : Side
+  right : Side
+
+unfoldable pub other : Side → Side
+other left = right
+other right = left
+
+unfoldable pub isSide : Side → Side → Bool
+isSide left left = true
+isSide left right = false
+isSide right left = false
+isSide right right = true
+
+abbrev pub Pair : Type 0
+Pair = Side → Site
+
+-- the ops of one list that are not in another
+unfoldable pub onlyIn : List Op → List Op → List Op
+onlyIn a b = filter (λ r. not (has b r)) a
+
+-- "a record is lacking while only one collection holds it"
+unfoldable pub missing : Pair → List Op
+missing p = onlyIn (p left .held) (p right .held) ++ onlyIn (p right .held) (p left .held)
+
+unfoldable pub everything : Pair → List Op
+everything p = p left .held ++ p right .held
+
+---- offers
+
+pub record Offer : Type 0 where
+  pub to : Side
+  pub op : Op
+
+abbrev pub Round : Type 0
+Round = List Offer
+
+-- an offer is a delivery at one side
+unfoldable pub answerTo : Pair → Offer → Answer
+answerTo p o = answer (p (o .to) .buffer) (deliver (o .op))
+
+unfoldable pub offered : Pair → Offer → Pair
+offered p o d = cond (isSide d (o .to)) (perform (p d) (deliver (o .op))) (p d)
+
+unfoldable pub after : Pair → List Offer → Pair
+after p os = foldl offered p os
+
+pub record Answered : Type 0 where
+  pub offer : Offer
+  pub answered : Answer
+
+unfoldable pub answers : Pair → List Offer → List Answered
+answers p [] = []
+answers p (o ∷ os) = record { offer = o; answered = answerTo p o } ∷ answers (offered p o) os
+
+unfoldable pub acceptances : List Answered → List Answered
+acceptances xs = filter (λ x. ifAccepted (x .answered) true false) xs
+
+-- the ops that a side accepted
+unfoldable pub acceptedBy : Side → List Answered → List Op
+acceptedBy d xs = map (λ x. x .offer .op) (filter (λ x. isSide d (x .offer .to)) (acceptances xs))
+
+---- rounds
+
+-- a round offers this op to this side
+unfoldable pub offers : Round → Side → Op → Bool
+offers os d r = any (λ o. isSide d (o .to) && same r (o .op)) os
+
+-- to each side are offered exactly the ops that the other held when the round began; in any order, each once or more
+abbrev pub ValidRound : Pair → Round → Type 0
+ValidRound p os = (d : Side) (r : Op) → offers os d r ≡ has (p (other d) .held) r
+
+-- a fact of each round and of the two as they are when it begins
+abbrev pub EachRound : (Pair → Round → Type 0) → Pair → List Round → Type 0
+EachRound P p [] = Unit {0}
+EachRound P p (os ∷ rest) = P p os × EachRound P (after p os) rest
