@@ -21,8 +21,9 @@ use Rattle.rules.proofs.BoolLaws.{and-left, and-right, and-both}
 use Rattle.rules.proofs.CausalLaws.{Le, within-le}
 use Rattle.rules.proofs.TreeLaws.{Valid, up, Reaches, short, free-avoids, new-reaches, still-reaches, slot-injective}
 use Rattle.rules.proofs.StructureLaws.{held-in, HeldOp, GoodLog, good-ops}
+use Rattle.rules.proofs.FileLaws.{count-map}
 use Rattle.order.specs.Levels.{ready, nextAt, nextOf, advanced, entry, levelKind, level, levels, nothing}
-use Rattle.order.proofs.LevelLaws.{Cut, AtLevel, count-map, count-nothing, next-count, done-count, status, next-level, first-level, ordered-levels, timestamp-bound}
+use Rattle.order.proofs.LevelLaws.{Cut, AtLevel, count-nothing, next-count, done-count, status, next-level, first-level, ordered-levels, timestamp-bound}
 
 ---- what an op names
 

@@ -20,11 +20,8 @@ use Rattle.rules.proofs.CausalLaws.{Le, within-le, total, own, counted-le}
 use Rattle.rules.proofs.TimeLaws.{timestamp-equation}
 use Rattle.rules.proofs.ListLaws.{greatest-take, greatest-bound, greatest-part, greatest-parts, filter-none, filter-one, filter-part, map-upFrom, map-downFrom, upFrom-add, concat-nothing, concat-none, concat-append}
 use Rattle.rules.proofs.StructureLaws.{count-held, held-in, GoodLog, good-ops}
+use Rattle.rules.proofs.FileLaws.{count-map}
 use Rattle.order.specs.Levels.{ready, nextAt, nextOf, advancedAt, advanced, entry, levelKind, level, levels, nothing}
-
-pub count-map : (F : ℕ → ℕ) (s : ℕ) → 1 ≤ s → s ≤ 8 → countIn (map F replicas) s ≡ F s
-unfolding countIn replicas upFrom
-count-map F = replica-cases (λ s. countIn (map F replicas) s ≡ F s) refl refl refl refl refl refl refl refl
 
 pub count-nothing : (s : ℕ) → 1 ≤ s → s ≤ 8 → countIn nothing s ≡ 0
 unfolding countIn nothing

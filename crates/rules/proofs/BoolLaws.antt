@@ -1,13 +1,14 @@
 -- Laws of tests: conjunctions, tests of every element, the eight replicas. Assumes nothing.
-use mathlib.Core.Path.{_≡_, refl, sym, ap, ap₂, _∙_}
+use mathlib.Core.Path.{_≡_, refl, sym}
 use mathlib.Core.Logic.{_⊎_, inl, inr}
-use mathlib.Core.Bool.{Bool, true, false, cond, _&&_, _||_, not}
-use mathlib.Core.List.{List, [], _∷_, _++_, map}
-use Prim.Native.Nat.{ℕ, zero, suc, _+_, _≤_, _<_}
+use mathlib.Core.Bool.{Bool, true, false, _&&_, _||_}
+use mathlib.Core.List.{map}
+use Prim.Native.Nat.{ℕ, zero, suc, _+_, _≤_, _<_, _-_}
 use native.Mathlib.Omega.{arith}
 use native.Mathlib.Decide.{ℕ-discrete}
 use lib.Arith.{lt-of-le-ne}
 use lib.Dec.{lit≤}
+use native.Mathlib.Numerals.{add-one}
 use Rattle.rules.specs.Bytes.{upFrom, all}
 use Rattle.rules.specs.Op.{replicas}
 
@@ -110,3 +111,19 @@ unfolding replicas upFrom
 map-replicas g h e =
     rw (e 1 (lit≤ tt) (lit≤ tt), e 2 (lit≤ tt) (lit≤ tt), e 3 (lit≤ tt) (lit≤ tt), e 4 (lit≤ tt) (lit≤ tt), e 5 (lit≤ tt) (lit≤ tt), e 6 (lit≤ tt) (lit≤ tt), e 7 (lit≤ tt) (lit≤ tt), e 8 (lit≤ tt) (lit≤ tt))
 
+---- a test of each replica, from place i on
+
+unfoldable pub passFrom : (ℕ → Bool) → ℕ → Bool
+passFrom p i = all p (upFrom (i + 1) (8 - i))
+
+pub pass-all : (p : ℕ → Bool) → all p replicas ≡ passFrom p 0
+unfolding passFrom replicas
+pass-all p = refl
+
+pub pass-turn : (p : ℕ → Bool) (i : ℕ) → i < 8 → passFrom p i ≡ (p (i + 1) && passFrom p (i + 1))
+unfolding passFrom all upFrom
+pass-turn p i h = let e : 8 - i ≡ suc (8 - (i + 1)) = omega arith in rw (e, ← add-one (i + 1))
+
+pub pass-end : (p : ℕ → Bool) (i : ℕ) → 8 ≤ i → passFrom p i ≡ true
+unfolding passFrom all upFrom
+pass-end p i h = let e : 8 - i ≡ 0 = omega arith in rw e

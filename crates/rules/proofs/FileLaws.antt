@@ -64,9 +64,13 @@ vector-eta (a ∷ b ∷ c ∷ d ∷ f ∷ g ∷ h ∷ []) e = absurd (omega arit
 vector-eta (a ∷ b ∷ c ∷ d ∷ f ∷ g ∷ h ∷ i ∷ []) e = refl
 vector-eta (a ∷ b ∷ c ∷ d ∷ f ∷ g ∷ h ∷ i ∷ j ∷ k) e = absurd (omega arith)
 
+pub count-map : (F : ℕ → ℕ) (s : ℕ) → 1 ≤ s → s ≤ 8 → countIn (map F replicas) s ≡ F s
+unfolding countIn replicas upFrom
+count-map F = replica-cases (λ s. countIn (map F replicas) s ≡ F s) refl refl refl refl refl refl refl refl
+
 pub counts-at : (f : List ℕ) (s : ℕ) → 1 ≤ s → s ≤ 8 → countIn (headerCounts f) s ≡ countAt f s
-unfolding countIn headerCounts replicas upFrom
-counts-at f = replica-cases (λ s. countIn (headerCounts f) s ≡ countAt f s) refl refl refl refl refl refl refl refl
+unfolding headerCounts
+counts-at f s l u = count-map (countAt f) s l u
 
 pub length-counts : (f : List ℕ) → length (headerCounts f) ≡ 8
 unfolding headerCounts replicas upFrom

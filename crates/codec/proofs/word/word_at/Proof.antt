@@ -1,0 +1,19 @@
+-- `codec::word::word_at` meets its contract. Assumes nothing.
+use borrow.Author.Needs.{needs}
+use Rattle.rules.specs.Bytes.{wordAt}
+use Rattle.codec.proofs.word.word_at.Statement.{statement}
+use Rattle.codec.proofs.word.word_at.Tie as tie
+
+returns : tie.Need-returns
+unfolding wordAt
+returns c = c .join .ensures
+
+pub word-at-spec : {M : Type 1} → statement M
+word-at-spec =
+    tie.close
+    (tie.spec
+    (λ c. search needs)
+    (λ c. search needs)
+    (λ c. search needs)
+    (λ c κs. search needs)
+    returns)

@@ -1,0 +1,36 @@
+-- What the op reader answers, and the paper's number of each refusal. Assumes nothing.
+use Prim.Native.Nat.{ℕ, _+_}
+use mathlib.Core.List.{List}
+use mathlib.Core.Bool.{Bool, _&&_, _||_, not, cond}
+use lib.ListN.{length}
+use lib.Dec.{leb, eqb}
+use Rattle.rules.specs.Op.{kindOf, replicaOf, nodeOf, parentOf, seqOf, wellFormed}
+use Rattle.codec.specs.declared.op.Fields.{Fields}
+use Rattle.codec.specs.declared.op.Read.{Read}
+use Rattle.codec.specs.declared.op.Read.the-variants.{Op, Refused}
+use Rattle.codec.specs.declared.op.Refusal.{Refusal}
+use Rattle.codec.specs.declared.op.Refusal.the-variants.{Unsound, Length, Malformed, Conflict, Early, NotClosed, Unknown, NoRoom, Exhausted, Cycle}
+
+-- the paper's number of each case
+abbrev pub numberOf : Refusal → ℕ
+numberOf Unsound = 1
+numberOf Length = 2
+numberOf Malformed = 3
+numberOf Conflict = 4
+numberOf Early = 5
+numberOf NotClosed = 6
+numberOf Unknown = 7
+numberOf NoRoom = 8
+numberOf Exhausted = 9
+numberOf Cycle = 10
+
+-- whether a kind can stand with a parent
+abbrev pub kindFits : ℕ → ℕ → Bool
+kindFits k p = (leb 1 k && leb k 4) && (not (eqb k 2) || eqb p 0)
+
+abbrev pub fieldsOf : List ℕ → Fields
+fieldsOf b = record { kind = kindOf b; replica = replicaOf b; sequence = seqOf b; node = nodeOf b; parent = parentOf b }
+
+-- an op of w bytes
+unfoldable pub readOf : ℕ → List ℕ → Read
+readOf w b = cond (eqb (length b) w) (cond (wellFormed b) (Op (fieldsOf b)) (Refused Malformed)) (Refused Length)

@@ -1,0 +1,93 @@
+use crate::word::put_word;
+use crate::word::widen;
+use crate::word::word_at;
+ghost use mathlib.Core.Path.{_≡_};
+ghost use mathlib.Core.List.{_++_};
+ghost use Prim.Native.Nat.{_+_, _≤_};
+ghost use lib.ListN.{length, drop};
+ghost use Rattle.rules.specs.Issue.{opBytes};
+ghost use Rattle.codec.specs.Read.{kindFits, readOf};
+
+// Why a call is refused: a case for each number of the paper.
+pub enum Refusal {
+    // 1: the log is not sound.
+    Unsound,
+    // 2: lent or delivered memory has the wrong length.
+    Length,
+    // 3: a replica or an op out of form.
+    Malformed,
+    // 4: another op of this replica and sequence is held.
+    Conflict,
+    // 5: the op's vector counts what is not held.
+    Early,
+    // 6: the op's vector is not closed.
+    NotClosed,
+    // 7: a node that is not known.
+    Unknown,
+    // 8: no room.
+    NoRoom,
+    // 9: the replica has issued all its ops.
+    Exhausted,
+    // 10: the new parent lies below the node.
+    Cycle,
+}
+
+// The fields of an op but its vector, which stays beside it: an enum holds no array.
+pub struct Fields {
+    pub kind: u8,
+    pub replica: u8,
+    pub sequence: u8,
+    pub node: u16,
+    pub parent: u16,
+}
+
+// What the op reader answers.
+pub enum Read {
+    Op(Fields),
+    Refused(Refusal),
+}
+
+// Whether a kind can stand with a parent: a remove has parent 0.
+pub fn kind_fits(kind: u8, parent: u16) -> bool
+    ensures { λ r. ⌜ r ≡ kindFits kind parent ⌝ }
+{
+    match kind {
+        1 | 3 | 4 => true,
+        2 => parent == 0,
+        0 | 5..=255 => false,
+    }
+}
+
+// Reads an op of a width off its bytes: numbers 2 and 3.
+pub fn read_op(bytes: &[u8], width: usize) -> Read
+    requires { ⌜ 14 ≤ width ⌝ }
+    ensures { λ r. ⌜ r ≡ readOf width (now (bytes .entry)) ⌝ }
+{
+    if bytes.len() != width {
+        return Read::Refused(Refusal::Length);
+    }
+    let replica = bytes[1];
+    if replica < 1 {
+        return Read::Refused(Refusal::Malformed);
+    }
+    if 8 < replica {
+        return Read::Refused(Refusal::Malformed);
+    }
+    let kind = bytes[0];
+    let parent = word_at(bytes, 4);
+    let own = bytes[5 + widen(replica)];
+    if 254 < own {
+        return Read::Refused(Refusal::Malformed);
+    }
+    if !kind_fits(kind, parent) {
+        return Read::Refused(Refusal::Malformed);
+    }
+    let node = word_at(bytes, 2);
+    Read::Op(Fields {
+        kind,
+        replica,
+        sequence: own + 1,
+        node,
+        parent,
+    })
+}
