@@ -15,6 +15,13 @@ pub fn widen(x: u8) -> usize
     x as usize
 }
 
+// The same, with its bound.
+pub fn small(x: u8) -> usize
+    ensures { λ r. ⌜ (r ≡ x) × (r ≤ 255) ⌝ }
+{
+    x as usize
+}
+
 pub fn widen16(x: u16) -> usize
     ensures { λ r. ⌜ r ≡ x ⌝ }
 {

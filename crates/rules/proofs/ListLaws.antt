@@ -1,14 +1,16 @@
 -- Laws of lists: sums, the greatest number, equal bytes, filter, concat. Assumes nothing.
 use mathlib.Core.Path.{_≡_, refl, ap₂, _∙_}
-use mathlib.Core.Bool.{Bool, true, false, cond}
+use mathlib.Core.Bool.{Bool, true, false, cond, _&&_}
 use mathlib.Core.List.{List, _∷_, _++_, map, map-append, append-assoc, append-nil, []}
 use Prim.Native.Nat.{ℕ, zero, suc, _+_, _≤_, _<_, max, _*_}
 use native.Mathlib.Nat.{le-refl, add-zero, add-suc, suc-add, zero-add, not-suc-le-zero, le-of-suc-le-suc, mul-suc, add-comm}
 use native.Mathlib.Omega.{arith}
 use native.Mathlib.Decide.{ℕ-discrete}
-use lib.ListN.{length, take, getD}
+use lib.ListN.{length, take, getD, drop, drop-of-length-le}
 use borrow.Author.Tests.{eq-eqb, eqb-true}
 use lib.Dec.{eqb}
+use native.Mathlib.Numerals.{add-one}
+use lib.Seq.{drop-cons}
 use Rattle.rules.specs.Bytes.{upFrom, downFrom, greatest, concat, filter, same, sum}
 use Rattle.rules.proofs.BoolLaws.{never, and-left, and-right}
 
@@ -43,6 +45,22 @@ same-eq [] [] e = refl
 same-eq [] (y ∷ b) e = never e
 same-eq (x ∷ a) [] e = never e
 same-eq (x ∷ a) (y ∷ b) e = ap₂ _∷_ (eqb-true x y (and-left (eqb x y) _ e)) (same-eq a b (and-right (eqb x y) _ e))
+
+-- a comparison of two lists, from place i on
+unfoldable pub sameFrom : List ℕ → List ℕ → ℕ → Bool
+sameFrom a b i = same (drop i a) (drop i b)
+
+pub same-all : (a b : List ℕ) → same a b ≡ sameFrom a b 0
+unfolding sameFrom
+same-all a b = refl
+
+pub same-turn : (a b : List ℕ) (i : ℕ) → i < length a → i < length b → sameFrom a b i ≡ (eqb (getD a i 0) (getD b i 0) && sameFrom a b (i + 1))
+unfolding sameFrom same
+same-turn a b i h l = rw (drop-cons a i 0 h, drop-cons b i 0 l, add-one i)
+
+pub same-end : (a b : List ℕ) (i : ℕ) → length a ≤ i → length b ≤ i → sameFrom a b i ≡ true
+unfolding sameFrom same
+same-end a b i h l = rw (drop-of-length-le a h, drop-of-length-le b l)
 
 ---- greatest
 

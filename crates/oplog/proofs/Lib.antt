@@ -1,0 +1,5 @@
+pub mod HeaderLaws
+pub mod FieldLaws
+pub mod TestLaws
+pub mod MarkerLaws
+pub mod InsertLaws

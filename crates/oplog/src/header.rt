@@ -1,0 +1,66 @@
+use codec::put_word;
+use codec::small;
+use codec::widen16;
+use codec::word_at;
+ghost use mathlib.Core.Path.{_≡_};
+ghost use mathlib.Core.Bool.{true};
+ghost use mathlib.Core.List.{_++_};
+ghost use Prim.Native.Nat.{ℕ, _+_, _≤_, _<_};
+ghost use lib.ListN.{length, drop};
+ghost use Rattle.rules.specs.Op.{countIn};
+ghost use Rattle.rules.specs.Log.{headerCounts, startOf, headerOf, soundHeader};
+
+// Whether counts are at most 255 and starts are right.
+pub fn header_right(file: &[u8], width: usize) -> bool
+    requires { ⌜ (32 ≤ length (now file)) × (width ≤ 255) ⌝ }
+    ensures { λ r. ⌜ r ≡ soundHeader width (now (file .entry)) ⌝ }
+{
+    let mut start: usize = 32;
+    for i in 0..8usize {
+        let count = widen16(word_at(file, 4 * i));
+        if 255 < count {
+            return false;
+        }
+        if widen16(word_at(file, 4 * i + 2)) != start {
+            return false;
+        }
+        start += width * count;
+    }
+    true
+}
+
+// Where the bodies of replica s end: where those of the next start, and after the last the file's
+// end.
+pub fn end_of(file: &[u8], s: usize, width: usize) -> usize
+    requires { ⌜ (32 ≤ length (now file)) × (width ≤ 255) × (soundHeader width (now file) ≡ true) × (1 ≤ s) × (s ≤ 8) ⌝ }
+    ensures { λ r. ⌜ r ≡ startOf width (headerCounts (now (file .entry))) (s + 1) ⌝ }
+{
+    let count = widen16(word_at(file, 4 * (s - 1)));
+    widen16(word_at(file, 4 * (s - 1) + 2)) + width * count
+}
+
+// The held counts.
+pub fn counts_of(file: &[u8], width: usize) -> [u8; 8]
+    requires { ⌜ (32 ≤ length (now file)) × (soundHeader width (now file) ≡ true) ⌝ }
+    ensures { λ r. ⌜ r ≡ headerCounts (now (file .entry)) ⌝ }
+{
+    let mut counts = [0u8; 8];
+    for i in 0..8 {
+        counts[i] = file[4 * i + 1];
+    }
+    counts
+}
+
+// Writes the header of some counts.
+pub fn write_header(buf: &mut [u8], counts: [u8; 8], width: usize)
+    requires { ⌜ (32 ≤ length (now buf)) × (width ≤ 16) ⌝ }
+    ensures { λ _. ⌜ now (buf .exit) ≡ headerOf width counts ++ drop 32 (now (buf .entry)) ⌝ }
+{
+    let mut start: u16 = 32;
+    for i in 0..8usize {
+        let count = small(counts[i]);
+        put_word(buf, 4 * i, count as u16);
+        put_word(buf, 4 * i + 2, start);
+        start += (width * count) as u16;
+    }
+}

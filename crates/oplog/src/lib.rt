@@ -1,0 +1,20 @@
+// The operation log (the paper's collection) in a lent buffer: its header, the places of its ops,
+// structural soundness, and the tests of an op against it. Ops have `width` bytes.
+mod append;
+mod check;
+mod header;
+mod marker;
+mod spot;
+
+pub use append::append_op;
+pub use check::closed_in;
+pub use check::known_in;
+pub use check::known_parent;
+pub use check::names_known;
+pub use check::structural;
+pub use header::counts_of;
+pub use header::end_of;
+pub use header::write_header;
+pub use marker::Marker;
+pub use spot::place;
+pub use spot::same_op;
