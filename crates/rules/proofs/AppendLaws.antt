@@ -176,3 +176,7 @@ module _ (log : Log) (r : Op) (g : GoodLog log) (h : Admits log r) where
     counts = counts-new;
     ops = ops-new;
   }
+
+pub seq-positive : (r : Op) → 1 ≤ seqOf r
+unfolding seqOf
+seq-positive r = omega arith

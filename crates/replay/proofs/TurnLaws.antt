@@ -1,0 +1,139 @@
+-- Turns of the loops over kinds, replicas and levels. Assumes nothing.
+use mathlib.Core.Path.{_≡_, refl, _∙_}
+use mathlib.Core.Bool.{Bool, true, false, cond}
+use mathlib.Core.List.{List, [], _∷_, map, foldl, foldl-append}
+use Prim.Native.Nat.{ℕ, zero, suc, _+_, _-_, _≤_, _<_}
+use native.Mathlib.Omega.{arith}
+use lib.ListN.{length}
+use borrow.Author.Tests.{lt-ltb, le-ltb, eq-eqb, ne-eqb}
+use native.Mathlib.Numerals.{add-one}
+use native.Mathlib.Decide.{decLt}
+use Rattle.rules.specs.Op.{countIn, kindOf, vectorOf, Vector}
+use Rattle.rules.specs.Replay.{Stamped, State, step}
+use Rattle.rules.specs.Log.{opAt, Log, logOf, within}
+use Rattle.rules.specs.Bytes.{upFrom, downFrom, concat}
+use Rattle.order.specs.Levels.{levelKind, advancedAt, nextAt, entry, level, levels, nextOf, ready, nothing, advanced}
+use Rattle.rules.proofs.FileLaws.{vector-eta, count-map}
+use Rattle.rules.proofs.ListLaws.{concat-nothing, concat-none}
+use Rattle.rules.proofs.BoolLaws.{map-replicas}
+use Rattle.order.proofs.LevelLaws.{count-nothing}
+use Rattle.rules.proofs.CausalLaws.{within-le}
+use Rattle.replay.specs.Tables.{stampedAt, Held}
+
+module _ (log : Log) (cut done : Vector) (s : ℕ) where
+  pub next-none : countIn cut s ≤ countIn done s → nextAt log cut done s ≡ 0
+  unfolding nextAt ready
+  next-none h = rw (le-ltb (countIn done s) (countIn cut s) h)
+
+  pub next-some : countIn done s < countIn cut s → nextAt log cut done s ≡ cond (within (vectorOf (opAt log s (countIn done s + 1))) done) (countIn done s + 1) 0
+  unfolding nextAt ready
+  next-some h = rw (lt-ltb (countIn done s) (countIn cut s) h)
+
+module _ (log : Log) (t : ℕ) (next : Vector) (k : ℕ) where
+  module _ (s : ℕ) where
+    pub entry-zero : countIn next s ≡ 0 → entry log t next k s ≡ []
+    unfolding entry
+    entry-zero e = rw e
+
+    pub entry-other : (countIn next s ≡ 0 → ⊥) → (kindOf (opAt log s (countIn next s)) ≡ k → ⊥) → entry log t next k s ≡ []
+    unfolding entry
+    entry-other e h = rw (ne-eqb (countIn next s) 0 e, ne-eqb (kindOf (opAt log s (countIn next s))) k h)
+
+    pub entry-one : (countIn next s ≡ 0 → ⊥) → kindOf (opAt log s (countIn next s)) ≡ k → entry log t next k s ≡ stampedAt t (opAt log s (countIn next s)) ∷ []
+    unfolding entry
+    entry-one e h = rw (ne-eqb (countIn next s) 0 e, eq-eqb (kindOf (opAt log s (countIn next s))) k h)
+
+  -- the entries of the replicas but the i highest
+  unfoldable pub kindFrom : ℕ → List Stamped
+  kindFrom i = concat (map (entry log t next k) (downFrom (8 - i)))
+
+  pub kind-all : levelKind log t next k ≡ kindFrom 0
+  unfolding levelKind kindFrom
+  kind-all = refl
+
+  pub kind-turn : (st : State) (i : ℕ) → i < 8 → foldl step st (kindFrom i) ≡ foldl step (foldl step st (entry log t next k (8 - i))) (kindFrom (i + 1))
+  unfolding kindFrom downFrom concat
+  kind-turn st i h =
+      let e : 8 - i ≡ suc (8 - (i + 1)) = omega arith in
+      rw e (foldl-append step st (entry log t next k (suc (8 - (i + 1)))) (kindFrom (i + 1)))
+
+  pub kind-end : (st : State) (i : ℕ) → 8 ≤ i → foldl step st (kindFrom i) ≡ st
+  unfolding kindFrom downFrom concat
+  kind-end st i h = let e : 8 - i ≡ 0 = omega arith in rw e
+
+module _ (log : Log) (t : ℕ) (next : Vector) where
+  -- the kinds from k on
+  unfoldable pub levelFrom : ℕ → List Stamped
+  levelFrom k = concat (map (levelKind log t next) (upFrom k (5 - k)))
+
+  pub level-all : level log t next ≡ levelFrom 1
+  unfolding level levelFrom
+  level-all = refl
+
+  pub level-turn : (st : State) (k : ℕ) → k < 5 → foldl step st (levelFrom k) ≡ foldl step (foldl step st (levelKind log t next k)) (levelFrom (k + 1))
+  unfolding levelFrom upFrom concat
+  level-turn st k h =
+      let e : 5 - k ≡ suc (5 - (k + 1)) = omega arith in
+      rw (e, ← add-one k) (foldl-append step st (levelKind log t next k) (levelFrom (k + 1)))
+
+  pub level-end : (st : State) (k : ℕ) → 5 ≤ k → foldl step st (levelFrom k) ≡ st
+  unfolding levelFrom upFrom concat
+  level-end st k h = let e : 5 - k ≡ 0 = omega arith in rw e
+
+module _ (log : Log) (cut : Vector) where
+  -- the levels from time t on
+  unfoldable pub levelsFrom : ℕ → Vector → List Stamped
+  levelsFrom t done = levels (2042 - t) log cut t done
+
+  pub levels-all : (done : Vector) → levels 2041 log cut 1 done ≡ levelsFrom 1 done
+  unfolding levelsFrom
+  levels-all done = refl
+
+  pub levels-turn : (st : State) (t : ℕ) (done : Vector) → t < 2042 → foldl step st (levelsFrom t done) ≡ foldl step (foldl step st (level log t (nextOf log cut done))) (levelsFrom (t + 1) (advanced done (nextOf log cut done)))
+  unfolding levelsFrom levels
+  levels-turn st t done h =
+      let e : 2042 - t ≡ suc (2042 - (t + 1)) = omega arith in
+      rw (e, ← add-one t) (foldl-append step st (level log t (nextOf log cut done)) (levelsFrom (t + 1) (advanced done (nextOf log cut done))))
+
+  pub levels-end : (st : State) (t : ℕ) (done : Vector) → 2042 ≤ t → foldl step st (levelsFrom t done) ≡ st
+  unfolding levelsFrom levels
+  levels-end st t done h = let e : 2042 - t ≡ 0 = omega arith in rw e
+
+---- a level where nothing is ready
+
+module _ (log : Log) (cut done : Vector) (eight : length done ≡ 8) (idle : within (nextOf log cut done) nothing ≡ true) where
+  idle-at : (s : ℕ) → 1 ≤ s → s ≤ 8 → countIn (nextOf log cut done) s ≡ 0
+  idle-at s l u = omega (arith, within-le (nextOf log cut done) nothing idle s l u, count-nothing s l u)
+
+  idle-level : (t : ℕ) → level log t (nextOf log cut done) ≡ []
+  unfolding level levelKind
+  idle-level t = concat-nothing (levelKind log t (nextOf log cut done)) 4 1 (λ k a b. concat-none (entry log t (nextOf log cut done) k) 8 (λ s l u. entry-zero log t (nextOf log cut done) k s (idle-at s l u)))
+
+  idle-done : advanced done (nextOf log cut done) ≡ done
+  unfolding advanced advancedAt
+  idle-done = map-replicas (advancedAt done (nextOf log cut done)) (countIn done) (λ s l u. rw (idle-at s l u)) ∙ vector-eta done eight
+
+  idle-levels : (n t : ℕ) → levels n log cut t done ≡ []
+  unfolding levels
+  idle-levels zero t = refl
+  idle-levels (suc n) t = rw (idle-level t, idle-done) (idle-levels n (suc t))
+
+  pub levels-idle : (st : State) (t : ℕ) → foldl step st (levelsFrom log cut t done) ≡ st
+  unfolding levelsFrom
+  levels-idle st t = rw (idle-levels (2042 - t) t)
+
+-- a file that holds a cut holds what is ready
+pub next-held : (w : ℕ) (f : List ℕ) (cut done : Vector) → Held w f cut → Held w f (nextOf (logOf w f) cut done)
+unfolding nextOf
+next-held w f cut done h = record {
+  wide = h .wide;
+  is-structural = h .is-structural;
+  each = λ s l u. rw (count-map (nextAt (logOf w f) cut done) s l u) (elim (decLt (countIn done s) (countIn cut s)) [
+    | yes y ↦ rw (next-some (logOf w f) cut done s y) (go (within (vectorOf (opAt (logOf w f) s (countIn done s + 1))) done) (omega (arith, h .each s l u)))
+    | no n ↦ rw (next-none (logOf w f) cut done s (omega arith)) (omega arith)
+  ]);
+}
+  where
+    go : {a m : ℕ} (b : Bool) → a ≤ m → cond b a 0 ≤ m
+    go true h = h
+    go false h = omega arith

@@ -1,0 +1,113 @@
+use crate::tree::below;
+use crate::tree::slot_of;
+use codec::word_at;
+use oplog::place;
+ghost use mathlib.Core.Path.{_≡_};
+ghost use mathlib.Core.Bool.{cond, _&&_};
+ghost use Prim.Native.Nat.{_<_};
+ghost use lib.ListN.{length, set};
+ghost use lib.Dec.{eqb};
+ghost use Rattle.rules.specs.Log.{logOf, opAt};
+ghost use Rattle.rules.specs.Replay.{step};
+ghost use Rattle.replay.specs.Tables.{tables, stampedAt, Sized, InFile, moves, hangs, outcomeBy};
+
+// The outcome of an op by its fields.
+fn outcome_of(
+    parents: &[u16],
+    placed: &[u16],
+    kind: u8,
+    node: u16,
+    parent: u16,
+    slot: usize,
+    time: u16,
+) -> u8
+    requires { ⌜ (length (now parents) ≡ 2041) × (node < 65535) × (slot < length (now placed)) ⌝ }
+    ensures { λ r. ⌜ r ≡ outcomeBy (now (parents .entry)) (now (placed .entry)) kind node parent slot time ⌝ }
+{
+    match kind {
+        3 | 4 => {
+            if placed[slot] == time {
+                return 2;
+            }
+            if below(parents, parent, node) {
+                return 3;
+            }
+            return 1;
+        }
+        1 | 2 => {
+            return 1;
+        }
+        0 | 5..=255 => {
+            return 1;
+        }
+    }
+}
+
+// Hangs the node of an applied add or move.
+fn hang(parents: &mut [u16], kind: u8, outcome: u8, slot: usize, parent: u16)
+    requires { ⌜ slot < length (now parents) ⌝ }
+    ensures { λ _. ⌜ now (parents .exit) ≡ cond (eqb outcome 1 && hangs kind) (set (now (parents .entry)) slot parent) (now (parents .entry)) ⌝ }
+{
+    if outcome != 1 {
+        return;
+    }
+    match kind {
+        1 | 3 | 4 => {
+            parents[slot] = parent;
+            return;
+        }
+        2 => {
+            return;
+        }
+        0 | 5..=255 => {
+            return;
+        }
+    }
+}
+
+// Notes the time of an applied move, so that a second move of this time finds its node placed.
+fn note_time(placed: &mut [u16], kind: u8, outcome: u8, slot: usize, time: u16)
+    requires { ⌜ slot < length (now placed) ⌝ }
+    ensures { λ _. ⌜ now (placed .exit) ≡ cond (eqb outcome 1 && moves kind) (set (now (placed .entry)) slot time) (now (placed .entry)) ⌝ }
+{
+    if outcome != 1 {
+        return;
+    }
+    match kind {
+        3 | 4 => {
+            placed[slot] = time;
+            return;
+        }
+        1 | 2 => {
+            return;
+        }
+        0 | 5..=255 => {
+            return;
+        }
+    }
+}
+
+// Applies the op number q of replica s, and notes its outcome.
+pub fn apply_op(
+    file: &[u8],
+    s: usize,
+    q: usize,
+    time: u16,
+    parents: &mut [u16],
+    outcomes: &mut [u8],
+    placed: &mut [u16],
+    width: usize,
+)
+    requires { ⌜ InFile width (now file) s q × Sized (now parents) (now outcomes) (now placed) ⌝ }
+    ensures { λ _. ⌜ tables (now (parents .exit)) (now (outcomes .exit)) (now (placed .exit)) ≡ step (tables (now (parents .entry)) (now (outcomes .entry)) (now (placed .entry))) (stampedAt time (opAt (logOf width (now (file .entry))) s q)) ⌝ }
+{
+    let at = place(file, s, q, width);
+    let kind = file[at];
+    let node = word_at(file, at + 2);
+    let parent = word_at(file, at + 4);
+    let slot = slot_of(node);
+    let outcome = outcome_of(parents, placed, kind, node, parent, slot, time);
+    hang(parents, kind, outcome, slot, parent);
+    note_time(placed, kind, outcome, slot, time);
+    outcomes[255 * (s - 1) + q] = outcome;
+}

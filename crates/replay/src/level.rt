@@ -1,0 +1,101 @@
+use crate::effect::apply_op;
+use crate::ready::advance;
+use crate::ready::next_ops;
+use codec::widen;
+use codec::within;
+use oplog::place;
+ghost use mathlib.Core.Path.{_≡_};
+ghost use mathlib.Core.List.{foldl};
+ghost use Prim.Native.Nat.{_≤_};
+ghost use Rattle.rules.specs.Log.{logOf};
+ghost use Rattle.rules.specs.Replay.{step};
+ghost use Rattle.order.specs.Levels.{entry, levelKind, level, levels, nothing};
+ghost use Rattle.replay.specs.Tables.{tables, Sized, Held};
+
+// Applies the op of a replica that is ready, if it is of this kind.
+fn replay_entry(
+    file: &[u8],
+    next: [u8; 8],
+    time: u16,
+    kind: u8,
+    s: usize,
+    parents: &mut [u16],
+    outcomes: &mut [u8],
+    placed: &mut [u16],
+    width: usize,
+)
+    requires { ⌜ Held width (now file) next × (1 ≤ s) × (s ≤ 8) × Sized (now parents) (now outcomes) (now placed) ⌝ }
+    ensures { λ _. ⌜ tables (now (parents .exit)) (now (outcomes .exit)) (now (placed .exit)) ≡ foldl step (tables (now (parents .entry)) (now (outcomes .entry)) (now (placed .entry))) (entry (logOf width (now (file .entry))) time next kind s) ⌝ }
+{
+    let q = widen(next[s - 1]);
+    if q == 0 {
+        return;
+    }
+    let at = place(file, s, q, width);
+    if file[at] != kind {
+        return;
+    }
+    apply_op(file, s, q, time, parents, outcomes, placed, width);
+}
+
+// The ops of a level and a kind, the higher replica first.
+fn replay_kind(
+    file: &[u8],
+    next: [u8; 8],
+    time: u16,
+    kind: u8,
+    parents: &mut [u16],
+    outcomes: &mut [u8],
+    placed: &mut [u16],
+    width: usize,
+)
+    requires { ⌜ Held width (now file) next × Sized (now parents) (now outcomes) (now placed) ⌝ }
+    ensures { λ _. ⌜ tables (now (parents .exit)) (now (outcomes .exit)) (now (placed .exit)) ≡ foldl step (tables (now (parents .entry)) (now (outcomes .entry)) (now (placed .entry))) (levelKind (logOf width (now (file .entry))) time next kind) ⌝ }
+{
+    for i in 0..8usize {
+        let s = 8 - i;
+        replay_entry(file, next, time, kind, s, parents, outcomes, placed, width);
+    }
+}
+
+// A level: adds, removes, upward moves, downward moves.
+fn replay_level(
+    file: &[u8],
+    next: [u8; 8],
+    time: u16,
+    parents: &mut [u16],
+    outcomes: &mut [u8],
+    placed: &mut [u16],
+    width: usize,
+)
+    requires { ⌜ Held width (now file) next × Sized (now parents) (now outcomes) (now placed) ⌝ }
+    ensures { λ _. ⌜ tables (now (parents .exit)) (now (outcomes .exit)) (now (placed .exit)) ≡ foldl step (tables (now (parents .entry)) (now (outcomes .entry)) (now (placed .entry))) (level (logOf width (now (file .entry))) time next) ⌝ }
+{
+    for kind in 1..5u8 {
+        replay_kind(file, next, time, kind, parents, outcomes, placed, width);
+    }
+}
+
+// Level after level, until nothing is ready.
+pub fn replay_levels(
+    file: &[u8],
+    cut: [u8; 8],
+    parents: &mut [u16],
+    outcomes: &mut [u8],
+    placed: &mut [u16],
+    width: usize,
+)
+    requires { ⌜ Held width (now file) cut × Sized (now parents) (now outcomes) (now placed) ⌝ }
+    ensures { λ _. ⌜ tables (now (parents .exit)) (now (outcomes .exit)) (now (placed .exit)) ≡ foldl step (tables (now (parents .entry)) (now (outcomes .entry)) (now (placed .entry))) (levels 2041 (logOf width (now (file .entry))) cut 1 nothing) ⌝ }
+{
+    let mut done = [0u8; 8];
+    for time in 1..2042u16 {
+        let next = next_ops(file, cut, done, width);
+        if within(next, [0u8; 8]) {
+            return;
+        }
+        replay_level(file, next, time, parents, outcomes, placed, width);
+        let after = advance(done, next);
+        done = after;
+    }
+}

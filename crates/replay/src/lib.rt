@@ -1,0 +1,13 @@
+// Replay (the paper's judging) of the ops within a cut of a log, level by level, to the parent
+// table and the outcome table; and climbs in a parent table.
+mod cut;
+mod effect;
+mod level;
+mod ready;
+mod tree;
+
+pub use cut::replay_all;
+pub use cut::replay_cut;
+pub use tree::below;
+pub use tree::depth_of;
+pub use tree::slot_of;

@@ -1,0 +1,16 @@
+-- `replica::soundness::is_sound` meets its contract. Assumes nothing.
+use borrow.Author.Needs.{needs}
+use Rattle.rules.specs.Sound.{sound}
+use Rattle.replica.proofs.soundness.is_sound.Statement.{statement}
+use Rattle.replica.proofs.soundness.is_sound.Tie as tie
+
+returns : tie.Need-returns
+unfolding sound
+returns c = c .structural .ensures
+
+pub is-sound-spec : {M : Type 1} → statement M
+is-sound-spec =
+    tie.close
+    (tie.spec
+    (λ c κs. search needs)
+    returns)

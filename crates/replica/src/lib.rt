@@ -1,0 +1,12 @@
+// The calls on a replica's log in a lent buffer. Every call takes any bytes, and a refused call
+// changes none of them.
+mod answer;
+mod delivering;
+mod making;
+mod soundness;
+
+pub use answer::Delivery;
+pub use answer::Made;
+pub use delivering::deliver;
+pub use making::make;
+pub use soundness::is_sound;
