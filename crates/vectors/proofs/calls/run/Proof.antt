@@ -1,0 +1,27 @@
+-- `vectors::calls::run` meets its contract. Assumes nothing.
+use mathlib.Core.Path.{sym}
+use native.Mathlib.Omega.{arith}
+use borrow.Author.Needs.{needs}
+use lib.Seq.{length-take-le}
+use Rattle.vectors.proofs.calls.run.Statement.{statement}
+use Rattle.vectors.proofs.calls.run.Tie as tie
+
+slice-aggregate-dispatch : tie.Need-slice-aggregate-dispatch
+slice-aggregate-dispatch c = sym (length-take-le _ _ (omega (arith, c .before .before .if2 .left)))
+
+pub run-spec : {M : Type 1} → statement M
+run-spec =
+    tie.close
+    (tie.spec
+    (λ c. search needs)
+    (λ c κs. search needs)
+    (λ c. search needs)
+    (λ c. search needs)
+    (λ c. search needs)
+    (λ c. search needs)
+    slice-aggregate-dispatch
+    (λ c κs. search needs)
+    (λ c. search needs)
+    (λ c κs. search needs)
+    (λ c. search needs)
+    (λ c. search needs))

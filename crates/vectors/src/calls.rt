@@ -1,0 +1,121 @@
+use crate::print::memory;
+use crate::print::number;
+use crate::print::text;
+use codec::Refusal;
+use codec::widen16;
+use codec::word_at;
+use replica::Delivery;
+use replica::Made;
+
+fn refused(why: Refusal) {
+    text(b"r ");
+    match why {
+        Refusal::Unsound => text(b"1"),
+        Refusal::Length => text(b"2"),
+        Refusal::Malformed => text(b"3"),
+        Refusal::Conflict => text(b"4"),
+        Refusal::Early => text(b"5"),
+        Refusal::NotClosed => text(b"6"),
+        Refusal::Unknown => text(b"7"),
+        Refusal::NoRoom => text(b"8"),
+        Refusal::Exhausted => text(b"9"),
+        Refusal::Cycle => text(b"10"),
+    }
+}
+
+fn accepted(n: usize) {
+    text(b"a ");
+    number(n);
+}
+
+fn make(buf: &mut [u8]) {
+    match replica::make(buf) {
+        Made::Accepted(end) => accepted(end),
+        Made::Refused(why) => refused(why),
+    }
+    memory(buf);
+}
+
+fn deliver(buf: &mut [u8], op: &[u8]) {
+    match replica::deliver(buf, op) {
+        Delivery::Accepted(end) => accepted(end),
+        Delivery::HadIt => text(b"h"),
+        Delivery::Refused(why) => refused(why),
+    }
+    memory(buf);
+}
+
+// Copies bytes to the front of the buffer, and answers their number.
+fn load(buf: &mut [u8], bytes: &[u8]) -> usize {
+    for i in 0..bytes.len() {
+        if buf.len() <= i {
+            return i;
+        }
+        buf[i] = bytes[i];
+    }
+    bytes.len()
+}
+
+fn fill(buf: &mut [u8], from: usize, to: usize) {
+    for i in from..to {
+        if buf.len() <= i {
+            return;
+        }
+        buf[i] = 165;
+    }
+}
+
+// Makes the call of a line on the lent buffer.
+fn dispatch(call: u8, line: &[u8], lent: &mut [u8]) {
+    if line.len() == 0 {
+        return;
+    }
+    match call {
+        1 => {
+            make(lent);
+            return;
+        }
+        2 => {
+            deliver(lent, &line[1..]);
+            return;
+        }
+        0 | 3..=255 => {
+            text(b"l");
+            memory(lent);
+            return;
+        }
+    }
+}
+
+// Runs a line on the first bytes of the buffer, and answers the buffer's length.
+pub fn run(line: &[u8], buf: &mut [u8], len: usize) -> usize {
+    if line.len() == 0 {
+        return len;
+    }
+    let next = resized(line, buf, len);
+    if buf.len() < next {
+        return 0;
+    }
+    dispatch(line[0], line, &mut buf[..next]);
+    text(b"\n");
+    next
+}
+
+// The buffer's length for a call; loading and resizing change it.
+fn resized(line: &[u8], buf: &mut [u8], len: usize) -> usize {
+    if line.len() == 0 {
+        return len;
+    }
+    if line[0] == 0 {
+        return load(buf, &line[1..]);
+    }
+    if line[0] == 10 {
+        if line.len() < 3 {
+            return len;
+        }
+        let next = widen16(word_at(line, 1));
+        fill(buf, len, next);
+        return next;
+    }
+    len
+}

@@ -1,0 +1,63 @@
+ghost use Prim.Native.Nat.{_<_};
+
+pub fn text(s: &[u8]) {
+    io::write_all(1, s);
+}
+
+pub fn number(n: usize) {
+    io::print_decimal(1, n as u64);
+}
+
+fn digit(n: u8) -> u8 {
+    let low = n % 16;
+    if low < 10 { 48 + low } else { 87 + low }
+}
+
+// The bytes in hexadecimal, of which there are at most 64.
+fn hex(bytes: &[u8]) {
+    let mut out = [0u8; 128];
+    let mut n: usize = 0;
+    for i in 0..bytes.len() {
+        if 126 < n {
+            return;
+        }
+        out[n] = digit(bytes[i] / 16);
+        out[n + 1] = digit(bytes[i]);
+        n += 2;
+    }
+    front(&out, n);
+}
+
+// Writes the first n bytes.
+pub fn front(bytes: &[u8], n: usize) {
+    if n <= bytes.len() {
+        io::write_all(1, &bytes[..n]);
+    }
+}
+
+// A digest of bytes, from a start on.
+fn digest(bytes: &[u8]) -> u64
+    ensures { λ r. ⌜ r < 4294967291 ⌝ }
+{
+    let mut h: u64 = 0;
+    for i in 0..bytes.len() {
+        h = (h * 257 + wide(bytes[i]) + 1) % 4294967291;
+    }
+    h
+}
+
+fn wide(b: u8) -> u64
+    ensures { λ r. ⌜ r < 256 ⌝ }
+{
+    b as u64
+}
+
+// Lent memory after a call: its digest, and its bytes if they are few.
+pub fn memory(bytes: &[u8]) {
+    text(b" ");
+    io::print_decimal(1, digest(bytes));
+    if bytes.len() <= 64 {
+        text(b" ");
+        hex(bytes);
+    }
+}
