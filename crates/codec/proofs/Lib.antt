@@ -1,2 +1,3 @@
 pub mod VectorLaws
 pub mod ReadLaws
+pub mod WriteLaws

@@ -9,6 +9,7 @@ pub use op::Read;
 pub use op::Refusal;
 pub use op::kind_fits;
 pub use op::read_op;
+pub use op::write_op;
 pub use vector::vector_at;
 pub use vector::within;
 pub use word::put_word;

@@ -4,7 +4,7 @@ use crate::word::word_at;
 ghost use mathlib.Core.Path.{_≡_};
 ghost use mathlib.Core.List.{_++_};
 ghost use Prim.Native.Nat.{_+_, _≤_};
-ghost use lib.ListN.{length, drop};
+ghost use lib.ListN.{length, take, drop};
 ghost use Rattle.rules.specs.Issue.{opBytes};
 ghost use Rattle.codec.specs.Read.{kindFits, readOf};
 
@@ -90,4 +90,26 @@ pub fn read_op(bytes: &[u8], width: usize) -> Read
         node,
         parent,
     })
+}
+
+// Writes an op of 14 bytes to the front of lent bytes.
+pub fn write_op(out: &mut [u8], kind: u8, replica: u8, node: u16, parent: u16, vector: [u8; 8])
+    requires { ⌜ 14 ≤ length (now out) ⌝ }
+    ensures { λ _. ⌜ now (out .exit) ≡ opBytes kind replica node parent vector ++ drop 14 (now (out .entry)) ⌝ }
+{
+    out[0] = kind;
+    out[1] = replica;
+    put_word(out, 2, node);
+    put_word(out, 4, parent);
+    put_vector(out, 6, vector);
+}
+
+// Stores a vector at a place.
+fn put_vector(out: &mut [u8], at: usize, vector: [u8; 8])
+    requires { ⌜ at + 8 ≤ length (now out) ⌝ }
+    ensures { λ _. ⌜ now (out .exit) ≡ take at (now (out .entry)) ++ (vector ++ drop (at + 8) (now (out .entry))) ⌝ }
+{
+    for i in 0..8 {
+        out[at + i] = vector[i];
+    }
 }

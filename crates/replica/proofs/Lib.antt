@@ -1,1 +1,2 @@
 pub mod DeliverCases
+pub mod JudgeCases

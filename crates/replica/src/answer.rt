@@ -15,3 +15,9 @@ pub enum Delivery {
     HadIt,
     Refused(Refusal),
 }
+
+// What judging answers.
+pub enum Judged {
+    Done,
+    Refused(Refusal),
+}

@@ -2,11 +2,15 @@
 // changes none of them.
 mod answer;
 mod delivering;
+mod judging;
 mod making;
 mod soundness;
 
 pub use answer::Delivery;
+pub use answer::Judged;
 pub use answer::Made;
 pub use delivering::deliver;
+pub use judging::judge;
 pub use making::make;
+pub use soundness::WIDTH;
 pub use soundness::is_sound;
