@@ -1,8 +1,4 @@
 -- The tests of an op against a log, as the code makes them. Assumes nothing.
----- known nodes
----- closed vectors
----- one op
----- the ops of a replica
 use mathlib.Core.Path.{_≡_, refl, sym, ap}
 use mathlib.Core.Bool.{Bool, true, false, _&&_, not}
 use mathlib.Core.List.{[]}
@@ -18,6 +14,8 @@ use Rattle.rules.specs.Op.{Op, Vector, replicaOf, countIn, seqOf, isReplica, ow
 use Rattle.codec.specs.Read.{kindFits}
 use Rattle.rules.proofs.BoolLaws.{passFrom, and-true, pass-all}
 use Rattle.oplog.specs.Spots.{namesBy}
+
+---- known nodes
 
 module _ (log : Log) (v : Vector) (n : ℕ) where
   pub known-low : n / 256 < 1 → known log v n ≡ false
@@ -62,6 +60,7 @@ module _ (log : Log) (v : Vector) (kind node parent own : ℕ) where
   unfolding namesBy
   names-move a b = rw (ne-eqb kind 1 a, ne-eqb kind 2 b)
 
+---- closed vectors
 
 module _ (log : Log) (v : Vector) (s : ℕ) where
   pub closed-zero : countIn v s ≡ 0 → closedAt log v s ≡ true
@@ -76,6 +75,7 @@ pub closed-all : (log : Log) (v : Vector) → closed log v ≡ passFrom (closedA
 unfolding closed
 closed-all log v = pass-all (closedAt log v)
 
+---- one op
 
 module _ (log : Log) (s q : ℕ) (r : Op) where
   pub sound-replica : (replicaOf r ≡ s → ⊥) → soundOp log s q r ≡ false
@@ -91,6 +91,7 @@ module _ (log : Log) (s q : ℕ) (r : Op) where
     unfolding soundOp seqOf ownCount wellFormed isReplica isRemove namesKnown isAdd nodeNumber namesBy
     sound-rest n l u h = rw (e, eq-eqb s s refl, n, eq-eqb q q refl, le-leb 1 s l, le-leb s 8 u, lt-ltb (countIn (vectorOf r) s) 255 (omega arith), and-true)
 
+---- the ops of a replica
 
 unfoldable pub opsFrom : Log → ℕ → ℕ → Bool
 opsFrom log s i = soundOps log s (i + 1) (drop i (opsOf log s))
@@ -106,4 +107,3 @@ ops-turn log s i h = let e : i + 1 - 1 ≡ i = omega arith in rw (e, drop-cons (
 pub ops-end : (log : Log) (s i : ℕ) → length (opsOf log s) ≤ i → opsFrom log s i ≡ true
 unfolding opsFrom soundOps
 ops-end log s i h = rw (drop-of-length-le (opsOf log s) h)
-

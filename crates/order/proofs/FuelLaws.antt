@@ -1,6 +1,4 @@
 -- The bounds in the definitions of paths and of the preorder do not matter: more gives the same. Assumes nothing.
--- n is j steps below the root
--- a climb with more steps than the depth
 use mathlib.Core.List.{List, map, _∷_, []}
 use Prim.Native.Nat.{ℕ, _<_, _+_, _≤_, suc, zero}
 use mathlib.Core.Path.{_≡_, ap, ap₂, sym, _∙_, refl}
@@ -24,6 +22,7 @@ use Rattle.order.proofs.LevelLaws.{Cut}
 use Rattle.order.proofs.GrowLaws.{Named, replay-reaches, known-reads}
 use Rattle.order.proofs.NodeLaws.{added-is}
 
+-- n is j steps below the root
 pub record Depth (parents : List ℕ) (j n : ℕ) : Type 0 where
   pub root : up parents j n ≡ 0
   pub first : (k : ℕ) → k < j → up parents k n ≡ 0 → ⊥
@@ -45,6 +44,7 @@ depth-child parents j n m e nz d = record { root = rw e (d .root); first = go }
     go zero h z = nz z
     go (suc k) h z = d .first k (omega arith) (rw e at z)
 
+-- a climb with more steps than the depth
 pub climb-enough : (parents : List ℕ) (j k i n : ℕ) → Depth parents j n → j < k → j < i → climb k parents n ≡ climb i parents n
 unfolding climb up
 climb-enough parents j zero i n d h l = absurd (not-suc-le-zero h)

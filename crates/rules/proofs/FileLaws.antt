@@ -218,7 +218,6 @@ pub length-file : (w : ℕ) (log : Log) → WideLog w log → length (fileOf w l
 unfolding fileOf countsOf endOf headerOf replicas upFrom concat headerEntry word
 length-file w log h = omega (arith, length-bodies w log h)
 
-
 pub file-end : (w : ℕ) (log : Log) (t : List ℕ) → length log ≡ 8 → fileEnd w (fileOf w log ++ t) ≡ endOf w (countsOf log)
 unfolding fileEnd
 file-end w log t e = ap (endOf w) (file-counts w log t e)

@@ -1,5 +1,4 @@
 -- Laws of soundness: callers use these and not what soundness is made of. Assumes nothing.
--- the file of a good log is sound
 use Prim.Native.Nat.{ℕ, _≤_}
 use mathlib.Core.List.{List, _++_}
 use mathlib.Core.Path.{_≡_, refl}
@@ -26,6 +25,7 @@ module _ (w : ℕ) (f : List ℕ) where
   pub sound-wide : sound w f ≡ true → WideLog w (logOf w f)
   sound-wide e = wide-logOf w f (sound-laid e .fits)
 
+-- the file of a good log is sound
 pub sound-file : (w : ℕ) (log : Log) (t : List ℕ) → GoodLog log → WideLog w log → sound w (fileOf w log ++ t) ≡ true
 unfolding sound
 sound-file w log t g wide = file-structural w log t g wide

@@ -1,11 +1,4 @@
 -- Laws of structural soundness: what it says of a file, and of every op of its log. Assumes nothing.
--- what a right layout says
--- an op that is its replica's number q and passes the tests for numbers 3, 5, 6 and 7
--- a log that a structurally sound file can hold
----- from bytes to facts and back
--- a structurally sound file is its log's
----- every op
----- the whole log as a cut
 use Prim.Native.Nat.{zero, ℕ, _≤_, _-_, _<_, _+_, suc}
 use mathlib.Core.List.{List, _∷_, _++_, append-assoc, []}
 use lib.ListN.{length, List·getD-map, take, getD, length-append}
@@ -21,12 +14,14 @@ use Rattle.rules.specs.Bytes.{byte, concat}
 use Rattle.rules.proofs.BoolLaws.{all-replicas, and-both, and-left, or-under, replica-passes, and-right}
 use Rattle.rules.proofs.FileLaws.{length-logOf, counts-logOf, counts-at, fileOf-logOf, header-bytes, WideLog, file-counts, header-starts, file-end, length-file, end-header, logOf-fileOf}
 
+-- what a right layout says
 pub record Laid (w : ℕ) (f : List ℕ) : Type 0 where
   pub header : 32 ≤ length f
   pub counts : (s : ℕ) → 1 ≤ s → s ≤ 8 → countAt f s ≤ 255
   pub starts : (s : ℕ) → 1 ≤ s → s ≤ 8 → startAt f s ≡ startOf w (headerCounts f) s
   pub fits : fileEnd w f ≤ length f
 
+-- an op that is its replica's number q and passes the tests for numbers 3, 5, 6 and 7
 pub record HeldOp (log : Log) (s q : ℕ) (r : Op) : Type 0 where
   pub origin : replicaOf r ≡ s
   pub number : seqOf r ≡ q
@@ -38,11 +33,13 @@ pub record HeldOp (log : Log) (s q : ℕ) (r : Op) : Type 0 where
 abbrev pub HeldOps : Log → Type 0
 HeldOps log = (s q : ℕ) → 1 ≤ s → s ≤ 8 → 1 ≤ q → q ≤ countIn (countsOf log) s → HeldOp log s q (opAt log s q)
 
+-- a log that a structurally sound file can hold
 pub record GoodLog (log : Log) : Type 0 where
   pub eight : length log ≡ 8
   pub counts : (s : ℕ) → 1 ≤ s → s ≤ 8 → countIn (countsOf log) s ≤ 255
   pub ops : (s : ℕ) → 1 ≤ s → s ≤ 8 → soundOps log s 1 (opsOf log s) ≡ true
 
+---- from bytes to facts and back
 
 module _ (w : ℕ) (f : List ℕ) where
   pub laid-reads : laid w f ≡ true → Laid w f
@@ -83,9 +80,11 @@ module _ (w : ℕ) (f : List ℕ) where
   unfolding structural soundLog
   structural-of h g = and-both (laid-of h) (all-replicas _ (g .ops))
 
+-- a structurally sound file is its log's
 pub structural-file : (w : ℕ) (f : List ℕ) → ((i : ℕ) → byte f i < 256) → laid w f ≡ true → take (fileEnd w f) f ≡ fileOf w (logOf w f)
 structural-file w f b e = let h = laid-reads w f e in fileOf-logOf w f (header-bytes w f b (h .starts) (h .header))
 
+---- every op
 
 pub count-held : (log : Log) (s : ℕ) → countIn (countsOf log) s ≡ length (opsOf log s)
 unfolding countIn countsOf opsOf
@@ -116,6 +115,7 @@ pub held-in : (log : Log) (v : Vector) → covered log v ≡ true → (s : ℕ) 
 unfolding covered within
 held-in log v c s l u = leb-true _ _ (replica-passes (λ t. leb (countIn v t) (countIn (countsOf log) t)) c s l u)
 
+---- the whole log as a cut
 
 pub counts-covered : (log : Log) → covered log (countsOf log) ≡ true
 unfolding covered within

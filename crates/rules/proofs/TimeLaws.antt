@@ -1,19 +1,16 @@
 -- The timestamp's equation: in a sound log the bound on the depth does not matter. Assumes nothing.
-use mathlib.Core.Path.{_≡_, refl, sym, ap, ap₂, _∙_, subst}
-use mathlib.Core.Bool.{Bool, true, false}
-use mathlib.Core.List.{List, [], _∷_, _++_, map, map-append}
-use Prim.Native.Nat.{ℕ, zero, suc, _+_, _*_, _-_, _≤_, _<_}
-use native.Mathlib.Nat.{le-refl, le-of-suc-le-suc, not-suc-le-zero}
+use mathlib.Core.Path.{_≡_, refl, ap, ap₂}
+use mathlib.Core.Bool.{true}
+use mathlib.Core.List.{List, [], _∷_, map, map-append}
+use Prim.Native.Nat.{ℕ, zero, suc, _+_, _-_, _≤_, _<_}
+use native.Mathlib.Nat.{le-refl, not-suc-le-zero}
 use native.Mathlib.Omega.{arith}
 use lib.ListN.{length, take, getD}
-use lib.Dec.{lit≤}
-use Rattle.rules.specs.Bytes.{upFrom, sum, greatest, concat}
+use Rattle.rules.specs.Bytes.{upFrom, greatest, concat}
 use Rattle.rules.specs.Op.{Op, Vector, replicas, countIn, vectorOf}
-use Rattle.rules.specs.Log.{Log, opsOf, opAt, countsOf, covered, closed}
-use Rattle.rules.specs.Tree.{slots}
+use Rattle.rules.specs.Log.{Log, opsOf, opAt, covered, closed}
 use Rattle.rules.specs.Replay.{opsWithin, timestampIn, timestamp}
-use Rattle.rules.proofs.StructureLaws.{held-in}
-use Rattle.rules.proofs.StructureLaws.{HeldOps}
+use Rattle.rules.proofs.StructureLaws.{held-in, HeldOps}
 use Rattle.rules.proofs.CausalLaws.{total, counted-less}
 
 map-take : (g h : Op → ℕ) (n : ℕ) (ops : List Op) → ((i : ℕ) → i < n → i < length ops → g (getD ops i []) ≡ h (getD ops i [])) → map g (take n ops) ≡ map h (take n ops)

@@ -113,6 +113,18 @@ p12 one two = three []
 unfoldable pub p12All : Log
 p12All = p12 (opBytes 3 1 258 0 (vector 4 0 0) ∷ []) (opBytes 4 2 258 260 (vector 4 0 0) ∷ [])
 
+-- siblings n, p and q by replica 1, and one move by each replica, of one context
+unfoldable pub clash : Op → Op → Op → Log
+clash one two three′ = three [] (siblings 1 (λ k. vector k 0 0) ++ (one ∷ [])) (two ∷ []) (three′ ∷ [])
+
+-- replica 3 puts p under n, replica 2 n under q, replica 1 n under p: outcome 2 comes before 3
+unfoldable pub clash2 : Log
+clash2 = clash (opBytes 4 1 257 258 (vector 3 0 0)) (opBytes 4 2 257 259 (vector 3 0 0)) (opBytes 4 3 258 257 (vector 3 0 0))
+
+-- replica 3 puts p under n, replica 2 n under p, replica 1 n under q: a move that was passed over has not placed its node
+unfoldable pub clash3 : Log
+clash3 = clash (opBytes 4 1 257 259 (vector 3 0 0)) (opBytes 4 2 257 258 (vector 3 0 0)) (opBytes 4 3 258 257 (vector 3 0 0))
+
 -- replicas 1 and 2 add, and replica 3, which has both adds, adds below the first: its timestamp is 2 and not 3
 unfoldable pub chain : Log
 chain = three [] (adds 1 1 0 (vector 0 0 0) ∷ []) (adds 2 1 0 (vector 0 0 0) ∷ []) (adds 3 1 257 (vector 1 1 0) ∷ [])
@@ -161,14 +173,16 @@ table =
     ∷ puts (p12 [] []) 1 (move 258 0) (opBytes 3 1 258 0 (vector 4 0 0))
     ∷ puts (p12 [] []) 2 (move 258 260) (opBytes 4 2 258 260 (vector 4 0 0))
     ∷ outcomes p12All (three [] (1 ∷ 1 ∷ 1 ∷ 1 ∷ 1 ∷ []) (2 ∷ []) [])
-    -- a timestamp is no count of ops
+    -- beside the paper's examples: clashing moves, and a timestamp that is no count of ops
+    ∷ outcomes clash2 (three [] (1 ∷ 1 ∷ 1 ∷ 2 ∷ []) (1 ∷ []) (1 ∷ []))
+    ∷ outcomes clash3 (three [] (1 ∷ 1 ∷ 1 ∷ 1 ∷ []) (3 ∷ []) (1 ∷ []))
     ∷ times chain (three [] (1 ∷ []) (1 ∷ []) (2 ∷ []))
     ∷ []
 
 -- every row of the table holds
 pub table-holds : AllHold table
-unfolding ofOps table p1 p1File p1Buffer emptyFile p10 p11 p11All p12 p12All chain require wordAt word upFrom downFrom sum greatest same concat all any filter isIn replicas isReplica countIn kindOf replicaOf nodeOf parentOf vectorOf ownCount seqOf nodeNumber isAdd isRemove isMove wellFormed emptyLog opsOf opAt countsOf append countAt startAt headerCounts startOf endOf fileEnd chunks chunksOf logOf headerEntry headerOf fileOf within covered closedAt closed nodeWithin known knownParent namesKnown soundOp soundOps soundLog soundHeader laid structural sound makeAnswer held heldAnswer admitAnswer deliverAnswer slot slotOf parentIn climb path depth atOrBelow opsWithin addedIn removedIn timestampIn timestamp stamp stamped ofReplica ofKind ofTime byTime ordered start outcomeSlot outcomeOf step replay parentsOf outcomesOf opBytes moveKind issued requestKnown requestClear issueAnswer nodes tombstone shown children preorder digits decimal line listingIn listingOf refusedLine outline
-table-holds = ((refl, refl), (refl, (refl, (refl, (refl, (refl, (refl, (refl, (refl, (refl, (refl, (refl, (refl, (refl, (refl, (refl, (refl, (refl, (refl, (refl, (refl, (refl, (refl, (refl, (refl, (refl, (refl, (refl, (refl, (refl, tt))))))))))))))))))))))))))))))
+unfolding ofOps table p1 p1File p1Buffer emptyFile p10 p11 p11All p12 p12All clash clash2 clash3 chain require wordAt word upFrom downFrom sum greatest same concat all any filter isIn replicas isReplica countIn kindOf replicaOf nodeOf parentOf vectorOf ownCount seqOf nodeNumber isAdd isRemove isMove wellFormed emptyLog opsOf opAt countsOf append countAt startAt headerCounts startOf endOf fileEnd chunks chunksOf logOf headerEntry headerOf fileOf within covered closedAt closed nodeWithin known knownParent namesKnown soundOp soundOps soundLog soundHeader laid structural sound makeAnswer held heldAnswer admitAnswer deliverAnswer slot slotOf parentIn climb path depth atOrBelow opsWithin addedIn removedIn timestampIn timestamp stamp stamped ofReplica ofKind ofTime byTime ordered start outcomeSlot outcomeOf step replay parentsOf outcomesOf opBytes moveKind issued requestKnown requestClear issueAnswer nodes tombstone shown children preorder digits decimal line listingIn listingOf refusedLine outline
+table-holds = ((refl, refl), (refl, (refl, (refl, (refl, (refl, (refl, (refl, (refl, (refl, (refl, (refl, (refl, (refl, (refl, (refl, (refl, (refl, (refl, (refl, (refl, (refl, (refl, (refl, (refl, (refl, (refl, (refl, (refl, (refl, (refl, (refl, tt))))))))))))))))))))))))))))))))
 
 -- what holds of all rows holds of each
 each : (xs : List Row) (d : Row) → AllHold xs → (k : ℕ) → k < length xs → Holds (getD xs k d)

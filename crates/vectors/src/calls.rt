@@ -1,10 +1,12 @@
 use crate::print::memory;
 use crate::print::number;
+use crate::print::numbers;
 use crate::print::text;
 use codec::Refusal;
 use codec::widen16;
 use codec::word_at;
 use replica::Delivery;
+use replica::Judged;
 use replica::Made;
 
 fn refused(why: Refusal) {
@@ -45,6 +47,37 @@ fn deliver(buf: &mut [u8], op: &[u8]) {
     memory(buf);
 }
 
+fn judge_into(file: &[u8], parents: &mut [u16], outcomes: &mut [u8]) {
+    match replica::judge(file, parents, outcomes) {
+        Judged::Done => text(b"d"),
+        Judged::Refused(why) => refused(why),
+    }
+    memory(file);
+    numbers(parents);
+    memory(outcomes);
+}
+
+fn judge_parts(file: &[u8], parents: &mut [u16], outcomes: &mut [u8], n: usize, m: usize) {
+    if parents.len() < n {
+        return;
+    }
+    if outcomes.len() < m {
+        return;
+    }
+    judge_into(file, &mut parents[..n], &mut outcomes[..m]);
+}
+
+fn judge(file: &[u8], line: &[u8]) {
+    if line.len() < 5 {
+        return;
+    }
+    let mut parents = [61166u16; 2100];
+    let mut outcomes = [238u8; 2100];
+    let n = widen16(word_at(line, 1));
+    let m = widen16(word_at(line, 3));
+    judge_parts(file, &mut parents, &mut outcomes, n, m);
+}
+
 // Copies bytes to the front of the buffer, and answers their number.
 fn load(buf: &mut [u8], bytes: &[u8]) -> usize {
     for i in 0..bytes.len() {
@@ -79,7 +112,11 @@ fn dispatch(call: u8, line: &[u8], lent: &mut [u8]) {
             deliver(lent, &line[1..]);
             return;
         }
-        0 | 3..=255 => {
+        3 => {
+            judge(lent, line);
+            return;
+        }
+        0 | 4..=255 => {
             text(b"l");
             memory(lent);
             return;

@@ -35,13 +35,13 @@ pub fn front(bytes: &[u8], n: usize) {
     }
 }
 
-// A digest of bytes, from a start on.
+// A digest of bytes.
 fn digest(bytes: &[u8]) -> u64
     ensures { λ r. ⌜ r < 4294967291 ⌝ }
 {
     let mut h: u64 = 0;
     for i in 0..bytes.len() {
-        h = (h * 257 + wide(bytes[i]) + 1) % 4294967291;
+        h = mixed(h, wide(bytes[i]));
     }
     h
 }
@@ -59,5 +59,55 @@ pub fn memory(bytes: &[u8]) {
     if bytes.len() <= 64 {
         text(b" ");
         hex(bytes);
+    }
+}
+
+// A digest step for one byte.
+fn mixed(h: u64, b: u64) -> u64
+    requires { ⌜ (h < 4294967291) × (b < 256) ⌝ }
+    ensures { λ r. ⌜ r < 4294967291 ⌝ }
+{
+    (h * 257 + b + 1) % 4294967291
+}
+
+fn high(n: u16) -> u64
+    ensures { λ r. ⌜ r < 256 ⌝ }
+{
+    (n / 256) as u64
+}
+
+fn low(n: u16) -> u64
+    ensures { λ r. ⌜ r < 256 ⌝ }
+{
+    (n % 256) as u64
+}
+
+// The digest of two-byte numbers, high byte first.
+fn digest_words(words: &[u16]) -> u64 {
+    let mut h: u64 = 0;
+    for i in 0..words.len() {
+        h = mixed(mixed(h, high(words[i])), low(words[i]));
+    }
+    h
+}
+
+fn word(n: u16) {
+    let bytes = [(n / 256) as u8, (n % 256) as u8];
+    hex(&bytes);
+}
+
+// Lent two-byte numbers after a call, as `memory`.
+pub fn numbers(words: &[u16]) {
+    text(b" ");
+    io::print_decimal(1, digest_words(words));
+    if words.len() <= 32 {
+        text(b" ");
+        each_word(words);
+    }
+}
+
+fn each_word(words: &[u16]) {
+    for i in 0..words.len() {
+        word(words[i]);
     }
 }
