@@ -1,4 +1,5 @@
 pub mod LevelLaws
+pub mod LastLaws
 pub mod GrowLaws
 pub mod NodeLaws
 pub mod DepthLaws
