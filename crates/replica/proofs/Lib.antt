@@ -1,2 +1,3 @@
 pub mod DeliverCases
+pub mod IssueCases
 pub mod JudgeCases

@@ -16,8 +16,21 @@ pub enum Delivery {
     Refused(Refusal),
 }
 
+// What issuing answers.
+pub enum Issue {
+    // The new file end.
+    Accepted(usize),
+    Refused(Refusal),
+}
+
 // What judging answers.
 pub enum Judged {
     Done,
+    Refused(Refusal),
+}
+
+// The tests that every issue makes first: all passed, or the first that failed.
+pub enum Gate {
+    Open,
     Refused(Refusal),
 }

@@ -3,9 +3,11 @@ use crate::print::number;
 use crate::print::numbers;
 use crate::print::text;
 use codec::Refusal;
+use codec::widen;
 use codec::widen16;
 use codec::word_at;
 use replica::Delivery;
+use replica::Issue;
 use replica::Judged;
 use replica::Made;
 
@@ -45,6 +47,65 @@ fn deliver(buf: &mut [u8], op: &[u8]) {
         Delivery::Refused(why) => refused(why),
     }
     memory(buf);
+}
+
+fn issued(issue: Issue, buf: &[u8], out: &[u8]) {
+    match issue {
+        Issue::Accepted(end) => accepted(end),
+        Issue::Refused(why) => refused(why),
+    }
+    memory(buf);
+    memory(out);
+}
+
+// An issue of a line on memory lent for the op.
+fn issue_into(buf: &mut [u8], line: &[u8], out: &mut [u8]) {
+    if line.len() < 5 {
+        return;
+    }
+    let replica = line[1];
+    let first = word_at(line, 2);
+    let call = line[0];
+    match call {
+        4 => {
+            issued(replica::issue_add(buf, replica, first, out), buf, out);
+            return;
+        }
+        5 => {
+            issued(replica::issue_remove(buf, replica, first, out), buf, out);
+            return;
+        }
+        0..=3 | 6..=255 => {
+            move_into(buf, line, out);
+            return;
+        }
+    }
+}
+
+fn move_into(buf: &mut [u8], line: &[u8], out: &mut [u8]) {
+    if line.len() < 7 {
+        return;
+    }
+    let node = word_at(line, 2);
+    let parent = word_at(line, 4);
+    issued(replica::issue_move(buf, line[1], node, parent, out), buf, out);
+}
+
+fn issue_part(buf: &mut [u8], line: &[u8], out: &mut [u8], n: usize) {
+    if out.len() < n {
+        return;
+    }
+    issue_into(buf, line, &mut out[..n]);
+}
+
+// The last byte of the line is the length of the memory lent for the op.
+fn issue(buf: &mut [u8], line: &[u8]) {
+    if line.len() == 0 {
+        return;
+    }
+    let mut out = [238u8; 64];
+    let n = widen(line[line.len() - 1]);
+    issue_part(buf, line, &mut out, n);
 }
 
 fn judge_into(file: &[u8], parents: &mut [u16], outcomes: &mut [u8]) {
@@ -116,7 +177,11 @@ fn dispatch(call: u8, line: &[u8], lent: &mut [u8]) {
             judge(lent, line);
             return;
         }
-        0 | 4..=255 => {
+        4..=6 => {
+            issue(lent, line);
+            return;
+        }
+        0 | 7..=255 => {
             text(b"l");
             memory(lent);
             return;
