@@ -88,7 +88,11 @@ fn move_into(buf: &mut [u8], line: &[u8], out: &mut [u8]) {
     }
     let node = word_at(line, 2);
     let parent = word_at(line, 4);
-    issued(replica::issue_move(buf, line[1], node, parent, out), buf, out);
+    issued(
+        replica::issue_move(buf, line[1], node, parent, out),
+        buf,
+        out,
+    );
 }
 
 fn issue_part(buf: &mut [u8], line: &[u8], out: &mut [u8], n: usize) {
