@@ -157,7 +157,3 @@ standing-own x = rw (take-append-drop (fileEnd width (x .buffer)) (x .buffer))
 pub kept-filed : (x : Site) → Kept x → x .buffer ≡ filed (x .held) (x .buffer)
 unfolding filed
 kept-filed x k = rw (kept-arrange x k, kept-end x k) (k .front)
-
--- after every list the file is, to its end, the table and bodies of the held ops
-pub list-file : (f : List ℕ) (calls : List Call) → 32 ≤ length f → run f calls .buffer ≡ filed (run f calls .held) (run f calls .buffer)
-list-file f calls h = kept-filed (run f calls) (kept-run f calls h)

@@ -84,7 +84,7 @@ by-time-more xs n h =
     let past : concat (map (ofTime xs) (upFrom (1 + g) (n - g))) ≡ [] = concat-nothing (ofTime xs) (n - g) (1 + g) (λ t a b. time-past xs t (omega arith)) in
     rw (e, upFrom-add 1 g (n - g), map-append, concat-append, past, append-nil)
 
-stamped-times : (log : Log) (rs : List Op) → map (λ (x : Stamped). x .time) (map (stamp log) rs) ≡ map (timestamp log) rs
+pub stamped-times : (log : Log) (rs : List Op) → map (λ (x : Stamped). x .time) (map (stamp log) rs) ≡ map (timestamp log) rs
 unfolding stamp
 stamped-times log [] = refl
 stamped-times log (r ∷ rs) = ap (_∷_ (timestamp log r)) (stamped-times log rs)
@@ -256,18 +256,6 @@ module _ (log : Log) (good : GoodLog log) where
               | no nz ↦ same-time i h nz e
             ])) ∙ rw (next-count s l u, x .0))
             (status s l u)
-
-      -- (2) an op of the cut has time t exactly if it is its replica's next and is ready
-      pub at-level : (s q : ℕ) → 1 ≤ s → s ≤ 8 → 1 ≤ q → q ≤ countIn cut s → time-of s q ≡ t → (q ≡ countIn done s + 1) × (ready log cut done s ≡ true)
-      at-level s q l u lq uq e = elim (ℕ-discrete q (countIn done s + 1)) [
-        | yes z ↦ (z, ⊎-elim (λ x. x .0) (λ x. absurd (omega (arith, x .1 (omega arith), ap (time-of s) z))) (status s l u))
-        | no nz ↦
-            let k : q ≡ q - 1 + 1 = omega arith in
-            absurd (same-time 0 s l u (q - 1) (omega arith) (λ z. nz (omega arith)) (rw k at e))
-      ]
-
-      pub level-at : (s : ℕ) → 1 ≤ s → s ≤ 8 → ready log cut done s ≡ true → (countIn done s + 1 ≤ countIn cut s) × (time-of s (countIn done s + 1) ≡ t)
-      level-at s l u e = ⊎-elim (λ x. (omega (arith, x .1), x .2)) (λ x. let z : _≡_ {A = ℕ} 0 1 = cc in absurd (omega arith)) (status s l u)
 
       one-kind : (k : ℕ) → ofKind (stamped log cut) t k ≡ levelKind log t (nextOf log cut done) k
       unfolding ofKind levelKind

@@ -1,4 +1,1 @@
-// Laws only: see specs/ and proofs/. A crate needs a function.
-pub fn identity(x: u8) -> u8 {
-    x
-}
+// Laws only: see specs/ and proofs/.

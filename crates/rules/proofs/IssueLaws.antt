@@ -27,22 +27,22 @@ use Rattle.rules.proofs.SoundLaws.{sound-good}
 ---- the fields of an op's bytes
 
 module _ (k s n p : ℕ) (v : Vector) where
-  bytes-node : nodeOf (opBytes k s n p v) ≡ n
+  pub bytes-node : nodeOf (opBytes k s n p v) ≡ n
   unfolding nodeOf wordAt opBytes word
   bytes-node = div-add-mod' n 256
 
-  bytes-parent : parentOf (opBytes k s n p v) ≡ p
+  pub bytes-parent : parentOf (opBytes k s n p v) ≡ p
   unfolding parentOf wordAt opBytes word
   bytes-parent = div-add-mod' p 256
 
-  bytes-vector : length v ≡ 8 → vectorOf (opBytes k s n p v) ≡ v
+  pub bytes-vector : length v ≡ 8 → vectorOf (opBytes k s n p v) ≡ v
   unfolding vectorOf opBytes word
   bytes-vector e = take-all 8 v (omega arith)
 
 ---- an op with the held counts as its vector
 
 module _ (log : Log) (g : GoodLog log) where
-  counts-eight : length (countsOf log) ≡ 8
+  pub counts-eight : length (countsOf log) ≡ 8
   unfolding countsOf
   counts-eight = length-map log length ∙ g .eight
 

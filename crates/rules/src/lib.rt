@@ -1,4 +1,1 @@
-// Definitions and laws only: see specs/ and proofs/. A crate needs a function.
-pub fn identity(x: u8) -> u8 {
-    x
-}
+// Definitions and laws only: see specs/ and proofs/.
