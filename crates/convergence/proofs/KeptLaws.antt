@@ -19,12 +19,12 @@ use Rattle.rules.specs.Answer.{Answer, refused, hadIt, accepted, require, ifAcc
 use Rattle.rules.proofs.BoolLaws.{never, replica-cases, fails}
 use Rattle.rules.proofs.DeliverLaws.{Admitted, admitted, appended-log, appended-end, appended-sound, wide-new, end-new}
 use Rattle.rules.proofs.IssueLaws.{issue-admitted}
-use Rattle.rules.proofs.AppendLaws.{in-range, own-next}
+use Rattle.rules.proofs.AppendLaws.{in-range, own-next, seq-positive}
 use Rattle.rules.proofs.FileLaws.{length-logOf, counts-logOf, length-file, WideLog, logOf-fileOf, file-end}
 use Rattle.rules.proofs.StructureLaws.{GoodLog, HeldOps, good-ops}
 use Rattle.rules.proofs.SoundLaws.{sound-good, good-empty, sound-laid, wide-empty, sound-file, sound-wide}
 use Rattle.convergence.proofs.HasLaws.{once-last}
-use Rattle.convergence.proofs.TrackLaws.{Tracks, seq-first, tracks-append, arrange-log}
+use Rattle.convergence.proofs.TrackLaws.{Tracks, tracks-append, arrange-log}
 
 abbrev pub logIn : Site → Log
 logIn x = logOf width (x .buffer)
@@ -101,7 +101,7 @@ empty-tracks : Tracks emptyLog []
 unfolding has any
 empty-tracks = record {
   inside = λ r e. never e;
-  outside = λ r i. absurd (omega (arith, i .here, empty-count (replicaOf r) (i .low) (i .high), seq-first r));
+  outside = λ r i. absurd (omega (arith, i .here, empty-count (replicaOf r) (i .low) (i .high), seq-positive r));
 }
 
 empty-once : (r : Op) → times [] r ≤ 1

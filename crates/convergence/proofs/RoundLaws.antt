@@ -18,7 +18,7 @@ use Rattle.rules.specs.Exchange.{Site, answer, has, Side, left, right, other, i
 use Rattle.rules.specs.Converges.{expected}
 use Rattle.rules.specs.Answer.{Answer, refused, hadIt, accepted, ifAccepted, done}
 use Rattle.rules.proofs.BoolLaws.{never, and-left, and-right, and-both, or-cases}
-use Rattle.rules.proofs.AppendLaws.{Extends, in-range, own-next}
+use Rattle.rules.proofs.AppendLaws.{Extends, in-range, own-next, seq-positive}
 use Rattle.rules.proofs.DeliverLaws.{Admitted, admitted, appended-log, appended-end, appended-length}
 use Rattle.rules.proofs.OfferLaws.{Agree, Offered, early, offered-in-full, had, taken}
 use Rattle.rules.proofs.CausalLaws.{Missing, total, some-ready}
@@ -26,7 +26,7 @@ use Rattle.rules.proofs.FileLaws.{length-logOf, WideLog}
 use Rattle.rules.proofs.ListLaws.{same-refl, same-eq}
 use Rattle.rules.proofs.StructureLaws.{HeldOp, GoodLog, HeldOps}
 use Rattle.convergence.proofs.HasLaws.{has-old, times-some, onlyIn-less, onlyIn-same, some-onlyIn}
-use Rattle.convergence.proofs.TrackLaws.{OpIn, in-more, append-within, seq-first, op-in}
+use Rattle.convergence.proofs.TrackLaws.{OpIn, in-more, append-within, op-in}
 use Rattle.convergence.proofs.KeptLaws.{logIn, Kept, kept-ops, kept-grown, grown-past, grown-new, kept-good}
 use Rattle.convergence.proofs.SideLaws.{both, side-self, side-other, side-eq, missing-from, delivered, offered-to, offered-other, offered-same, answers-append, after-append, acceptedBy-append, acceptances-append}
 
@@ -83,7 +83,7 @@ module _ (u : Log) (gu : GoodLog u) (wu : WideLog width u) (base : Side → List
   offer-answer d x s r i =
       let agree : Agree u (logIn x) = λ t q l h lq uq vq. sym (s .inside .ops t q l h lq vq) in
       let room : 28592 ≤ length (x .buffer) = omega (arith, s .size, big d) in
-      rw (i .there) at (offered-in-full width u gu wu (x .buffer) (s .kept .is-sound) agree (replicaOf r) (seqOf r) (i .low) (i .high) (seq-first r) (i .here) room)
+      rw (i .there) at (offered-in-full width u gu wu (x .buffer) (s .kept .is-sound) agree (replicaOf r) (seqOf r) (i .low) (i .high) (seq-positive r) (i .here) room)
 
   stands-grown : (d : Side) (x : Site) → Stands u (base d) x → (r : Op) → OpIn u r → (n : ℕ) → Admitted width (x .buffer) r n → Stands u (base d) (record { buffer = appended width (x .buffer) r; held = x .held ++ (r ∷ []) })
   stands-grown d x s r i n h =
@@ -171,14 +171,14 @@ module _ (u : Log) (gu : GoodLog u) (wu : WideLog width u) (base : Side → List
         record {
           low = i .low;
           high = i .high;
-          first = seq-first r;
+          first = seq-positive r;
           here = i .here;
           not-there = elim (decLe (seqOf r) (countIn (countsOf (logIn (p d))) (replicaOf r))) [
             | yes l ↦ never (sym b ∙ s d .kept .tracks .outside r (record {
               low = i .low;
               high = i .high;
               here = l;
-              there = sym (s d .inside .ops (replicaOf r) (seqOf r) (i .low) (i .high) (seq-first r) l) ∙ j .there;
+              there = sym (s d .inside .ops (replicaOf r) (seqOf r) (i .low) (i .high) (seq-positive r) l) ∙ j .there;
             }))
             | no nl ↦ omega arith
           ];

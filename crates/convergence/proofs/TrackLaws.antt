@@ -16,7 +16,7 @@ use Rattle.rules.specs.Op.{Op, countIn, replicaOf, ownCount, seqOf}
 use Rattle.rules.specs.Log.{Log, opsOf, opAt, countsOf, append}
 use Rattle.rules.specs.Exchange.{has, opNumbered, inOrder, arrange}
 use Rattle.rules.proofs.BoolLaws.{never, and-left, and-right, and-both, map-replicas, fails, or-cases}
-use Rattle.rules.proofs.AppendLaws.{Extends, append-extends, ops-same, ops-other}
+use Rattle.rules.proofs.AppendLaws.{Extends, append-extends, ops-same, ops-other, seq-positive}
 use Rattle.rules.proofs.StructureLaws.{count-held, HeldOps}
 use Rattle.rules.proofs.ListLaws.{same-eq}
 use Rattle.convergence.proofs.HasLaws.{has-head, has-tail, has-last, has-new, has-old}
@@ -29,16 +29,12 @@ pub record OpIn (log : Log) (r : Op) : Type 0 where
   pub here : seqOf r ≤ countIn (countsOf log) (replicaOf r)
   pub there : opAt log (replicaOf r) (seqOf r) ≡ r
 
-pub seq-first : (r : Op) → 1 ≤ seqOf r
-unfolding seqOf
-seq-first r = omega arith
-
 pub in-more : (log more : Log) → Extends log more → (r : Op) → OpIn log r → OpIn more r
 in-more log more x r h = record {
   low = h .low;
   high = h .high;
   here = omega (arith, h .here, x .counts (replicaOf r) (h .low) (h .high));
-  there = x .ops (replicaOf r) (seqOf r) (h .low) (h .high) (seq-first r) (h .here) ∙ h .there;
+  there = x .ops (replicaOf r) (seqOf r) (h .low) (h .high) (seq-positive r) (h .here) ∙ h .there;
 }
 
 -- the ops of the list are those of the log
@@ -85,7 +81,7 @@ module _ (log : Log) (r : Op) (eight : length log ≡ 8) (lo : 1 ≤ replicaOf r
         low = h .low;
         high = h .high;
         here = l;
-        there = sym (append-extends log r eight lo hi .ops (replicaOf x) (seqOf x) (h .low) (h .high) (seq-first x) l) ∙ h .there;
+        there = sym (append-extends log r eight lo hi .ops (replicaOf x) (seqOf x) (h .low) (h .high) (seq-positive x) l) ∙ h .there;
       }
 
       last : replicaOf x ≡ replicaOf r → (seqOf x ≤ countIn (countsOf log) (replicaOf x) → ⊥) → x ≡ r
