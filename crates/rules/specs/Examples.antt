@@ -15,7 +15,7 @@ use Rattle.rules.specs.Tree.{slot, slotOf, parentIn, climb, path, depth,
 use Rattle.rules.specs.Replay.{opsWithin, addedIn, removedIn, timestampIn, timestamp, stamp, stamped, ofReplica, ofKind, ofTime, byTime, ordered, start, outcomeSlot, outcomeOf, step, replay, parentsOf, outcomesOf}
 use Rattle.rules.specs.Issue.{Request, add, remove, move, opBytes, moveKind, issued, requestKnown, requestClear, issueAnswer}
 use Rattle.rules.specs.Views.{nodes, tombstone, shown}
-use Rattle.rules.specs.Listing.{children, preorder, digits, decimal, line, listingIn, listingOf, refusedLine, outline}
+use Rattle.rules.specs.Listing.{children, preorder, digits, decimal, lineOf, line, listingIn, listingOf, refusedLine, outline}
 
 -- what a function says of each op of a log, replica by replica
 unfoldable pub ofOps : (ℕ → ℕ → ℕ) → Log → List (List ℕ)
@@ -181,7 +181,7 @@ table =
 
 -- every row of the table holds
 pub table-holds : AllHold table
-unfolding ofOps table p1 p1File p1Buffer emptyFile p10 p11 p11All p12 p12All clash clash2 clash3 chain require wordAt word upFrom downFrom sum greatest same concat all any filter isIn replicas isReplica countIn kindOf replicaOf nodeOf parentOf vectorOf ownCount seqOf nodeNumber isAdd isRemove isMove wellFormed emptyLog opsOf opAt countsOf append countAt startAt headerCounts startOf endOf fileEnd chunks chunksOf logOf headerEntry headerOf fileOf within covered closedAt closed nodeWithin known knownParent namesKnown soundOp soundOps soundLog soundHeader laid structural sound makeAnswer held heldAnswer admitAnswer deliverAnswer slot slotOf parentIn climb path depth atOrBelow opsWithin addedIn removedIn timestampIn timestamp stamp stamped ofReplica ofKind ofTime byTime ordered start outcomeSlot outcomeOf step replay parentsOf outcomesOf opBytes moveKind issued requestKnown requestClear issueAnswer nodes tombstone shown children preorder digits decimal line listingIn listingOf refusedLine outline
+unfolding ofOps table p1 p1File p1Buffer emptyFile p10 p11 p11All p12 p12All clash clash2 clash3 chain require wordAt word upFrom downFrom sum greatest same concat all any filter isIn replicas isReplica countIn kindOf replicaOf nodeOf parentOf vectorOf ownCount seqOf nodeNumber isAdd isRemove isMove wellFormed emptyLog opsOf opAt countsOf append countAt startAt headerCounts startOf endOf fileEnd chunks chunksOf logOf headerEntry headerOf fileOf within covered closedAt closed nodeWithin known knownParent namesKnown soundOp soundOps soundLog soundHeader laid structural sound makeAnswer held heldAnswer admitAnswer deliverAnswer slot slotOf parentIn climb path depth atOrBelow opsWithin addedIn removedIn timestampIn timestamp stamp stamped ofReplica ofKind ofTime byTime ordered start outcomeSlot outcomeOf step replay parentsOf outcomesOf opBytes moveKind issued requestKnown requestClear issueAnswer nodes tombstone shown children preorder digits decimal lineOf line listingIn listingOf refusedLine outline
 table-holds = ((refl, refl), (refl, (refl, (refl, (refl, (refl, (refl, (refl, (refl, (refl, (refl, (refl, (refl, (refl, (refl, (refl, (refl, (refl, (refl, (refl, (refl, (refl, (refl, (refl, (refl, (refl, (refl, (refl, (refl, (refl, (refl, (refl, tt))))))))))))))))))))))))))))))))
 
 -- what holds of all rows holds of each

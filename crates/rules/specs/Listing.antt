@@ -30,9 +30,11 @@ unfoldable pub decimal : ℕ → List ℕ
 decimal n = digits 5 n
 
 -- "depth, space, node number, space, k or r, line feed"
+unfoldable pub lineOf : (depth node : ℕ) (removed : Bool) → List ℕ
+lineOf d n removed = decimal d ++ (32 ∷ (decimal n ++ (32 ∷ cond removed 114 107 ∷ 10 ∷ [])))
+
 unfoldable pub line : Log → List ℕ → ℕ → List ℕ
-line log parents n =
-    decimal (depth parents n) ++ (32 ∷ (decimal n ++ (32 ∷ cond (tombstone log n) 114 107 ∷ 10 ∷ [])))
+line log parents n = lineOf (depth parents n) n (tombstone log n)
 
 unfoldable pub listingIn : View → Log → List ℕ → List ℕ
 listingIn view log parents = concat (map (line log parents) (filter (shown view log parents) (preorder slots log parents 0)))
