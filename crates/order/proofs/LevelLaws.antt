@@ -76,7 +76,7 @@ time-past : (xs : List Stamped) (t : ℕ) → greatest (map (λ (x : Stamped). x
 unfolding ofTime ofKind
 time-past xs t h = concat-nothing (ofKind xs t) 4 1 (λ k a b. concat-none (ofReplica xs t k) 8 (λ s l u. filter-past xs t k s h))
 
-by-time-more : (xs : List Stamped) (n : ℕ) → greatest (map (λ (x : Stamped). x .time) xs) ≤ n → byTime xs ≡ concat (map (ofTime xs) (upFrom 1 n))
+pub by-time-more : (xs : List Stamped) (n : ℕ) → greatest (map (λ (x : Stamped). x .time) xs) ≤ n → byTime xs ≡ concat (map (ofTime xs) (upFrom 1 n))
 unfolding byTime
 by-time-more xs n h =
     let g : ℕ = greatest (map (λ (x : Stamped). x .time) xs) in
@@ -88,6 +88,10 @@ pub stamped-times : (log : Log) (rs : List Op) → map (λ (x : Stamped). x .tim
 unfolding stamp
 stamped-times log [] = refl
 stamped-times log (r ∷ rs) = ap (_∷_ (timestamp log r)) (stamped-times log rs)
+
+-- the test of a time, kind and replica
+abbrev pub matches : (t k s : ℕ) → Stamped → Bool
+matches t k s x = eqb (x .time) t && eqb (kindOf (x .op)) k && eqb (replicaOf (x .op)) s
 
 -- what is asked of a cut: its ops are held, and it is closed
 pub record Cut (log : Log) (cut : Vector) : Type 0 where
@@ -102,7 +106,7 @@ module _ (log : Log) (good : GoodLog log) where
   vec s q = vectorOf (opAt log s q)
 
   module _ (s q : ℕ) (l : 1 ≤ s) (u : s ≤ 8) (lq : 1 ≤ q) (uq : q ≤ countIn (countsOf log) s) where
-    equation : time-of s q ≡ 1 + greatest (map (timestamp log) (opsWithin log (vec s q)))
+    pub equation : time-of s q ≡ 1 + greatest (map (timestamp log) (opsWithin log (vec s q)))
     equation =
         let x = good-ops good s q l u lq uq in
         timestamp-equation log (good-ops good) (opAt log s q) (x .is-covered) (x .is-closed) (total-small (vec s q) (λ r a b. omega (arith, held-in log (vec s q) (x .is-covered) r a b, good .counts r a b)))
@@ -138,6 +142,36 @@ module _ (log : Log) (good : GoodLog log) where
 
     held-cut : (s : ℕ) → 1 ≤ s → s ≤ 8 → countIn cut s ≤ countIn (countsOf log) s
     held-cut = held-in log cut (is .is-covered)
+
+    ---- the ops of a time, kind and replica
+
+    abbrev part : ℕ → List Op
+    part r = take (countIn cut r) (opsOf log r)
+
+    -- what is known of the op at place i
+    at-place : (r i : ℕ) → 1 ≤ r → r ≤ 8 → i < countIn cut r → (replicaOf (getD (opsOf log r) i []) ≡ r) × (timestamp log (getD (opsOf log r) i []) ≡ time-of r (i + 1))
+    unfolding opAt
+    at-place r i a b h =
+        let e : i + 1 - 1 ≡ i = omega arith in
+        let x = good-ops good r (i + 1) a b (omega arith) (omega (arith, held-cut r a b)) in
+        (rw e at (x .origin), rw e)
+
+    other : (t k s r : ℕ) → 1 ≤ r → r ≤ 8 → (r ≡ s → ⊥) → filter (matches t k s) (map (stamp log) (part r)) ≡ []
+    unfolding stamp
+    other t k s r a b ne =
+        filter-none (matches t k s) (stamp log) [] (countIn cut r) (opsOf log r) (λ i h c.
+        rw (at-place r i a b h .0, ne-eqb r s ne, and-false))
+
+    -- only the replica's own ops can pass
+    pub of-replica : (t k s : ℕ) → 1 ≤ s → s ≤ 8 → ofReplica (stamped log cut) t k s ≡ filter (matches t k s) (map (stamp log) (part s))
+    unfolding ofReplica stamped opsWithin replicas
+    of-replica t k s l u =
+        filter-part (matches t k s) (stamp log) part 8 1 s l (omega arith) (λ r a b ne. other t k s r a (omega arith) ne)
+
+    -- an op of another time does not
+    pub off-time : (t k s i : ℕ) → 1 ≤ s → s ≤ 8 → i < countIn cut s → (time-of s (i + 1) ≡ t → ⊥) → matches t k s (stamp log (getD (opsOf log s) i [])) ≡ false
+    unfolding stamp
+    off-time t k s i l u h ne = rw (at-place s i l u h .1, ne-eqb (time-of s (i + 1)) t ne)
 
     module _ (t : ℕ) (lt : 1 ≤ t) (done : Vector) (at : AtLevel t done) where
       module _ (s : ℕ) (l : 1 ≤ s) (u : s ≤ 8) where
@@ -207,41 +241,12 @@ module _ (log : Log) (good : GoodLog log) where
             (status s l u);
       }
 
-      -- the ops of a time, kind and replica
       module _ (k s : ℕ) (l : 1 ≤ s) (u : s ≤ 8) where
-        abbrev part : ℕ → List Op
-        part r = take (countIn cut r) (opsOf log r)
-
-        abbrev test : Stamped → Bool
-        test x = eqb (x .time) t && eqb (kindOf (x .op)) k && eqb (replicaOf (x .op)) s
-
-        -- what is known of the op at place i
-        at-place : (r i : ℕ) → 1 ≤ r → r ≤ 8 → i < countIn cut r → (replicaOf (getD (opsOf log r) i []) ≡ r) × (timestamp log (getD (opsOf log r) i []) ≡ time-of r (i + 1))
-        unfolding opAt
-        at-place r i a b h =
-            let e : i + 1 - 1 ≡ i = omega arith in
-            let x = good-ops good r (i + 1) a b (omega arith) (omega (arith, held-cut r a b)) in
-            (rw e at (x .origin), rw e)
-
-        other : (r : ℕ) → 1 ≤ r → r ≤ 8 → (r ≡ s → ⊥) → filter test (map (stamp log) (part r)) ≡ []
-        unfolding stamp
-        other r a b ne =
-            filter-none test (stamp log) [] (countIn cut r) (opsOf log r) (λ i h c.
-            rw (at-place r i a b h .0, ne-eqb r s ne, and-false))
-
-        late : (i : ℕ) → i < countIn cut s → (time-of s (i + 1) ≡ t → ⊥) → test (stamp log (getD (opsOf log s) i [])) ≡ false
-        unfolding stamp
-        late i h ne = rw (at-place s i l u h .1, ne-eqb (time-of s (i + 1)) t ne)
-
         same-time : (i : ℕ) → i < countIn cut s → (i ≡ countIn done s → ⊥) → time-of s (i + 1) ≡ t → ⊥
         same-time i h ne e = elim (decLe (countIn done s) i) [
           | yes g ↦ omega (arith, at .high s (countIn done s + 1) l u (omega arith) (omega arith), rising s (countIn done s + 1) (i + 1) l u (omega arith) (omega arith) (omega (arith, held-cut s l u)))
           | no g ↦ omega (arith, at .low s (i + 1) l u (omega arith) (omega arith))
         ]
-
-        of-replica : ofReplica (stamped log cut) t k s ≡ filter test (map (stamp log) (part s))
-        unfolding ofReplica stamped opsWithin replicas
-        of-replica = filter-part test (stamp log) part 8 1 s l (omega arith) (λ r a b ne. other r a (omega arith) ne)
 
         place : getD (opsOf log s) (countIn done s) [] ≡ opAt log s (countIn done s + 1)
         unfolding opAt
@@ -249,9 +254,9 @@ module _ (log : Log) (good : GoodLog log) where
 
         pub one-entry : ofReplica (stamped log cut) t k s ≡ entry log t (nextOf log cut done) k s
         unfolding entry nextAt stamp
-        one-entry = of-replica ∙ ⊎-elim
-            (λ x. filter-one test (stamp log) [] (countIn cut s) (countIn done s) (opsOf log s) (x .1) (omega (arith, x .1, held-cut s l u, count-held log s)) (λ i h c ne. late i h (same-time i h ne)) ∙ rw (next-count s l u, x .0, place, x .2, eq-eqb t t refl, good-ops good s (countIn done s + 1) l u (omega arith) (omega (arith, x .1, held-cut s l u)) .origin, eq-eqb s s refl, ne-eqb (countIn done s + 1) 0 (λ z. omega arith), and-true))
-            (λ x. filter-none test (stamp log) [] (countIn cut s) (opsOf log s) (λ i h c. late i h (λ e. elim (ℕ-discrete i (countIn done s)) [
+        one-entry = of-replica t k s l u ∙ ⊎-elim
+            (λ x. filter-one (matches t k s) (stamp log) [] (countIn cut s) (countIn done s) (opsOf log s) (x .1) (omega (arith, x .1, held-cut s l u, count-held log s)) (λ i h c ne. off-time t k s i l u h (same-time i h ne)) ∙ rw (next-count s l u, x .0, place, x .2, eq-eqb t t refl, good-ops good s (countIn done s + 1) l u (omega arith) (omega (arith, x .1, held-cut s l u)) .origin, eq-eqb s s refl, ne-eqb (countIn done s + 1) 0 (λ z. omega arith), and-true))
+            (λ x. filter-none (matches t k s) (stamp log) [] (countIn cut s) (opsOf log s) (λ i h c. off-time t k s i l u h (λ e. elim (ℕ-discrete i (countIn done s)) [
               | yes z ↦ omega (arith, x .1 (omega arith), ap (λ (j : ℕ). time-of s (j + 1)) z)
               | no nz ↦ same-time i h nz e
             ])) ∙ rw (next-count s l u, x .0))

@@ -13,26 +13,27 @@ use Rattle.rules.specs.Replay.{opsWithin, timestampIn, timestamp}
 use Rattle.rules.proofs.StructureLaws.{held-in, HeldOps}
 use Rattle.rules.proofs.CausalLaws.{total, counted-less}
 
-map-take : (g h : Op → ℕ) (n : ℕ) (ops : List Op) → ((i : ℕ) → i < n → i < length ops → g (getD ops i []) ≡ h (getD ops i [])) → map g (take n ops) ≡ map h (take n ops)
-map-take g h zero ops e = refl
-map-take g h (suc n) [] e = refl
-map-take g h (suc n) (r ∷ rs) e =
-    ap₂ _∷_ (e zero (omega arith) (omega arith)) (map-take g h n rs (λ i a b. e (suc i) (omega arith) (omega arith)))
+module _ {A : Type 0} (g h : Op → A) where
+  map-take : (n : ℕ) (ops : List Op) → ((i : ℕ) → i < n → i < length ops → g (getD ops i []) ≡ h (getD ops i [])) → map g (take n ops) ≡ map h (take n ops)
+  map-take zero ops e = refl
+  map-take (suc n) [] e = refl
+  map-take (suc n) (r ∷ rs) e =
+      ap₂ _∷_ (e zero (omega arith) (omega arith)) (map-take n rs (λ i a b. e (suc i) (omega arith) (omega arith)))
 
-map-concat : (g h : Op → ℕ) (F : ℕ → List Op) (n a : ℕ) → ((s : ℕ) → a ≤ s → s < a + n → map g (F s) ≡ map h (F s)) → map g (concat (map F (upFrom a n))) ≡ map h (concat (map F (upFrom a n)))
-unfolding upFrom concat
-map-concat g h F zero a e = refl
-map-concat g h F (suc n) a e =
-    rw (map-append, map-append, e a (le-refl a) (omega arith), map-concat g h F n (suc a) (λ s l u. e s (omega arith) (omega arith)))
+  map-concat : (F : ℕ → List Op) (n a : ℕ) → ((s : ℕ) → a ≤ s → s < a + n → map g (F s) ≡ map h (F s)) → map g (concat (map F (upFrom a n))) ≡ map h (concat (map F (upFrom a n)))
+  unfolding upFrom concat
+  map-concat F zero a e = refl
+  map-concat F (suc n) a e =
+      rw (map-append, map-append, e a (le-refl a) (omega arith), map-concat F n (suc a) (λ s l u. e s (omega arith) (omega arith)))
 
--- two functions that agree on what a vector counts
-pub map-within : (log : Log) (v : Vector) (g h : Op → ℕ) → ((s q : ℕ) → 1 ≤ s → s ≤ 8 → 1 ≤ q → q ≤ countIn v s → g (opAt log s q) ≡ h (opAt log s q)) → map g (opsWithin log v) ≡ map h (opsWithin log v)
-unfolding opsWithin replicas opAt
-map-within log v g h e =
-    map-concat g h (λ s. take (countIn v s) (opsOf log s)) 8 1 (λ s l u.
-    map-take g h (countIn v s) (opsOf log s) (λ i a b.
-    let k : i + 1 - 1 ≡ i = omega arith in
-    rw k at (e s (i + 1) l (omega arith) (omega arith) (omega arith))))
+  -- two functions that agree on what a vector counts
+  pub map-within : (log : Log) (v : Vector) → ((s q : ℕ) → 1 ≤ s → s ≤ 8 → 1 ≤ q → q ≤ countIn v s → g (opAt log s q) ≡ h (opAt log s q)) → map g (opsWithin log v) ≡ map h (opsWithin log v)
+  unfolding opsWithin replicas opAt
+  map-within log v e =
+      map-concat (λ s. take (countIn v s) (opsOf log s)) 8 1 (λ s l u.
+      map-take (countIn v s) (opsOf log s) (λ i a b.
+      let k : i + 1 - 1 ≡ i = omega arith in
+      rw k at (e s (i + 1) l (omega arith) (omega arith) (omega arith))))
 
 module _ (log : Log) (ops : HeldOps log) where
   -- bounds above the number of ops counted give the same
@@ -41,7 +42,7 @@ module _ (log : Log) (ops : HeldOps log) where
   enough zero j r cv cl a b = absurd (not-suc-le-zero a)
   enough (suc k) zero r cv cl a b = absurd (not-suc-le-zero b)
   enough (suc k) (suc j) r cv cl a b =
-      ap (λ xs. 1 + greatest xs) (map-within log (vectorOf r) (timestampIn k log) (timestampIn j log) (λ s q l u lq uq.
+      ap (λ xs. 1 + greatest xs) (map-within (timestampIn k log) (timestampIn j log) log (vectorOf r) (λ s q l u lq uq.
       let x = ops s q l u lq (omega (arith, held-in log (vectorOf r) cv s l u)) in
       let less = counted-less log ops (vectorOf r) cv cl s q l u lq uq in
       enough k j (opAt log s q) (x .is-covered) (x .is-closed) (omega arith) (omega arith)))
@@ -50,7 +51,7 @@ module _ (log : Log) (ops : HeldOps log) where
     bounded : (k : ℕ) → total (vectorOf r) < suc k → timestampIn (suc k) log r ≡ 1 + greatest (map (timestampIn (suc k) log) (opsWithin log (vectorOf r)))
     unfolding timestampIn
     bounded k h =
-        ap (λ xs. 1 + greatest xs) (map-within log (vectorOf r) (timestampIn k log) (timestampIn (suc k) log) (λ s q l u lq uq.
+        ap (λ xs. 1 + greatest xs) (map-within (timestampIn k log) (timestampIn (suc k) log) log (vectorOf r) (λ s q l u lq uq.
         let x = ops s q l u lq (omega (arith, held-in log (vectorOf r) cv s l u)) in
         let less = counted-less log ops (vectorOf r) cv cl s q l u lq uq in
         enough k (suc k) (opAt log s q) (x .is-covered) (x .is-closed) (omega arith) (omega arith)))
