@@ -372,11 +372,11 @@ module _ (log : Log) (good : GoodLog log) (cut : Vector) (is : Cut log cut) (t :
   held-cut = held-in log cut (is .is-covered)
 
   -- an entry where the replica's op is ready, and where none is
-  entry-ready : (k s : ℕ) → 1 ≤ s → s ≤ 8 → ready log cut done s ≡ true → entry log t next k s ≡ cond (eqb (kindOf (opAt log s (countIn done s + 1))) k) (record { time = t; op = opAt log s (countIn done s + 1) } ∷ []) []
+  pub entry-ready : (k s : ℕ) → 1 ≤ s → s ≤ 8 → ready log cut done s ≡ true → entry log t next k s ≡ cond (eqb (kindOf (opAt log s (countIn done s + 1))) k) (record { time = t; op = opAt log s (countIn done s + 1) } ∷ []) []
   unfolding entry nextAt
   entry-ready k s l u e = rw (next-count log good cut is t lt done at s l u, e, ne-eqb (countIn done s + 1) 0 (λ z. omega arith))
 
-  entry-none : (k s : ℕ) → 1 ≤ s → s ≤ 8 → ready log cut done s ≡ false → entry log t next k s ≡ []
+  pub entry-none : (k s : ℕ) → 1 ≤ s → s ≤ 8 → ready log cut done s ≡ false → entry log t next k s ≡ []
   unfolding entry nextAt
   entry-none k s l u e = rw (next-count log good cut is t lt done at s l u, e)
 

@@ -1,21 +1,25 @@
 -- Ops that are issued from one log, with its counts as their vectors, are replayed after all of it, as one level. Assumes nothing.
 use Prim.Native.Nat.{suc, ℕ, _≤_, _<_, _+_, _-_}
+use lib.Dec.{eqb}
 use lib.ListN.{take, drop}
 use lib.Seq.{getD-drop, take-add}
-use mathlib.Core.List.{map, _++_, append-nil, map-append, []}
+use mathlib.Core.Bool.{cond}
+use mathlib.Core.List.{map, _++_, append-nil, map-append, [], _∷_}
+use mathlib.Core.Logic.{⊎-elim}
 use mathlib.Core.Path.{ap, _∙_, _≡_, ap₂, sym}
 use native.Mathlib.Decide.{decLe}
 use native.Mathlib.Omega.{arith}
 use Rattle.order.proofs.ExtendLaws.{timestamp-more, within-more, ordered-more}
-use Rattle.order.proofs.LevelLaws.{AtLevel, time-of, counted-value, Cut, equation, off-time, of-replica, by-time-more, matches, stamped-times, one-level, counted-bound}
-use Rattle.order.specs.Levels.{level, nextOf}
+use Rattle.order.proofs.GrowLaws.{entry-ready, entry-none}
+use Rattle.order.proofs.LevelLaws.{AtLevel, time-of, counted-value, Cut, equation, off-time, of-replica, by-time-more, matches, stamped-times, one-level, counted-bound, status}
+use Rattle.order.specs.Levels.{level, nextOf, entry}
 use Rattle.rules.proofs.AppendLaws.{closed-more, Extends, same-within, covered-more}
 use Rattle.rules.proofs.ListLaws.{map-downFrom, map-upFrom, filter-append, concat-append, upFrom-add, filter-none}
 use Rattle.rules.proofs.StructureLaws.{GoodLog, good-ops, counts-covered, counts-closed}
 use Rattle.rules.proofs.TimeLaws.{map-within}
 use Rattle.rules.specs.Bytes.{greatest, concat, upFrom, filter}
 use Rattle.rules.specs.Log.{Log, countsOf, opAt, opsOf}
-use Rattle.rules.specs.Op.{Vector, countIn, vectorOf}
+use Rattle.rules.specs.Op.{Vector, countIn, vectorOf, Op, kindOf}
 use Rattle.rules.specs.Replay.{timestamp, ofTime, ordered, opsWithin, ofKind, ofReplica, stamped, Stamped, stamp}
 
 -- more is log and, of each replica, perhaps one op with the held counts of log as its vector
@@ -109,3 +113,21 @@ module _ (log more : Log) (x : Late log more) (good : GoodLog log) (goodMore : G
       last : ofTime (stamped more all-held) (1 + top) ≡ level more (suc top) (nextOf more all-held held)
       last =
           ap (ofTime (stamped more all-held)) (omega arith) ∙ one-level more goodMore all-held whole-cut (suc top) (omega arith) held last-level
+
+  ---- the entries of that level
+
+  module _ (k s : ℕ) (l : 1 ≤ s) (u : s ≤ 8) where
+    abbrev late-op : Op
+    late-op = opAt more s (countIn held s + 1)
+
+    pub late-entry : countIn held s < countIn all-held s → entry more (suc top) (nextOf more all-held held) k s ≡ cond (eqb (kindOf late-op) k) (record { time = suc top; op = late-op } ∷ []) []
+    late-entry h = ⊎-elim
+        (λ y. entry-ready more goodMore all-held whole-cut (suc top) (omega arith) held last-level k s l u (y .0))
+        (λ y. absurd (omega (arith, y .1 h, late-time s (countIn held s + 1) l u (omega arith) (omega arith))))
+        (status more goodMore all-held whole-cut (suc top) (omega arith) held last-level s l u)
+
+    pub no-entry : countIn all-held s ≡ countIn held s → entry more (suc top) (nextOf more all-held held) k s ≡ []
+    no-entry e = ⊎-elim
+        (λ y. absurd (omega (arith, y .1)))
+        (λ y. entry-none more goodMore all-held whole-cut (suc top) (omega arith) held last-level k s l u (y .0))
+        (status more goodMore all-held whole-cut (suc top) (omega arith) held last-level s l u)

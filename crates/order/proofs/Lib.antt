@@ -8,3 +8,4 @@ pub mod TreeTheorem
 pub mod FuelLaws
 pub mod ExtendLaws
 pub mod LateLaws
+pub mod PlacedLaws
