@@ -15,8 +15,8 @@ use Rattle.rules.specs.Op.{Op, countIn, replicaOf, seqOf}
 use Rattle.rules.specs.Log.{Log, opsOf, opAt, countsOf, fileOf, width, fileEnd, logOf}
 use Rattle.rules.specs.Replay.{parentsOf}
 use Rattle.rules.specs.Views.{nodes}
-use Rattle.rules.specs.Exchange.{Site, run, has, times, Agreed, arrange, filed, Side, left, right, other, Pair, missing, everything, Round, after, Answered, answers, acceptedBy, ValidRound, EachRound, fileIn}
-use Rattle.rules.specs.Converges.{Settled, Meets, meeting, Converges, ListsFile, SameOpsSameFile, judged}
+use Rattle.convergence.specs.Exchange.{Site, run, has, times, Agreed, arrange, filed, Side, left, right, other, Pair, missing, everything, Round, after, Answered, answers, acceptedBy, ValidRound, EachRound, fileIn}
+use Rattle.convergence.specs.Converges.{Settled, Meets, meeting, Converges, ListsFile, SameOpsSameFile, judged}
 use Rattle.rules.specs.TreeClaim.{IsTree}
 use Rattle.rules.specs.Judge.{judge, judgeAnswer}
 use Rattle.rules.specs.Answer.{require}

@@ -8,7 +8,7 @@ use native.Mathlib.Omega.{arith}
 use lib.ListN.{length, length-append}
 use Rattle.rules.specs.Bytes.{same, any, filter}
 use Rattle.rules.specs.Op.{Op}
-use Rattle.rules.specs.Exchange.{has, times, onlyIn}
+use Rattle.convergence.specs.Exchange.{has, times, onlyIn}
 use Rattle.rules.proofs.BoolLaws.{never, both-ways, or-cases}
 use Rattle.rules.proofs.ListLaws.{same-refl, filter-append, same-eq}
 

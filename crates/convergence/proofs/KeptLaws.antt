@@ -12,7 +12,7 @@ use Rattle.rules.specs.Op.{Op, countIn, replicaOf, seqOf}
 use Rattle.rules.specs.Log.{Log, countsOf, append, fileEnd, logOf, fileOf, emptyLog, appended, width}
 use Rattle.rules.specs.Deliver.{makeAnswer, makeBuffer, held, deliverAnswer, deliverBuffer}
 use Rattle.rules.specs.Issue.{issued, issueAnswer, issueBuffer, issueOut}
-use Rattle.rules.specs.Exchange.{Call, make, issue, deliver, Site, answer, bufferAfter, heldThen, perform, run, standing, has, times, arrange, filed, fileIn}
+use Rattle.convergence.specs.Exchange.{Call, make, issue, deliver, Site, answer, bufferAfter, heldThen, perform, run, standing, has, times, arrange, filed, fileIn}
 use Rattle.rules.specs.Bytes.{any, filter}
 use Rattle.rules.specs.Sound.{sound}
 use Rattle.rules.specs.Answer.{Answer, refused, hadIt, accepted, require, ifAccepted, done}

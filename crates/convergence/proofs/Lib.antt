@@ -5,3 +5,6 @@ pub mod KeptLaws
 pub mod SideLaws
 pub mod RoundLaws
 pub mod Converge
+pub mod CircleLaws
+pub mod ClashLaws
+pub mod ClashTheorem

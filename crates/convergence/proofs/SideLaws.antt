@@ -7,7 +7,7 @@ use native.Mathlib.Nat.{add-comm}
 use lib.ListN.{length, length-append}
 use Rattle.rules.specs.Op.{Op}
 use Rattle.rules.specs.Deliver.{deliverBuffer}
-use Rattle.rules.specs.Exchange.{Site, answer, bufferAfter, heldThen, perform, Side, left, right, other, isSide, Pair, missing, Offer, answerTo, offered, after, Answered, answers, acceptances, acceptedBy, onlyIn}
+use Rattle.convergence.specs.Exchange.{Site, answer, bufferAfter, heldThen, perform, Side, left, right, other, isSide, Pair, missing, Offer, answerTo, offered, after, Answered, answers, acceptances, acceptedBy, onlyIn}
 use Rattle.rules.specs.Answer.{Answer, refused, hadIt, accepted, ifAccepted, done}
 use Rattle.rules.specs.Log.{appended, width}
 use Rattle.rules.proofs.BoolLaws.{never}

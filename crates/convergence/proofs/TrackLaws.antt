@@ -14,7 +14,7 @@ use lib.Dec.{eqb}
 use Rattle.rules.specs.Bytes.{same, upFrom, concat, any, filter}
 use Rattle.rules.specs.Op.{Op, countIn, replicaOf, ownCount, seqOf}
 use Rattle.rules.specs.Log.{Log, opsOf, opAt, countsOf, append}
-use Rattle.rules.specs.Exchange.{has, opNumbered, inOrder, arrange}
+use Rattle.convergence.specs.Exchange.{has, opNumbered, inOrder, arrange}
 use Rattle.rules.proofs.BoolLaws.{never, and-left, and-right, and-both, map-replicas, fails, or-cases}
 use Rattle.rules.proofs.AppendLaws.{Extends, append-extends, ops-same, ops-other, seq-positive}
 use Rattle.rules.proofs.StructureLaws.{count-held, HeldOps}

@@ -35,7 +35,7 @@ module _ (log more : Log) (x : Late log more) (good : GoodLog log) (goodMore : G
   all-held = countsOf more
 
   -- the greatest timestamp of the log; a late op's is the next
-  pub top : ℕ
+  unfoldable pub top : ℕ
   top = greatest (map (timestamp log) (opsWithin log held))
 
   held-cut : Cut more held

@@ -13,6 +13,4 @@ pub mod Views
 pub mod Listing
 pub mod ReadsBack
 pub mod TreeClaim
-pub mod Exchange
-pub mod Converges
 pub mod Examples

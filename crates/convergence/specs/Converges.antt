@@ -5,16 +5,16 @@ use mathlib.Core.Bool.{Bool, true, false, cond, _&&_, not}
 use mathlib.Core.List.{List, [], _++_}
 use lib.ListN.{length, drop}
 use lib.Dec.{eqb}
 use Rattle.rules.specs.Answer.{Answer, refused, hadIt, done, accepted}
 use Rattle.rules.specs.Bytes.{concat, all}
 use Rattle.rules.specs.Op.{Op}
 use Rattle.rules.specs.Log.{Log, width}
 use Rattle.rules.specs.Tree.{slots}
 use Rattle.rules.specs.Replay.{parentsOf, outcomesOf}
 use Rattle.rules.specs.Judge.{Judgement, judge}
 use Rattle.rules.specs.Views.{nodes}
 use Rattle.rules.specs.TreeClaim.{IsTree}
-use Rattle.rules.specs.Exchange.{Call, run, fileIn, standing, has, times, Agreed, arrange, filed, Side, left, right, other, Pair, missing, everything, Round, after, Answered, answers, acceptances, acceptedBy, ValidRound, EachRound}
+use Rattle.convergence.specs.Exchange.{Call, run, fileIn, standing, has, times, Agreed, arrange, filed, Side, left, right, other, Pair, missing, everything, Round, after, Answered, answers, acceptances, acceptedBy, ValidRound, EachRound}
 
 ---- one list of calls
 

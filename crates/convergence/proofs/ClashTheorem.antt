@@ -1,0 +1,372 @@
+-- Of two clashing moves issued from one log, the upward one or else the higher replica's is applied, and the other is not. Assumes nothing.
+use Prim.Native.Nat.{_≤_, _<_, _+_, ℕ, suc, _-_}
+use borrow.Author.Tests.{eq-eqb, ne-eqb, not-true, leb-true, lt-ltb, ltb-false}
+use lib.Dec.{ltb, eqb}
+use lib.ListN.{getD, set, length, length-set, length-append, take, drop}
+use lib.Seq.{getD-set-same, getD-set-other, getD-append-seam, take-at}
+use mathlib.Core.Bool.{Bool, true, cond, false, _||_, and-eq-true-iff}
+use mathlib.Core.List.{foldl-append, [], _∷_, _++_, List}
+use mathlib.Core.Logic.{inr}
+use mathlib.Core.Path.{refl, ap, _≡_, _∙_, sym}
+use native.Mathlib.Decide.{ℕ-discrete}
+use native.Mathlib.Omega.{arith}
+use Rattle.convergence.proofs.CircleLaws.{second-blocked}
+use Rattle.convergence.proofs.ClashLaws.{winner-first, passed-over, placed-already, applied, blocked, applies}
+use Rattle.convergence.specs.Clash.{Move, nextSlot, request, beats, circle, clash, Wins, ClashDecided}
+use Rattle.order.proofs.GrowLaws.{Named, named-valid, parent-reads, known-reads, replay-run}
+use Rattle.order.proofs.LateLaws.{Late, ordered-late, no-entry, late-entry, top}
+use Rattle.order.proofs.LevelLaws.{Cut}
+use Rattle.order.proofs.PlacedLaws.{tables-full, placed-by}
+use Rattle.order.specs.Levels.{entry, level, nextOf, levelKind}
+use Rattle.rules.proofs.AppendLaws.{Admits, good-append, in-range, Extends, ops-other, ops-same, extends}
+use Rattle.rules.proofs.BoolLaws.{and-both, never}
+use Rattle.rules.proofs.DeliverLaws.{appended-log, admitted}
+use Rattle.rules.proofs.IssueLaws.{counts-eight, bytes-parent, bytes-vector, bytes-node, Allowed, issue-admitted, allowed}
+use Rattle.rules.proofs.SoundLaws.{sound-good}
+use Rattle.rules.proofs.StructureLaws.{GoodLog, counts-covered, counts-closed, count-held}
+use Rattle.rules.proofs.TreeLaws.{Valid, slot-below, slot-injective}
+use Rattle.rules.specs.Deliver.{deliverBuffer}
+use Rattle.rules.specs.Issue.{issued, opBytes, moveKind, requestKnown, issueBuffer, requestClear, issueOut}
+use Rattle.rules.specs.Log.{Log, countsOf, known, knownParent, opAt, append, opsOf, logOf, width, appended}
+use Rattle.rules.specs.Op.{Op, countIn, isMove, nodeOf, parentOf, seqOf, kindOf, ownCount, replicaOf, vectorOf, isReplica}
+use Rattle.rules.specs.Replay.{outcomeSlot, parentsOf, State, Stamped, replay, step, outcomesOf, outcomeOf}
+use Rattle.rules.specs.Tree.{depth, slot, slots, atOrBelow, slotOf}
+
+---- one move
+
+-- what an accepted issue of a move says
+pub record Asked (log : Log) (x : Move) : Type 0 where
+  pub low : 1 ≤ x .replica
+  pub high : x .replica ≤ 8
+  pub count : countIn (countsOf log) (x .replica) < 255
+  pub node-known : known log (countsOf log) (x .node) ≡ true
+  pub parent-known : knownParent log (countsOf log) (x .parent) ≡ true
+  pub clear : atOrBelow (parentsOf log) (x .parent) (x .node) ≡ false
+
+abbrev pub opOf : Log → Move → Op
+opOf log x = issued log (x .replica) (request x)
+
+-- more is log and the ops of x and y
+pub record Both (log more : Log) (x y : Move) : Type 0 where
+  pub late : Late log more
+  pub good : GoodLog more
+  pub count-x : countIn (countsOf more) (x .replica) ≡ countIn (countsOf log) (x .replica) + 1
+  pub count-y : countIn (countsOf more) (y .replica) ≡ countIn (countsOf log) (y .replica) + 1
+  pub rest : (s : ℕ) → 1 ≤ s → s ≤ 8 → (s ≡ x .replica → ⊥) → (s ≡ y .replica → ⊥) → countIn (countsOf more) s ≡ countIn (countsOf log) s
+  pub op-x : opAt more (x .replica) (countIn (countsOf log) (x .replica) + 1) ≡ opOf log x
+  pub op-y : opAt more (y .replica) (countIn (countsOf log) (y .replica) + 1) ≡ opOf log y
+
+swap : (log more : Log) (x y : Move) → Both log more x y → Both log more y x
+swap log more x y b = record {
+  late = b .late;
+  good = b .good;
+  count-x = b .count-y;
+  count-y = b .count-x;
+  rest = λ s l u p q. b .rest s l u q p;
+  op-x = b .op-y;
+  op-y = b .op-x;
+}
+
+module _ (log : Log) (good : GoodLog log) (x : Move) (asked : Asked log x) where
+  abbrev upward : Bool
+  upward = ltb (depth (parentsOf log) (x .parent)) (depth (parentsOf log) (x .node))
+
+  kind-is : kindOf (opOf log x) ≡ cond upward 3 4
+  unfolding issued opBytes kindOf moveKind
+  kind-is = refl
+
+  is-move : isMove (opOf log x) ≡ true
+  unfolding isMove
+  is-move = rw kind-is (go upward)
+    where
+      go : (b : Bool) → (eqb (cond b 3 4) 3 || eqb (cond b 3 4) 4) ≡ true
+      go true = refl
+      go false = refl
+
+  node-is : nodeOf (opOf log x) ≡ x .node
+  unfolding issued
+  node-is = bytes-node _ (x .replica) (x .node) (x .parent) (countsOf log)
+
+  parent-is : parentOf (opOf log x) ≡ x .parent
+  unfolding issued
+  parent-is = bytes-parent _ (x .replica) (x .node) (x .parent) (countsOf log)
+
+  slot-is : outcomeSlot (opOf log x) ≡ nextSlot log (x .replica)
+  unfolding outcomeSlot nextSlot seqOf ownCount replicaOf issued opBytes
+  slot-is = ap (λ v. slot (x .replica) (countIn v (x .replica) + 1)) (bytes-vector _ (x .replica) (x .node) (x .parent) (countsOf log) (counts-eight log good))
+
+  slot-in : nextSlot log (x .replica) < slots
+  unfolding nextSlot slot
+  slot-in = omega (arith, asked .low, asked .high, asked .count)
+
+  named-node : Named log (countsOf log) (x .node)
+  named-node = inr (asked .node-known)
+
+  named-parent : Named log (countsOf log) (x .parent)
+  named-parent = parent-reads log (countsOf log) (x .parent) (asked .parent-known)
+
+  valid-node : Valid (x .node)
+  valid-node = named-valid log (countsOf log) (x .node) named-node
+
+  no-root : x .node ≡ 0 → ⊥
+  no-root e = let h = known-reads log (countsOf log) (x .node) (asked .node-known) .0 .low in omega arith
+
+---- x beats y
+
+module _ (log more : Log) (good : GoodLog log) (x y : Move) (ax : Asked log x) (ay : Asked log y) (both : Both log more x y) (apart : x .replica ≡ y .replica → ⊥) where
+  abbrev before : State
+  before = replay log (countsOf log)
+
+  abbrev now-time : ℕ
+  now-time = suc (top log more (both .late) good (both .good))
+
+  abbrev first : Stamped
+  first = record { time = now-time; op = opOf log x }
+
+  abbrev second : Stamped
+  second = record { time = now-time; op = opOf log y }
+
+  -- the two are replayed last, x first
+  module _ (wins : beats (parentsOf log) x y ≡ true) where
+    x-entry : (k : ℕ) → entry more now-time (nextOf more (countsOf more) (countsOf log)) k (x .replica) ≡ cond (eqb (cond (upward log good x ax) 3 4) k) (first ∷ []) []
+    x-entry k = late-entry log more (both .late) good (both .good) k (x .replica) (ax .low) (ax .high) (omega (arith, both .count-x)) ∙ rw (both .op-x, kind-is log good x ax)
+
+    y-entry : (k : ℕ) → entry more now-time (nextOf more (countsOf more) (countsOf log)) k (y .replica) ≡ cond (eqb (cond (upward log good y ay) 3 4) k) (second ∷ []) []
+    y-entry k = late-entry log more (both .late) good (both .good) k (y .replica) (ay .low) (ay .high) (omega (arith, both .count-y)) ∙ rw (both .op-y, kind-is log good y ay)
+
+    two-last : level more now-time (nextOf more (countsOf more) (countsOf log)) ≡ first ∷ second ∷ []
+    unfolding level levelKind beats moveKind
+    two-last =
+        winner-first (entry more now-time (nextOf more (countsOf more) (countsOf log))) (x .replica) (y .replica) (ax .low) (ax .high) (ay .low) (ay .high) first second (λ k s l u p q. no-entry log more (both .late) good (both .good) k s l u (both .rest s l u p q)) (upward log good x ax) (upward log good y ay) x-entry y-entry apart wins
+
+    replayed : replay more (countsOf more) ≡ step (step before first) second
+    unfolding replay
+    replayed = rw (ordered-late log more (both .late) good (both .good), two-last, foldl-append)
+
+  ---- what the two do
+
+  placed-before : (i : ℕ) → getD (before .placed) i 0 < now-time
+  unfolding top
+  placed-before i = omega (arith, placed-by log (countsOf log) i)
+
+  -- the state after x
+  abbrev mid : State
+  mid = record {
+    parents = set (parentsOf log) (slotOf (x .node)) (x .parent);
+    outcomes = set (outcomesOf log) (nextSlot log (x .replica)) 1;
+    placed = set (before .placed) (slotOf (x .node)) now-time;
+  }
+
+  x-applied : step before first ≡ mid
+  unfolding parentsOf outcomesOf
+  x-applied =
+      applied before now-time (opOf log x) (is-move log good x ax)
+      (applies before now-time (opOf log x) (is-move log good x ax) (λ e. omega (arith, placed-before (slotOf (nodeOf (opOf log x))))) (rw (node-is log good x ax, parent-is log good x ax) (ax .clear)))
+      ∙ rw (node-is log good x ax, parent-is log good x ax, slot-is log good x ax)
+
+  y-passed : (o : ℕ) → eqb o 1 ≡ false → outcomeOf mid second ≡ o → step mid second ≡ record { parents = mid .parents; outcomes = set (mid .outcomes) (nextSlot log (y .replica)) o; placed = mid .placed }
+  y-passed o ne e = passed-over mid now-time (opOf log y) (is-move log good y ay) o ne e ∙ rw (slot-is log good y ay)
+
+  -- 2 if they take the same node
+  y-same : x .node ≡ y .node → outcomeOf mid second ≡ 2
+  y-same e =
+      placed-already mid now-time (opOf log y) (is-move log good y ay)
+      (rw (node-is log good y ay, ← e) (getD-set-same (before .placed) (slotOf (x .node)) now-time 0 (omega (arith, tables-full log (countsOf log) .placed-full, slot-below (x .node) (valid-node log good x ax)))))
+
+  -- 3 if they close a circle
+  y-circle : (x .node ≡ y .node → ⊥) → circle (parentsOf log) x y ≡ true → outcomeOf mid second ≡ 3
+  unfolding circle parentsOf replay
+  y-circle ne c =
+      let tree = replay-run log good (countsOf log) held .tree in
+      let (ip, rp) = tree .way (x .parent) (named-parent log good x ax) in
+      let (iq, rq) = tree .way (y .parent) (named-parent log good y ay) in
+      let h = simp and-eq-true-iff at c in
+      blocked mid now-time (opOf log y) (is-move log good y ay)
+      (λ e.
+      let here = rw (node-is log good y ay) at e in
+      let there = getD-set-other (before .placed) (slotOf (x .node)) (slotOf (y .node)) now-time 0 (λ q. ne (slot-injective (x .node) (y .node) (valid-node log good x ax) (valid-node log good y ay) (sym q))) in
+      omega (arith, placed-before (slotOf (y .node))))
+      (rw (node-is log good y ay, parent-is log good y ay) (second-blocked (Named log (countsOf log)) (named-valid log (countsOf log)) (parentsOf log) (tree .size) (x .node) (x .parent) (y .node) (y .parent) (valid-node log good x ax) (no-root log good x ax) (no-root log good y ay) ip iq rp rq (ax .clear) (h .0) (h .1)))
+    where
+      held : Cut log (countsOf log)
+      held = record { is-covered = counts-covered log; is-closed = counts-closed log good }
+
+  y-outcome : clash (parentsOf log) x y ≡ true → outcomeOf mid second ≡ cond (eqb (x .node) (y .node)) 2 3
+  unfolding clash
+  y-outcome c = elim (ℕ-discrete (x .node) (y .node)) [
+    | yes e ↦ rw (eq-eqb _ _ e) (y-same e)
+    | no ne ↦ rw (ne-eqb _ _ ne) (y-circle ne (rw (ne-eqb _ _ ne) at c))
+  ]
+
+  slots-apart : nextSlot log (x .replica) ≡ nextSlot log (y .replica) → ⊥
+  unfolding nextSlot slot
+  slots-apart e = apart (omega (arith, ax .low, ax .count, ay .low, ay .count))
+
+  pub x-wins : beats (parentsOf log) x y ≡ true → clash (parentsOf log) x y ≡ true → Wins log more x y
+  unfolding parentsOf outcomesOf
+  x-wins wins c =
+      let full : length (outcomesOf log) ≡ slots = tables-full log (countsOf log) .outcomes-full in
+      let end = replayed wins ∙ ap (λ st. step st second) x-applied ∙ y-passed _ (not-one (eqb (x .node) (y .node))) (y-outcome c) in
+      record {
+        winner = ap (λ (st : State). getD (st .outcomes) (nextSlot log (x .replica)) 0) end ∙ getD-set-other (mid .outcomes) (nextSlot log (y .replica)) (nextSlot log (x .replica)) (cond (eqb (x .node) (y .node)) 2 3) 0 slots-apart ∙ getD-set-same (outcomesOf log) (nextSlot log (x .replica)) 1 0 (omega (arith, slot-in log good x ax));
+        loser = ap (λ (st : State). getD (st .outcomes) (nextSlot log (y .replica)) 0) end ∙ getD-set-same (mid .outcomes) (nextSlot log (y .replica)) _ 0 (omega (arith, length-set (outcomesOf log) (nextSlot log (x .replica)) 1, slot-in log good y ay));
+        tree = ap (λ (st : State). st .parents) end;
+      }
+    where
+      not-one : (b : Bool) → eqb (cond b 2 3) 1 ≡ false
+      not-one true = refl
+      not-one false = refl
+
+---- both are held
+
+module _ (log : Log) (good : GoodLog log) (x y : Move) (ax : Asked log x) (ay : Asked log y) (apart : x .replica ≡ y .replica → ⊥) (admits-x : Admits log (opOf log x)) (admits-y : Admits (append log (opOf log x)) (opOf log y)) where
+  abbrev one : Log
+  one = append log (opOf log x)
+
+  abbrev two : Log
+  two = append one (opOf log y)
+
+  good-one : GoodLog one
+  good-one = good-append log (opOf log x) good admits-x
+
+  origin : (z : Move) → replicaOf (opOf log z) ≡ z .replica
+  unfolding issued opBytes replicaOf
+  origin z = refl
+
+  vector : (z : Move) → vectorOf (opOf log z) ≡ countsOf log
+  unfolding issued
+  vector z = bytes-vector _ (z .replica) (z .node) (z .parent) (countsOf log) (counts-eight log good)
+
+  ops-x : opsOf two (x .replica) ≡ opsOf log (x .replica) ++ (opOf log x ∷ [])
+  ops-x =
+      let ry = in-range one (opOf log y) good-one admits-y in
+      let rx = in-range log (opOf log x) good admits-x in
+      ops-other one (opOf log y) (good-one .eight) (ry .0) (ry .1) (x .replica) (ax .low) (λ e. apart (e ∙ origin y))
+      ∙ (rw (origin x) at (ops-same log (opOf log x) (good .eight) (rx .0) (rx .1)))
+
+  ops-y : opsOf two (y .replica) ≡ opsOf log (y .replica) ++ (opOf log y ∷ [])
+  ops-y =
+      let ry = in-range one (opOf log y) good-one admits-y in
+      let rx = in-range log (opOf log x) good admits-x in
+      (rw (origin y) at (ops-same one (opOf log y) (good-one .eight) (ry .0) (ry .1)))
+      ∙ rw (ops-other log (opOf log x) (good .eight) (rx .0) (rx .1) (y .replica) (ay .low) (λ e. apart (sym (e ∙ origin x))))
+
+  ops-rest : (s : ℕ) → 1 ≤ s → (s ≡ x .replica → ⊥) → (s ≡ y .replica → ⊥) → opsOf two s ≡ opsOf log s
+  ops-rest s l p q =
+      let ry = in-range one (opOf log y) good-one admits-y in
+      let rx = in-range log (opOf log x) good admits-x in
+      ops-other one (opOf log y) (good-one .eight) (ry .0) (ry .1) s l (λ e. q (e ∙ origin y))
+      ∙ ops-other log (opOf log x) (good .eight) (rx .0) (rx .1) s l (λ e. p (e ∙ origin x))
+
+  -- a replica with one op more
+  module _ (s : ℕ) (r : Op) (e : opsOf two s ≡ opsOf log s ++ (r ∷ [])) where
+    count-more : countIn (countsOf two) s ≡ countIn (countsOf log) s + 1
+    count-more = rw (count-held two s, count-held log s, e, length-append)
+
+    last-op : opAt two s (countIn (countsOf log) s + 1) ≡ r
+    unfolding opAt
+    last-op =
+        let k : countIn (countsOf log) s + 1 - 1 ≡ length (opsOf log s) = omega (arith, count-held log s) in
+        rw (k, e) (getD-append-seam (opsOf log s) r [] [])
+
+  both-held : Both log two x y
+  both-held = record {
+    late = record { extends = more-extends; vector = vectors };
+    good = good-append one (opOf log y) good-one admits-y;
+    count-x = count-more (x .replica) (opOf log x) ops-x;
+    count-y = count-more (y .replica) (opOf log y) ops-y;
+    rest = λ s l u p q. count-held two s ∙ ap length (ops-rest s l p q) ∙ sym (count-held log s);
+    op-x = last-op (x .replica) (opOf log x) ops-x;
+    op-y = last-op (y .replica) (opOf log y) ops-y;
+  }
+    where
+      more-extends : Extends log two
+      more-extends =
+          let a = extends log (opOf log x) good admits-x in
+          let b = extends one (opOf log y) good-one admits-y in
+          record {
+            counts = λ s l u. omega (arith, a .counts s l u, b .counts s l u);
+            ops = λ s q l u lq uq. b .ops s q l u lq (omega (arith, a .counts s l u)) ∙ a .ops s q l u lq uq;
+          }
+
+      vectors : (s q : ℕ) → 1 ≤ s → s ≤ 8 → countIn (countsOf log) s < q → q ≤ countIn (countsOf two) s → vectorOf (opAt two s q) ≡ countsOf log
+      vectors s q l u lo hi = elim (ℕ-discrete s (x .replica)) [
+        | yes e ↦
+            let c = count-more (x .replica) (opOf log x) ops-x in
+            let lo′ = rw e at lo in
+            let hi′ = rw e at hi in
+            let z : q ≡ countIn (countsOf log) (x .replica) + 1 = omega arith in
+            rw (e, z, last-op (x .replica) (opOf log x) ops-x) (vector x)
+        | no ne ↦ elim (ℕ-discrete s (y .replica)) [
+          | yes e ↦
+              let c = count-more (y .replica) (opOf log y) ops-y in
+              let lo′ = rw e at lo in
+              let hi′ = rw e at hi in
+              let z : q ≡ countIn (countsOf log) (y .replica) + 1 = omega arith in
+              rw (e, z, last-op (y .replica) (opOf log y) ops-y) (vector y)
+          | no ne′ ↦ absurd (omega (arith, count-held two s, ap length (ops-rest s l ne ne′), count-held log s))
+        ]
+      ]
+
+---- from the calls
+
+asked : (w : ℕ) (f : List ℕ) (room n : ℕ) (x : Move) → Allowed w f room (x .replica) (request x) n → Asked (logOf w f) x
+unfolding requestKnown requestClear isReplica
+asked w f room n x a =
+    let names = simp and-eq-true-iff at (a .names) in
+    let range = simp and-eq-true-iff at (a .is-replica) in
+    record {
+      low = leb-true _ _ (range .0);
+      high = leb-true _ _ (range .1);
+      count = a .count;
+      node-known = names .0 .0;
+      parent-known = names .0 .1;
+      clear = not-true _ (a .clear);
+    }
+
+-- who does not beat the other is beaten
+beaten : (log : Log) (x y : Move) → (x .replica ≡ y .replica → ⊥) → beats (parentsOf log) x y ≡ false → beats (parentsOf log) y x ≡ true
+unfolding beats moveKind
+beaten log x y apart e =
+    go (ltb (depth (parentsOf log) (x .parent)) (depth (parentsOf log) (x .node))) (ltb (depth (parentsOf log) (y .parent)) (depth (parentsOf log) (y .node))) e
+  where
+    higher : ltb (y .replica) (x .replica) ≡ false → ltb (x .replica) (y .replica) ≡ true
+    higher e = let h = ltb-false (y .replica) (x .replica) e in lt-ltb (x .replica) (y .replica) (omega arith)
+
+    go : (u v : Bool) → cond (eqb (cond u 3 4) (cond v 3 4)) (ltb (y .replica) (x .replica)) (eqb (cond u 3 4) 3) ≡ false → cond (eqb (cond v 3 4) (cond u 3 4)) (ltb (x .replica) (y .replica)) (eqb (cond v 3 4) 3) ≡ true
+    go true true e = higher e
+    go true false e = never (sym e)
+    go false true e = refl
+    go false false e = higher e
+
+clash-back : (parents : List ℕ) (x y : Move) → clash parents x y ≡ true → clash parents y x ≡ true
+unfolding clash circle
+clash-back parents x y c = elim (ℕ-discrete (x .node) (y .node)) [
+  | yes e ↦ rw (eq-eqb (y .node) (x .node) (sym e))
+  | no ne ↦
+      let h = simp and-eq-true-iff at (rw (ne-eqb _ _ ne) at c) in
+      rw (ne-eqb (y .node) (x .node) (λ e. ne (sym e))) (and-both (h .1) (h .0))
+]
+
+decided : (log more : Log) → GoodLog log → (x y : Move) → Asked log x → Asked log y → Both log more x y → (x .replica ≡ y .replica → ⊥) → clash (parentsOf log) x y ≡ true → (beats (parentsOf log) x y ≡ true → Wins log more x y) × (beats (parentsOf log) x y ≡ false → Wins log more y x)
+decided log more good x y ax ay both apart c = (
+  λ w. x-wins log more good x y ax ay both apart w c,
+  λ w. x-wins log more good y x ay ax (swap log more x y both) (λ e. apart (sym e)) (beaten log x y apart w) (clash-back (parentsOf log) x y c),
+)
+
+pub clash-decided : ClashDecided
+unfolding issueBuffer issueOut deliverBuffer
+clash-decided f g out out′ x y i j k same apart ix iy ok c =
+    let log : Log = logOf width f in
+    let a = allowed width f (length out) (x .replica) (request x) i ix in
+    let b = rw same at (asked width g (length out′) j y (allowed width g (length out′) (y .replica) (request y) j iy)) in
+    let good = sound-good width f (a .is-sound) in
+    let first = issue-admitted f (length out) (x .replica) (request x) i ix in
+    let op : take width (issueOut width g out′ (y .replica) (request y)) ≡ opOf log y = rw (iy, take-at (opOf (logOf width g) y) (drop width out′) width (issue-admitted g (length out′) (y .replica) (request y) j iy .long), same) in
+    let file : issueBuffer width f (length out) (x .replica) (request x) ≡ appended width f (opOf log x) = rw ix in
+    let taken = rw (op, file) at ok in
+    let second = admitted width (appended width f (opOf log x)) (opOf log y) k taken in
+    let one-more = appended-log width f (opOf log x) i first in
+    let two-more = appended-log width (appended width f (opOf log x)) (opOf log y) k second in
+    let both = both-held log good x y (asked width f (length out) i x a) b apart (first .admits) (rw one-more at (second .admits)) in
+    rw (op, file, taken, two-more, one-more) (decided log _ good x y (asked width f (length out) i x a) b both apart c)

@@ -1,0 +1,63 @@
+-- "If two seats each issue one move from one collection, nothing else is added, and the moves take the same node or together close a circle,
+-- upward beats downward and otherwise the higher seat wins" (demand 2), as one statement. Assumes nothing.
+use Prim.Native.Nat.{ℕ, _+_}
+use lib.Dec.{eqb, ltb}
+use lib.ListN.{set, take, getD, length}
+use mathlib.Core.Bool.{cond, false, Bool, true, _&&_, _||_}
+use mathlib.Core.List.{List}
+use mathlib.Core.Path.{_≡_}
+use Rattle.rules.specs.Answer.{accepted}
+use Rattle.rules.specs.Deliver.{deliverBuffer, deliverAnswer}
+use Rattle.rules.specs.Issue.{Request, move, moveKind, issueAnswer, issueBuffer, issueOut}
+use Rattle.rules.specs.Log.{Log, logOf, width, countsOf}
+use Rattle.rules.specs.Op.{countIn}
+use Rattle.rules.specs.Replay.{outcomesOf, parentsOf}
+use Rattle.rules.specs.Tree.{atOrBelow, slot, slotOf}
+
+-- a replica hangs a node under another parent
+pub record Move : Type 0 where
+  pub replica : ℕ
+  pub node : ℕ
+  pub parent : ℕ
+
+abbrev pub request : Move → Request
+request x = move (x .node) (x .parent)
+
+-- "together close a circle": the new parent of each is the other's node or lies below it
+unfoldable pub circle : List ℕ → Move → Move → Bool
+circle parents x y = atOrBelow parents (x .parent) (y .node) && atOrBelow parents (y .parent) (x .node)
+
+unfoldable pub clash : List ℕ → Move → Move → Bool
+clash parents x y = eqb (x .node) (y .node) || circle parents x y
+
+-- x beats y: of two moves of one kind the higher replica's, else the upward one
+unfoldable pub beats : List ℕ → Move → Move → Bool
+beats parents x y =
+    cond (eqb (moveKind parents (x .node) (x .parent)) (moveKind parents (y .node) (y .parent)))
+    (ltb (y .replica) (x .replica))
+    (eqb (moveKind parents (x .node) (x .parent)) 3)
+
+-- where the outcome of the replica's next op stands
+unfoldable pub nextSlot : Log → ℕ → ℕ
+nextSlot log s = slot s (countIn (countsOf log) s + 1)
+
+-- of the two moves that more has and log has not, x is applied and y is not: 2 if they take the same node, 3 if they close a circle; the tree is
+-- the old one with x
+pub record Wins (log more : Log) (x y : Move) : Type 0 where
+  pub winner : getD (outcomesOf more) (nextSlot log (x .replica)) 0 ≡ 1
+  pub loser : getD (outcomesOf more) (nextSlot log (y .replica)) 0 ≡ cond (eqb (x .node) (y .node)) 2 3
+  pub tree : parentsOf more ≡ set (parentsOf log) (slotOf (x .node)) (x .parent)
+
+-- the buffers f and g hold one log; x is issued at f and y at g, and y's op is then delivered at f
+abbrev pub ClashDecided : Type 0
+ClashDecided =
+    (f g out out′ : List ℕ) (x y : Move) (i j k : ℕ) → logOf width g ≡ logOf width f → (x .replica ≡ y .replica → ⊥)
+    → issueAnswer width f (length out) (x .replica) (request x) ≡ accepted i
+    → issueAnswer width g (length out′) (y .replica) (request y) ≡ accepted j
+    → let h = issueBuffer width f (length out) (x .replica) (request x) in
+    let r = take width (issueOut width g out′ (y .replica) (request y)) in
+    let log = logOf width f in
+    let more = logOf width (deliverBuffer width h r) in
+    deliverAnswer width h r ≡ accepted k
+    → clash (parentsOf log) x y ≡ true
+    → (beats (parentsOf log) x y ≡ true → Wins log more x y) × (beats (parentsOf log) x y ≡ false → Wins log more y x)
