@@ -1,3 +1,4 @@
 pub mod Exchange
 pub mod Converges
 pub mod Clash
+pub mod Meeting

@@ -1,21 +1,21 @@
 -- The paper's worked examples P1 to P12 but P4, as rows of one table that one theorem covers. Assumes nothing.
 use Prim.Native.Nat.{ℕ, zero, suc, _<_}
-use mathlib.Core.Path.{_≡_, refl}
-use mathlib.Core.Bool.{Bool, true}
-use mathlib.Core.List.{List, [], _∷_, _++_, map}
-use native.Mathlib.Nat.{le-of-suc-le-suc, not-suc-le-zero}
 use lib.ListN.{length, getD, replicate}
+use mathlib.Core.Bool.{true}
+use mathlib.Core.List.{List, [], _∷_, _++_, map}
+use mathlib.Core.Path.{_≡_, refl}
+use native.Mathlib.Nat.{le-of-suc-le-suc, not-suc-le-zero}
 use Rattle.rules.specs.Answer.{Answer, refused, hadIt, accepted, require}
 use Rattle.rules.specs.Bytes.{wordAt, word, upFrom, downFrom, sum, greatest, same, concat, all, any, filter, isIn}
-use Rattle.rules.specs.Op.{Op, Vector, replicas, isReplica, countIn, kindOf, replicaOf, nodeOf, parentOf, vectorOf, ownCount, seqOf, nodeNumber, isAdd, isRemove, isMove, wellFormed}
-use Rattle.rules.specs.Log.{Log, emptyLog, opsOf, opAt, countsOf, append, countAt, startAt, headerCounts, startOf, endOf, fileEnd, chunks, chunksOf, logOf, headerEntry, headerOf, fileOf, within, covered, closedAt, closed, nodeWithin, known, knownParent, namesKnown, soundOp, soundOps, soundLog, soundHeader, laid, structural}
-use Rattle.rules.specs.Sound.{sound}
 use Rattle.rules.specs.Deliver.{makeAnswer, held, heldAnswer, admitAnswer, deliverAnswer}
-use Rattle.rules.specs.Tree.{slot, slotOf, parentIn, climb, path, depth, atOrBelow}
-use Rattle.rules.specs.Replay.{opsWithin, addedIn, removedIn, timestampIn, timestamp, stamp, stamped, ofReplica, ofKind, ofTime, byTime, ordered, start, outcomeSlot, outcomeOf, step, replay, parentsOf, outcomesOf}
-use Rattle.rules.specs.Issue.{Request, add, remove, move, opBytes, moveKind, issued, requestKnown, requestClear, issueAnswer}
-use Rattle.rules.specs.Views.{nodes, tombstone, shown}
+use Rattle.rules.specs.Issue.{Request, add, move, opBytes, moveKind, issued, requestKnown, requestClear, issueAnswer, issueOut}
 use Rattle.rules.specs.Listing.{children, preorder, digits, decimal, lineOf, line, listingIn, listingOf, refusedLine, outline}
+use Rattle.rules.specs.Log.{Log, emptyLog, opsOf, opAt, countsOf, append, countAt, startAt, headerCounts, startOf, endOf, fileEnd, chunks, chunksOf, logOf, headerEntry, headerOf, fileOf, within, covered, closedAt, closed, nodeWithin, known, knownParent, namesKnown, soundOp, soundOps, soundLog, soundHeader, laid, structural}
+use Rattle.rules.specs.Op.{Op, Vector, replicas, isReplica, countIn, kindOf, replicaOf, nodeOf, parentOf, vectorOf, ownCount, seqOf, nodeNumber, isAdd, isRemove, isMove, wellFormed}
+use Rattle.rules.specs.Replay.{opsWithin, addedIn, removedIn, timestampIn, timestamp, stamp, stamped, ofReplica, ofKind, ofTime, byTime, ordered, start, outcomeSlot, outcomeOf, step, replay, parentsOf, outcomesOf}
+use Rattle.rules.specs.Sound.{sound}
+use Rattle.rules.specs.Tree.{slot, slotOf, parentIn, climb, path, depth, atOrBelow}
+use Rattle.rules.specs.Views.{nodes, tombstone, shown}
 
 -- what a function says of each op of a log, replica by replica
 unfoldable pub ofOps : (ℕ → ℕ → ℕ) → Log → List (List ℕ)
@@ -28,6 +28,8 @@ pub data Row : Type 0 where
   delivers : (buffer op : List ℕ) → Answer → Row
   -- a replica that issues at a buffer, with 14 bytes for the op, is answered
   issues : (buffer : List ℕ) (replica : ℕ) → Request → Answer → Row
+  -- and finds there, where nines were lent
+  fills : (buffer : List ℕ) (replica : ℕ) → Request → (out : List ℕ) → Row
   -- the op that a replica issues
   puts : Log → (replica : ℕ) → Request → Op → Row
   -- the outcomes of all ops; their timestamps
@@ -41,6 +43,7 @@ abbrev pub Holds : Row → Type 0
 Holds (laidOut log f) = (fileOf 14 log ≡ f) × (sound 14 f ≡ true)
 Holds (delivers f r a) = deliverAnswer 14 f r ≡ a
 Holds (issues f s q a) = issueAnswer 14 f 14 s q ≡ a
+Holds (fills f s q out) = issueOut 14 f (replicate 15 9) s q ≡ out
 Holds (puts log s q r) = issued log s q ≡ r
 Holds (outcomes log os) = ofOps (λ s q. getD (outcomesOf log) (slot s q) 0) log ≡ os
 Holds (times log ts) = ofOps (λ s q. timestamp log (opAt log s q)) log ≡ ts
@@ -163,6 +166,8 @@ table =
     ∷ delivers (emptyFile ++ replicate 14 0) (adds 1 1 0 (vector 0 0 0)) (accepted 46)
     ∷ issues (emptyFile ++ replicate 13 0) 1 (add 0) (refused 8)
     ∷ issues (emptyFile ++ replicate 14 0) 1 (add 0) (accepted 46)
+    ∷ fills (emptyFile ++ replicate 13 0) 1 (add 0) (replicate 15 9)
+    ∷ fills (emptyFile ++ replicate 14 0) 1 (add 0) (adds 1 1 0 (vector 0 0 0) ++ (9 ∷ []))
     -- P10
     ∷ outcomes p10 (three [] (1 ∷ 1 ∷ 1 ∷ 3 ∷ []) (1 ∷ []) (1 ∷ []))
     -- P11
@@ -181,8 +186,8 @@ table =
 
 -- every row of the table holds
 pub table-holds : AllHold table
-unfolding ofOps table p1 p1File p1Buffer emptyFile p10 p11 p11All p12 p12All clash clash2 clash3 chain require wordAt word upFrom downFrom sum greatest same concat all any filter isIn replicas isReplica countIn kindOf replicaOf nodeOf parentOf vectorOf ownCount seqOf nodeNumber isAdd isRemove isMove wellFormed emptyLog opsOf opAt countsOf append countAt startAt headerCounts startOf endOf fileEnd chunks chunksOf logOf headerEntry headerOf fileOf within covered closedAt closed nodeWithin known knownParent namesKnown soundOp soundOps soundLog soundHeader laid structural sound makeAnswer held heldAnswer admitAnswer deliverAnswer slot slotOf parentIn climb path depth atOrBelow opsWithin addedIn removedIn timestampIn timestamp stamp stamped ofReplica ofKind ofTime byTime ordered start outcomeSlot outcomeOf step replay parentsOf outcomesOf opBytes moveKind issued requestKnown requestClear issueAnswer nodes tombstone shown children preorder digits decimal lineOf line listingIn listingOf refusedLine outline
-table-holds = ((refl, refl), (refl, (refl, (refl, (refl, (refl, (refl, (refl, (refl, (refl, (refl, (refl, (refl, (refl, (refl, (refl, (refl, (refl, (refl, (refl, (refl, (refl, (refl, (refl, (refl, (refl, (refl, (refl, (refl, (refl, (refl, (refl, tt))))))))))))))))))))))))))))))))
+unfolding ofOps table p1 p1File p1Buffer emptyFile p10 p11 p11All p12 p12All clash clash2 clash3 chain require wordAt word upFrom downFrom sum greatest same concat all any filter isIn replicas isReplica countIn kindOf replicaOf nodeOf parentOf vectorOf ownCount seqOf nodeNumber isAdd isRemove isMove wellFormed emptyLog opsOf opAt countsOf append countAt startAt headerCounts startOf endOf fileEnd chunks chunksOf logOf headerEntry headerOf fileOf within covered closedAt closed nodeWithin known knownParent namesKnown soundOp soundOps soundLog soundHeader laid structural sound makeAnswer held heldAnswer admitAnswer deliverAnswer slot slotOf parentIn climb path depth atOrBelow opsWithin addedIn removedIn timestampIn timestamp stamp stamped ofReplica ofKind ofTime byTime ordered start outcomeSlot outcomeOf step replay parentsOf outcomesOf opBytes moveKind issued requestKnown requestClear issueAnswer issueOut nodes tombstone shown children preorder digits decimal lineOf line listingIn listingOf refusedLine outline
+table-holds = ((refl, refl), (refl, (refl, (refl, (refl, (refl, (refl, (refl, (refl, (refl, (refl, (refl, (refl, (refl, (refl, (refl, (refl, (refl, (refl, (refl, (refl, (refl, (refl, (refl, (refl, (refl, (refl, (refl, (refl, (refl, (refl, (refl, (refl, (refl, tt))))))))))))))))))))))))))))))))))
 
 -- what holds of all rows holds of each
 each : (xs : List Row) (d : Row) → AllHold xs → (k : ℕ) → k < length xs → Holds (getD xs k d)

@@ -1,0 +1,95 @@
+-- A meeting worked out: what the definitions of Exchange give for the paper's P1. Assumes nothing.
+use lib.ListN.{replicate}
+use mathlib.Core.Bool.{true}
+use mathlib.Core.List.{List, [], _∷_, _++_}
+use mathlib.Core.Path.{refl, _≡_}
+use Rattle.convergence.specs.Converges.{expected}
+use Rattle.convergence.specs.Exchange.{Side, Round, left, Offer, Pair, Call, issue, deliver, run, right, make, missing, after, answers, acceptedBy, answer, answerTo, acceptances, isSide, arrange, inOrder, everything, other, perform, opNumbered, heldThen, has, onlyIn, bufferAfter, offered}
+use Rattle.rules.specs.Answer.{require, ifAccepted}
+use Rattle.rules.specs.Bytes.{wordAt, all, word, upFrom, downFrom, sum, concat, greatest, same, any, filter, isIn}
+use Rattle.rules.specs.Deliver.{makeAnswer, deliverBuffer, makeBuffer, deliverAnswer, heldAnswer, admitAnswer, held}
+use Rattle.rules.specs.Examples.{p1, adds, p1File, vector}
+use Rattle.rules.specs.Issue.{opBytes, add, move, requestKnown, issued, moveKind, issueAnswer, requestClear, issueBuffer, issueOut}
+use Rattle.rules.specs.Log.{emptyLog, opsOf, opAt, countsOf, append, countAt, startAt, headerCounts, startOf, endOf, fileEnd, chunks, chunksOf, logOf, headerEntry, headerOf, fileOf, within, covered, closedAt, closed, nodeWithin, known, knownParent, namesKnown, soundOp, soundOps, soundLog, soundHeader, laid, structural, appended}
+use Rattle.rules.specs.Op.{Op, replicas, isReplica, countIn, kindOf, replicaOf, nodeOf, parentOf, vectorOf, ownCount, seqOf, nodeNumber, isAdd, isRemove, isMove, wellFormed}
+use Rattle.rules.specs.Replay.{ofTime, timestampIn, stamped, parentsOf, ofReplica, byTime, ofKind, start, outcomeSlot, outcomeOf, opsWithin, stamp, ordered, outcomesOf, replay, timestamp, step}
+use Rattle.rules.specs.Sound.{sound}
+use Rattle.rules.specs.Tree.{climb, path, atOrBelow, slot, slotOf, depth, parentIn}
+
+-- P1's ops: replica 1 issues the first three, and replica 2, which has the first two, issues the last
+abbrev a₁ : Op
+a₁ = adds 1 1 0 (vector 0 0 0)
+
+abbrev a₂ : Op
+a₂ = adds 1 2 0 (vector 1 0 0)
+
+abbrev a₃ : Op
+a₃ = opBytes 4 1 258 257 (vector 2 0 0)
+
+abbrev b₁ : Op
+b₁ = opBytes 4 2 257 258 (vector 2 0 0)
+
+-- refused calls and a second making among them
+abbrev calls₁ : List Call
+calls₁ =
+    issue (replicate 14 9) 1 (add 0)
+    ∷ deliver []
+    ∷ issue (replicate 15 9) 1 (add 0)
+    ∷ issue [] 1 (add 0)
+    ∷ issue (replicate 14 9) 1 (move 258 257)
+    ∷ []
+
+abbrev calls₂ : List Call
+calls₂ =
+    deliver a₁ ∷ make ∷ deliver a₂ ∷ deliver a₁ ∷ deliver a₁ ∷ deliver a₂ ∷ issue (replicate 14 9) 2 (move 257 258) ∷ []
+
+abbrev pair : List Call → Pair
+pair calls left = run (replicate 102 7) calls₁
+pair calls right = run (replicate 88 7) calls
+
+abbrev to : Side → Op → Offer
+to d r = record { to = d; op = r }
+
+-- a round in which both sides lack one op
+abbrev round : Round
+round = to right a₃ ∷ to left a₂ ∷ to left b₁ ∷ to right a₁ ∷ to left a₁ ∷ to right a₃ ∷ to right a₂ ∷ to left b₁ ∷ []
+
+-- the latest first, to a side with nothing: one op in each round
+abbrev backward : Round
+backward = to right a₃ ∷ to right a₂ ∷ to right a₁ ∷ []
+
+abbrev rounds : List Round
+rounds = backward ∷ (to left a₁ ∷ backward) ∷ (backward ++ (to left a₂ ∷ to left a₁ ∷ [])) ∷ []
+
+pub record Met : Type 0 where
+  pub held-left : pair calls₂ left .held ≡ a₁ ∷ a₂ ∷ a₃ ∷ []
+  pub held-right : pair calls₂ right .held ≡ a₁ ∷ a₂ ∷ b₁ ∷ []
+  -- two ops are missing, and one round brings both over; the two files are then P1's
+  pub missing-two : missing (pair calls₂) ≡ a₃ ∷ b₁ ∷ []
+  pub none-missing : missing (after (pair calls₂) round) ≡ []
+  pub answers-expected : all (λ x. expected (x .answered)) (answers (pair calls₂) round) ≡ true
+  pub taken-left : acceptedBy left (answers (pair calls₂) round) ≡ b₁ ∷ []
+  pub taken-right : acceptedBy right (answers (pair calls₂) round) ≡ a₃ ∷ []
+  pub file-left : after (pair calls₂) round left .buffer ≡ p1File ++ replicate 14 7
+  pub file-right : after (pair calls₂) round right .buffer ≡ p1File
+  -- in the worst order each round brings one
+  pub first-round : missing (after (pair []) backward) ≡ a₂ ∷ a₃ ∷ []
+  pub last-round : missing (after (pair []) (concat rounds)) ≡ []
+  pub in-turn : acceptedBy right (answers (pair []) (concat rounds)) ≡ a₁ ∷ a₂ ∷ a₃ ∷ []
+
+pub met : Met
+unfolding p1 p1File require wordAt word upFrom downFrom sum greatest same concat all any filter isIn replicas isReplica countIn kindOf replicaOf nodeOf parentOf vectorOf ownCount seqOf nodeNumber isAdd isRemove isMove wellFormed emptyLog opsOf opAt countsOf append countAt startAt headerCounts startOf endOf fileEnd chunks chunksOf logOf headerEntry headerOf fileOf within covered closedAt closed nodeWithin known knownParent namesKnown soundOp soundOps soundLog soundHeader laid structural sound makeAnswer held heldAnswer admitAnswer deliverAnswer slot slotOf parentIn climb path depth atOrBelow opsWithin timestampIn timestamp stamp stamped ofReplica ofKind ofTime byTime ordered start outcomeSlot outcomeOf step replay parentsOf outcomesOf opBytes moveKind issued requestKnown requestClear issueAnswer makeBuffer deliverBuffer appended issueBuffer issueOut answer bufferAfter heldThen perform run has opNumbered inOrder arrange other isSide onlyIn missing answerTo offered after answers acceptances acceptedBy expected everything
+met = record {
+  held-left = refl;
+  held-right = refl;
+  missing-two = refl;
+  none-missing = refl;
+  answers-expected = refl;
+  taken-left = refl;
+  taken-right = refl;
+  file-left = refl;
+  file-right = refl;
+  first-round = refl;
+  last-round = refl;
+  in-turn = refl;
+}
