@@ -22,6 +22,7 @@ pub fn write(script: &mut Script) {
     sequence_edge(script);
     damaged_files(script);
     exchanges(script);
+    whole_exchanges(script);
     full_logs(script);
 }
 
@@ -153,6 +154,55 @@ fn exchanges(script: &mut Script) {
             }
         }
     }
+}
+
+/// Every call at every replica runs in the script, and so do the rounds after
+/// which all have the same file.
+fn whole_exchanges(script: &mut Script) {
+    for (seed, replicas) in [2, 3, 5, 8, 8].into_iter().enumerate() {
+        let rng = &mut Rng::new(400 + seed as u64);
+        let mut files: Vec<Vec<u8>> = vec![file_of(&[]); replicas];
+        for _ in 0..10 * replicas {
+            let at = rng.below(replicas);
+            let from = rng.below(replicas);
+            visit(script, &mut files[at], |script| {
+                issue_here(script, rng, at as u8 + 1);
+            });
+            if rng.one_in(3) {
+                hear(script, rng, &mut files, at, from);
+            }
+        }
+        while files.iter().any(|file| *file != files[0]) {
+            for at in 0..replicas {
+                for from in 0..replicas {
+                    hear(script, rng, &mut files, at, from);
+                }
+            }
+        }
+        script.load(&files[0]);
+        script.push(Case::Judge(2041, 2041));
+    }
+}
+
+/// The ops of one replica, in any order, to another.
+fn hear(script: &mut Script, rng: &mut Rng, files: &mut [Vec<u8>], at: usize, from: usize) {
+    let mut heard = ops(&files[from]);
+    rng.shuffle(&mut heard);
+    if files[at] != files[from] {
+        visit(script, &mut files[at], |script| {
+            for op in heard {
+                script.deliver(&op.bytes());
+            }
+        });
+    }
+}
+
+/// Calls at one replica: its file is loaded, and kept afterwards.
+fn visit(script: &mut Script, file: &mut Vec<u8>, calls: impl FnOnce(&mut Script)) {
+    script.load_in(file, 2000);
+    calls(script);
+    let end = HEADER_LEN + OP_LEN * ops(script.buffer()).len();
+    *file = script.buffer()[..end].to_vec();
 }
 
 fn empty() -> Vec<u8> {
