@@ -5,3 +5,4 @@ mod line;
 pub use line::Pen;
 pub use line::line_size;
 pub use line::write_line;
+pub use line::write_line_with;

@@ -46,3 +46,11 @@ pub fn write_line(out: &mut [u8], pen: Pen, depth: u16, node: u16, removed: bool
         lines: pen.lines + 1,
     }
 }
+
+// The thin line writer: the pen is lent, and changed by the line.
+pub fn write_line_with(out: &mut [u8], pen: &mut Pen, depth: u16, node: u16, removed: bool)
+    requires { ⌜ (now pen .bytes + length (lineOf depth node removed) ≤ length (now out)) × (now pen .lines < 65536) ⌝ }
+    ensures { λ _. ⌜ (now (out .exit) ≡ take (now (pen .entry) .bytes) (now (out .entry)) ++ (lineOf depth node removed ++ drop (now (pen .entry) .bytes + length (lineOf depth node removed)) (now (out .entry)))) × (now (pen .exit) .bytes ≡ now (pen .entry) .bytes + length (lineOf depth node removed)) × (now (pen .exit) .lines ≡ now (pen .entry) .lines + 1) ⌝ }
+{
+    *pen = write_line(out, *pen, depth, node, removed);
+}
