@@ -41,10 +41,9 @@ pub fn write_line(out: &mut [u8], pen: Pen, depth: u16, node: u16, removed: bool
     out[end] = b' ';
     out[end + 1] = mark_byte(removed);
     out[end + 2] = b'\n';
-    Pen {
-        bytes: end + 3,
-        lines: pen.lines + 1,
-    }
+    let bytes = end + 3;
+    let lines = pen.lines + 1;
+    Pen { bytes, lines }
 }
 
 // The thin line writer: the pen is lent, and changed by the line.

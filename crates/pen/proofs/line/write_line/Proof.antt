@@ -52,11 +52,11 @@ add-out-2 c = omega (arith, second (c .before .before .before))
 slice-write-out-4 : tie.Need-slice-write-out-4
 slice-write-out-4 c = rw (length-set, length-set) (omega (arith, second (c .before .before .before)))
 
-add-t14 : tie.Need-add-t14
-add-t14 c = omega (arith, second (c .before .before .before))
+add-bytes : tie.Need-add-bytes
+add-bytes c = omega (arith, second (c .before .before .before))
 
-add-t19 : tie.Need-add-t19
-add-t19 c = omega (arith, c .before .before .before .before .before .before .before .before .before .before .before .pre .1)
+add-lines : tie.Need-add-lines
+add-lines c = omega (arith, c .before .before .before .before .before .before .before .before .before .before .before .pre .1)
 
 same-length : tie.Need-same-length
 same-length c = rw (length-set, length-set, length-set) (second (c .before .before .before .before) .1)
@@ -85,7 +85,7 @@ write-line-spec =
     slice-write-out-3
     add-out-2
     slice-write-out-4
-    add-t14
-    add-t19
+    add-bytes
+    add-lines
     same-length
     returns)
