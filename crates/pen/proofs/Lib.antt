@@ -1,2 +1,2 @@
-pub mod DecimalLaws
+pub mod DigitLaws
 pub mod LineLaws

@@ -7,6 +7,7 @@ use native.Mathlib.Omega.{arith}
 use lib.ListN.{length, take, drop, set, length-append, length-drop}
 use lib.Seq.{set-split, take-at, drop-append-add, drop-drop, length-take-le, sets-eq}
 use Rattle.rules.specs.Listing.{decimal, lineOf}
+use Rattle.rules.proofs.DecimalLaws.{length-line}
 
 -- o with xs at a place
 abbrev pub written : List ℕ → ℕ → List ℕ → List ℕ
@@ -31,10 +32,6 @@ written-length o at xs h = rw (length-append, length-append, length-take-le at o
 
 then : (o x y : List ℕ) (at k : ℕ) (xs ys : List ℕ) → at + length xs ≤ length o → x ≡ written o at xs → k ≡ at + length xs → y ≡ written x k ys → y ≡ written o at (xs ++ ys)
 then o x y at k xs ys h ex ek ey = ey ∙ rw (ex, ek) (written-next o at xs ys h)
-
-pub length-line : (d n : ℕ) (removed : Bool) → length (lineOf d n removed) ≡ length (decimal d) + length (decimal n) + 4
-unfolding lineOf
-length-line d n removed = rw (length-append, length-append) (omega arith)
 
 -- depth, space, node number, and the last three bytes
 pub line-written : (o x y : List ℕ) (at d n a b m : ℕ) (removed : Bool) → at + length (lineOf d n removed) ≤ length o

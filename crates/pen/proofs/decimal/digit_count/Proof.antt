@@ -1,7 +1,7 @@
 -- `pen::decimal::digit_count` meets its contract. Assumes nothing.
 use mathlib.Core.Path.{sym}
 use native.Mathlib.Omega.{arith}
-use Rattle.pen.proofs.DecimalLaws.{one-digit, two-digits, three-digits, four-digits, five-digits}
+use Rattle.rules.proofs.DecimalLaws.{one-digit, two-digits, three-digits, four-digits, five-digits}
 use Rattle.pen.proofs.decimal.digit_count.Statement.{statement}
 use Rattle.pen.proofs.decimal.digit_count.Tie as tie
 

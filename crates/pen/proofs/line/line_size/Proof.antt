@@ -1,7 +1,7 @@
 -- `pen::line::line_size` meets its contract. Assumes nothing.
 use borrow.Author.Needs.{needs}
 use native.Mathlib.Omega.{arith}
-use Rattle.pen.proofs.LineLaws.{length-line}
+use Rattle.rules.proofs.DecimalLaws.{length-line}
 use Rattle.pen.proofs.line.line_size.Statement.{statement}
 use Rattle.pen.proofs.line.line_size.Tie as tie
 

@@ -5,7 +5,8 @@ use native.Mathlib.Omega.{arith}
 use lib.ListN.{length, length-set}
 use denote.Ref.{now}
 use Rattle.rules.specs.Listing.{decimal}
-use Rattle.pen.proofs.LineLaws.{length-line, line-written}
+use Rattle.rules.proofs.DecimalLaws.{length-line}
+use Rattle.pen.proofs.LineLaws.{line-written}
 use Rattle.pen.proofs.line.write_line.Statement.{statement}
 use Rattle.pen.proofs.line.write_line.Tie as tie
 

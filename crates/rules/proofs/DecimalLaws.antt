@@ -1,22 +1,22 @@
--- Laws of decimal numbers: how many digits, that five are enough and read back, and digits written from the last to the first. Assumes nothing.
-use mathlib.Core.Path.{_≡_, refl, sym, ap, _∙_}
-use mathlib.Core.List.{List, [], _∷_, _++_, foldl, foldl-append, append-assoc}
+-- Laws of decimal numbers and of a line: how many digits, and that five are enough and read back. Assumes nothing.
+use mathlib.Core.Path.{_≡_, sym, _∙_}
+use mathlib.Core.Bool.{Bool}
+use mathlib.Core.List.{List, [], _∷_, _++_, foldl, foldl-append}
 use Prim.Native.Nat.{ℕ, zero, suc, _+_, _*_, _-_, _/_, _%_, _≤_, _<_}
 use native.Mathlib.Omega.{arith}
 use native.Mathlib.Decide.{decLe}
-use native.Mathlib.Numerals.{add-one}
-use lib.ListN.{length, take, drop, getD, set, length-append, List·getD-append, length-set, take-append-drop}
-use lib.Seq.{take-set-le, drop-cons, drop-set-lt, getD-set-same, getD-at}
+use lib.ListN.{length, getD, length-append, List·getD-append}
+use lib.Seq.{getD-at}
 use borrow.Author.Tests.{lt-ltb, le-ltb}
-use Rattle.rules.specs.Listing.{digits, decimal}
+use Rattle.rules.specs.Listing.{digits, decimal, lineOf}
 
 ---- how many digits
 
-digits-low : (k n : ℕ) → n < 10 → digits (suc k) n ≡ (48 + n % 10) ∷ []
+pub digits-low : (k n : ℕ) → n < 10 → digits (suc k) n ≡ (48 + n % 10) ∷ []
 unfolding digits
 digits-low k n h = rw (lt-ltb n 10 h)
 
-digits-high : (k n : ℕ) → 10 ≤ n → digits (suc k) n ≡ digits k (n / 10) ++ ((48 + n % 10) ∷ [])
+pub digits-high : (k n : ℕ) → 10 ≤ n → digits (suc k) n ≡ digits k (n / 10) ++ ((48 + n % 10) ∷ [])
 unfolding digits
 digits-high k n h = rw (le-ltb n 10 h)
 
@@ -26,10 +26,9 @@ length-low k n h = rw (digits-low k n h)
 length-high : (k n : ℕ) → 10 ≤ n → length (digits (suc k) n) ≡ length (digits k (n / 10)) + 1
 length-high k n h = rw (digits-high k n h, length-append)
 
-pub digits-length : (k n : ℕ) → length (digits k n) ≤ k
-unfolding digits
-digits-length zero n = omega arith
-digits-length (suc k) n = elim (decLe 10 n) [ yes h ↦ omega (arith, length-high k n h, digits-length k (n / 10)) | no h ↦ omega (arith, length-low k n (omega arith)) ]
+-- at most one digit more than without the last
+digits-last : (k n : ℕ) → length (digits (suc k) n) ≤ length (digits k (n / 10)) + 1
+digits-last k n = elim (decLe 10 n) [ yes h ↦ omega (arith, length-high k n h) | no h ↦ omega (arith, length-low k n (omega arith)) ]
 
 some-digit : (k n : ℕ) → 0 < length (digits (suc k) n)
 some-digit k n = elim (decLe 10 n) [ yes h ↦ omega (arith, length-high k n h) | no h ↦ omega (arith, length-low k n (omega arith)) ]
@@ -139,38 +138,16 @@ pub decimal-digits : (n i : ℕ) → i < length (decimal n) → Digit (getD (dec
 unfolding decimal
 decimal-digits n i h = digits-are 5 n i h
 
----- digits written from the last to the first
+---- a line
 
--- the last i digits of a number
-unfoldable pub lastDigits : ℕ → ℕ → List ℕ
-lastDigits zero n = []
-lastDigits (suc i) n = lastDigits i (n / 10) ++ ((48 + n % 10) ∷ [])
+pub length-line : (d n : ℕ) (removed : Bool) → length (lineOf d n removed) ≡ length (decimal d) + length (decimal n) + 4
+unfolding lineOf
+length-line d n removed = rw (length-append, length-append) (omega arith)
 
-digits-last : (k n : ℕ) → digits k n ≡ lastDigits (length (digits k n)) n
-unfolding digits lastDigits
-digits-last zero n = refl
-digits-last (suc k) n =
-    elim (decLe 10 n) [ yes h ↦ rw (digits-high k n h, length-append, add-one) (ap (λ (ds : List ℕ). ds ++ ((48 + n % 10) ∷ [])) (digits-last k (n / 10))) | no h ↦ rw (digits-low k n (omega arith)) ]
-
--- o as it is once its i bytes from a place on hold the last digits of n
-abbrev pub toWrite : List ℕ → ℕ → ℕ → ℕ → List ℕ
-toWrite o at i n = take at o ++ (lastDigits i n ++ drop (at + i) o)
-
-pub write-all : (o : List ℕ) (at n : ℕ) → take at o ++ (decimal n ++ drop (at + length (decimal n)) o) ≡ toWrite o at (length (decimal n)) n
+decimal-short : (n : ℕ) → n < 10000 → length (decimal n) ≤ 4
 unfolding decimal
-write-all o at n = ap (λ (ds : List ℕ). take at o ++ (ds ++ drop (at + length (digits 5 n)) o)) (digits-last 5 n)
+decimal-short n h = omega (arith, digits-last 4 n, digits-last 3 (n / 10), digits-last 2 (n / 10 / 10), length-low 1 (n / 10 / 10 / 10) (omega arith))
 
-pub write-turn : (o : List ℕ) (at i j n : ℕ) → i ≡ suc j → at + i ≤ length o → toWrite o at i n ≡ toWrite (set o (at + j) (48 + n % 10)) at j (n / 10)
-unfolding lastDigits
-write-turn o at i j n e h =
-    let d : ℕ = 48 + n % 10 in
-    let x : List ℕ = set o (at + j) d in
-    let t : take at x ≡ take at o = take-set-le at o (at + j) d (omega arith) in
-    let k : at + suc j ≡ suc (at + j) = omega arith in
-    let u : at + j < length x = rw length-set (omega arith) in
-    let b : drop (at + j) x ≡ d ∷ drop (suc (at + j)) o = drop-cons x (at + j) 0 u ∙ rw (getD-set-same o (at + j) d 0 (omega arith), drop-set-lt (suc (at + j)) o (at + j) d (omega arith)) in
-    rw (e, t, b, k, append-assoc)
-
-pub write-end : (o : List ℕ) (at n : ℕ) → toWrite o at 0 n ≡ o
-unfolding lastDigits
-write-end o at n = let e : at + 0 ≡ at = omega arith in rw e (take-append-drop at o)
+-- four digits each for depth and node
+pub line-short : (d n : ℕ) (removed : Bool) → d < 10000 → n < 10000 → length (lineOf d n removed) ≤ 12
+line-short d n removed a b = omega (arith, length-line d n removed, decimal-short d a, decimal-short n b)
