@@ -21,7 +21,7 @@ use Rattle.rules.proofs.BoolLaws.{never, or-cases}
 use Rattle.rules.proofs.TreeLaws.{Valid, pigeonhole, slot-below, slot-injective}
 use Rattle.order.proofs.LevelLaws.{Cut}
 use Rattle.order.proofs.GrowLaws.{names-add}
-use Rattle.order.proofs.NodeLaws.{isIn-cases}
+use Rattle.order.proofs.NodeLaws.{isIn-left, isIn-right, isIn-cases}
 use Rattle.order.proofs.FuelLaws.{isIn-filter}
 
 ---- being in a list
@@ -48,6 +48,24 @@ unfolding concat isIn any
 isIn-concat F [] y e = never e
 isIn-concat F (c ∷ cs) y e =
     ⊎-elim (λ (w : isIn y (F c) ≡ true). (c, isIn-here c cs, w)) (λ (w : isIn y (concat (map F cs)) ≡ true). let (d, a, b) = isIn-concat F cs y w in (d, isIn-there d c cs a, b)) (isIn-cases y (F c) (concat (map F cs)) e)
+
+pub concat-isIn : (F : ℕ → List ℕ) (cs : List ℕ) (c y : ℕ) → isIn c cs ≡ true → isIn y (F c) ≡ true → isIn y (concat (map F cs)) ≡ true
+unfolding concat isIn any
+concat-isIn F [] c y e w = never e
+concat-isIn F (d ∷ cs) c y e w =
+    ⊎-elim (λ (z : c ≡ d). isIn-left y (F d) (concat (map F cs)) (rw (← z) w)) (λ (z : isIn c cs ≡ true). isIn-right y (F d) (concat (map F cs)) (concat-isIn F cs c y z w)) (isIn-cons c d cs e)
+
+pub filter-isIn : (p : ℕ → Bool) (xs : List ℕ) (y : ℕ) → isIn y xs ≡ true → p y ≡ true → isIn y (filter p xs) ≡ true
+unfolding filter isIn any
+filter-isIn p [] y e w = never e
+filter-isIn p (x ∷ xs) y e w = ⊎-elim (λ (z : y ≡ x). here z) (λ (z : isIn y xs ≡ true). there (p x) (filter-isIn p xs y z w)) (isIn-cons y x xs e)
+  where
+    here : y ≡ x → isIn y (cond (p x) (x ∷ filter p xs) (filter p xs)) ≡ true
+    here z = let q : p x ≡ true = rw (← z) w in rw (q, z) (isIn-here x (filter p xs))
+
+    there : (b : Bool) → isIn y (filter p xs) ≡ true → isIn y (cond b (x ∷ filter p xs) (filter p xs)) ≡ true
+    there true ih = isIn-there y x (filter p xs) ih
+    there false ih = ih
 
 ---- rising numbers
 
