@@ -7,6 +7,7 @@ use native.Mathlib.Omega.{arith}
 use lib.ListN.{length, take, drop, set, length-append, length-drop}
 use lib.Seq.{set-split, take-at, drop-append-add, drop-drop, length-take-le, sets-eq}
 use Rattle.rules.specs.Listing.{decimal, lineOf}
+use Rattle.pen.specs.declared.line.Pen.{Pen}
 use Rattle.rules.proofs.DecimalLaws.{length-line}
 
 -- o with xs at a place
@@ -58,3 +59,11 @@ line-written o x y at d n a b m removed h ea ex eb ey em =
     let z : List ℕ = set (set (set y b 32) (b + 1) m) (b + 2) 10 in
     let ez : z ≡ written y b tail = rw (s1, s2) (sets-eq tail y b (omega arith) ∙ append-assoc (take b y) tail (drop (b + 3) y)) in
     then o y z at b ((ds ++ (32 ∷ [])) ++ ns) tail (omega arith) ey′ (omega arith) ez ∙ ap (written o at) whole
+
+---- what the line writers require, and what they ensure, of bytes ys and a pen h
+
+abbrev pub Asked : List ℕ → Pen → ℕ → ℕ → Bool → Type 0
+Asked ys h d n t = (h .bytes + length (lineOf d n t) ≤ length ys) × (h .lines < 65536)
+
+abbrev pub Said : List ℕ → Pen → ℕ → ℕ → Bool → List ℕ → Pen → Type 0
+Said ys h d n t zs r = (zs ≡ take (h .bytes) ys ++ (lineOf d n t ++ drop (h .bytes + length (lineOf d n t)) ys)) × (r .bytes ≡ h .bytes + length (lineOf d n t)) × (r .lines ≡ h .lines + 1)

@@ -3,6 +3,7 @@ mod decimal;
 mod line;
 
 pub use line::Pen;
+pub use line::lend_line;
 pub use line::line_size;
 pub use line::write_line;
 pub use line::write_line_with;

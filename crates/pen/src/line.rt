@@ -53,3 +53,13 @@ pub fn write_line_with(out: &mut [u8], pen: &mut Pen, depth: u16, node: u16, rem
 {
     *pen = write_line(out, *pen, depth, node, removed);
 }
+
+// A line by a pen that the caller holds by value: the pen is lent to the line, and handed back.
+pub fn lend_line(out: &mut [u8], pen: Pen, depth: u16, node: u16, removed: bool) -> Pen
+    requires { ⌜ (pen .bytes + length (lineOf depth node removed) ≤ length (now out)) × (pen .lines < 65536) ⌝ }
+    ensures { λ r. ⌜ (now (out .exit) ≡ take (pen .bytes) (now (out .entry)) ++ (lineOf depth node removed ++ drop (pen .bytes + length (lineOf depth node removed)) (now (out .entry)))) × (r .bytes ≡ pen .bytes + length (lineOf depth node removed)) × (r .lines ≡ pen .lines + 1) ⌝ }
+{
+    let mut lent = pen;
+    write_line_with(out, &mut lent, depth, node, removed);
+    lent
+}
