@@ -9,3 +9,5 @@ pub mod FuelLaws
 pub mod ExtendLaws
 pub mod LateLaws
 pub mod PlacedLaws
+pub mod RisingLaws
+pub mod TourLaws
