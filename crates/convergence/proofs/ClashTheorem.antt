@@ -4,15 +4,15 @@ use borrow.Author.Tests.{eq-eqb, ne-eqb, not-true, leb-true, lt-ltb, ltb-false}
 use lib.Dec.{ltb, eqb}
 use lib.ListN.{getD, set, length, length-set, length-append, take, drop}
 use lib.Seq.{getD-set-same, getD-set-other, getD-append-seam, take-at}
-use mathlib.Core.Bool.{Bool, true, cond, false, _||_, and-eq-true-iff}
+use mathlib.Core.Bool.{Bool, true, cond, false, _||_, and-eq-true-iff, not}
 use mathlib.Core.List.{foldl-append, [], _∷_, _++_, List}
 use mathlib.Core.Logic.{inr}
 use mathlib.Core.Path.{refl, ap, _≡_, _∙_, sym}
 use native.Mathlib.Decide.{ℕ-discrete}
 use native.Mathlib.Omega.{arith}
-use Rattle.convergence.proofs.CircleLaws.{second-blocked}
+use Rattle.convergence.proofs.CircleLaws.{second-blocked, first-below, second-free, cut-off, reached}
 use Rattle.convergence.proofs.ClashLaws.{winner-first, passed-over, placed-already, applied, blocked, applies}
-use Rattle.convergence.specs.Clash.{Move, nextSlot, request, beats, circle, clash, Wins, ClashDecided}
+use Rattle.convergence.specs.Clash.{Move, nextSlot, request, beats, circle, clash, Wins, ClashDecided, hang, Issued, CircleCutsOff}
 use Rattle.order.proofs.GrowLaws.{Named, named-valid, parent-reads, known-reads, replay-run}
 use Rattle.order.proofs.LateLaws.{Late, ordered-late, no-entry, late-entry, top}
 use Rattle.order.proofs.LevelLaws.{Cut}
@@ -24,7 +24,7 @@ use Rattle.rules.proofs.DeliverLaws.{appended-log, admitted}
 use Rattle.rules.proofs.IssueLaws.{counts-eight, bytes-parent, bytes-vector, bytes-node, Allowed, issue-admitted, allowed}
 use Rattle.rules.proofs.SoundLaws.{sound-good}
 use Rattle.rules.proofs.StructureLaws.{GoodLog, counts-covered, counts-closed, count-held}
-use Rattle.rules.proofs.TreeLaws.{Valid, slot-below, slot-injective}
+use Rattle.rules.proofs.TreeLaws.{Valid, slot-below, slot-injective, short, still-reaches, free-avoids}
 use Rattle.rules.specs.Deliver.{deliverBuffer}
 use Rattle.rules.specs.Issue.{issued, opBytes, moveKind, requestKnown, issueBuffer, requestClear, issueOut}
 use Rattle.rules.specs.Log.{Log, countsOf, known, knownParent, opAt, append, opsOf, logOf, width, appended}
@@ -152,13 +152,13 @@ module _ (log more : Log) (good : GoodLog log) (x y : Move) (ax : Asked log x) (
   -- the state after x
   abbrev mid : State
   mid = record {
-    parents = set (parentsOf log) (slotOf (x .node)) (x .parent);
+    parents = hang (parentsOf log) x;
     outcomes = set (outcomesOf log) (nextSlot log (x .replica)) 1;
     placed = set (before .placed) (slotOf (x .node)) now-time;
   }
 
   x-applied : step before first ≡ mid
-  unfolding parentsOf outcomesOf
+  unfolding hang parentsOf outcomesOf
   x-applied =
       applied before now-time (opOf log x) (is-move log good x ax)
       (applies before now-time (opOf log x) (is-move log good x ax) (λ e. omega (arith, placed-before (slotOf (nodeOf (opOf log x))))) (rw (node-is log good x ax, parent-is log good x ax) (ax .clear)))
@@ -175,7 +175,7 @@ module _ (log more : Log) (good : GoodLog log) (x y : Move) (ax : Asked log x) (
 
   -- 3 if they close a circle
   y-circle : (x .node ≡ y .node → ⊥) → circle (parentsOf log) x y ≡ true → outcomeOf mid second ≡ 3
-  unfolding circle parentsOf replay
+  unfolding circle hang parentsOf replay
   y-circle ne c =
       let tree = replay-run log good (countsOf log) held .tree in
       let (ip, rp) = tree .way (x .parent) (named-parent log good x ax) in
@@ -308,6 +308,45 @@ module _ (log : Log) (good : GoodLog log) (x y : Move) (ax : Asked log x) (ay : 
         ]
       ]
 
+---- a circle
+
+alike : (a b : Bool) → (a ≡ true → b ≡ true) → (a ≡ false → b ≡ false) → a ≡ b
+alike true b p q = sym (p refl)
+alike false b p q = sym (q refl)
+
+circle-is : (log : Log) → GoodLog log → (x y : Move) → Asked log x → Asked log y → circle (parentsOf log) x y ≡ not (atOrBelow (hang (hang (parentsOf log) x) y) (x .node) 0)
+unfolding circle hang parentsOf replay
+circle-is log good x y ax ay =
+    let tree = replay-run log good (countsOf log) (record { is-covered = counts-covered log; is-closed = counts-closed log good }) .tree in
+    let t : List ℕ = parentsOf log in
+    let P : ℕ → Type 0 = Named log (countsOf log) in
+    let pv = named-valid log (countsOf log) in
+    let (ip, rp) = tree .way (x .parent) (named-parent log good x ax) in
+    let (iq, rq) = tree .way (y .parent) (named-parent log good y ay) in
+    let (im, rn) = tree .way (x .node) (named-node log good x ax) in
+    let vx = valid-node log good x ax in
+    let vy = valid-node log good y ay in
+    let nx = no-root log good x ax in
+    let ny = no-root log good y ay in
+    -- the tree after x
+    let (jp, jb, rp′, firstp) = short P pv t ip (x .parent) rp in
+    let avoids = free-avoids t (x .node) (x .parent) jp jb firstp (ax .clear) in
+    let (iq₁, rq₁) = still-reaches P pv t (tree .size) (x .node) (x .parent) vx nx jp rp′ avoids iq (y .parent) rq in
+    let (im₁, rn₁) = still-reaches P pv t (tree .size) (x .node) (x .parent) vx nx jp rp′ avoids im (x .node) rn in
+    let one : List ℕ = set t (slotOf (x .node)) (x .parent) in
+    let size₁ : length one ≡ 2041 = length-set t (slotOf (x .node)) (x .parent) ∙ tree .size in
+    alike _ _
+    (λ e.
+    let h = simp and-eq-true-iff at e in
+    let under = second-blocked P pv t (tree .size) (x .node) (x .parent) (y .node) (y .parent) vx nx ny ip iq rp rq (ax .clear) (h .0) (h .1) in
+    let below = first-below P pv t (tree .size) (x .node) (x .parent) (y .node) (y .parent) vx nx ny ip iq rp rq (ax .clear) (h .0) in
+    rw (cut-off P pv one size₁ (y .node) (y .parent) vy ny iq₁ rq₁ under (x .node) im₁ rn₁ below))
+    (λ e.
+    let free = second-free P pv t (tree .size) (x .node) (x .parent) (y .node) (y .parent) vx nx ny ip iq rp rq (ax .clear) (ay .clear) e in
+    let (jq, jb′, rq′, firstq) = short P pv one iq₁ (y .parent) rq₁ in
+    let (k, rk) = still-reaches P pv one size₁ (y .node) (y .parent) vy ny jq rq′ (free-avoids one (y .node) (y .parent) jq jb′ firstq free) im₁ (x .node) rn₁ in
+    rw (reached P pv (set one (slotOf (y .node)) (y .parent)) k (x .node) rk))
+
 ---- from the calls
 
 asked : (w : ℕ) (f : List ℕ) (room n : ℕ) (x : Move) → Allowed w f room (x .replica) (request x) n → Asked (logOf w f) x
@@ -354,19 +393,38 @@ decided log more good x y ax ay both apart c = (
   λ w. x-wins log more good y x ay ax (swap log more x y both) (λ e. apart (sym e)) (beaten log x y apart w) (clash-back (parentsOf log) x y c),
 )
 
+-- what two accepted issues say
+module _ (f g out out′ : List ℕ) (x y : Move) (both : Issued f g out out′ x y) where
+  abbrev log-of : Log
+  log-of = logOf width f
+
+  is-good : GoodLog log-of
+  is-good = sound-good width f (allowed width f (length out) (x .replica) (request x) (both .end) (both .first) .is-sound)
+
+  asked-x : Asked log-of x
+  asked-x = asked width f (length out) (both .end) x (allowed width f (length out) (x .replica) (request x) (both .end) (both .first))
+
+  asked-y : Asked log-of y
+  asked-y =
+      rw (both .one-log) at (asked width g (length out′) (both .end′) y (allowed width g (length out′) (y .replica) (request y) (both .end′) (both .second)))
+
 pub clash-decided : ClashDecided
 unfolding issueBuffer issueOut deliverBuffer
-clash-decided f g out out′ x y i j k same apart ix iy ok c =
+clash-decided f g out out′ x y both n ok c =
     let log : Log = logOf width f in
-    let a = allowed width f (length out) (x .replica) (request x) i ix in
-    let b = rw same at (asked width g (length out′) j y (allowed width g (length out′) (y .replica) (request y) j iy)) in
-    let good = sound-good width f (a .is-sound) in
-    let first = issue-admitted f (length out) (x .replica) (request x) i ix in
-    let op : take width (issueOut width g out′ (y .replica) (request y)) ≡ opOf log y = rw (iy, take-at (opOf (logOf width g) y) (drop width out′) width (issue-admitted g (length out′) (y .replica) (request y) j iy .long), same) in
-    let file : issueBuffer width f (length out) (x .replica) (request x) ≡ appended width f (opOf log x) = rw ix in
+    let good = is-good f g out out′ x y both in
+    let ax = asked-x f g out out′ x y both in
+    let ay = asked-y f g out out′ x y both in
+    let first = issue-admitted f (length out) (x .replica) (request x) (both .end) (both .first) in
+    let op : take width (issueOut width g out′ (y .replica) (request y)) ≡ opOf log y = rw (both .second, take-at (opOf (logOf width g) y) (drop width out′) width (issue-admitted g (length out′) (y .replica) (request y) (both .end′) (both .second) .long), both .one-log) in
+    let file : issueBuffer width f (length out) (x .replica) (request x) ≡ appended width f (opOf log x) = rw (both .first) in
     let taken = rw (op, file) at ok in
-    let second = admitted width (appended width f (opOf log x)) (opOf log y) k taken in
-    let one-more = appended-log width f (opOf log x) i first in
-    let two-more = appended-log width (appended width f (opOf log x)) (opOf log y) k second in
-    let both = both-held log good x y (asked width f (length out) i x a) b apart (first .admits) (rw one-more at (second .admits)) in
-    rw (op, file, taken, two-more, one-more) (decided log _ good x y (asked width f (length out) i x a) b both apart c)
+    let second = admitted width (appended width f (opOf log x)) (opOf log y) n taken in
+    let one-more = appended-log width f (opOf log x) (both .end) first in
+    let two-more = appended-log width (appended width f (opOf log x)) (opOf log y) n second in
+    let held = both-held log good x y ax ay (both .replicas-differ) (first .admits) (rw one-more at (second .admits)) in
+    rw (op, file, taken, two-more, one-more) (decided log _ good x y ax ay held (both .replicas-differ) c)
+
+pub circle-cuts-off : CircleCutsOff
+circle-cuts-off f g out out′ x y both =
+    circle-is (logOf width f) (is-good f g out out′ x y both) x y (asked-x f g out out′ x y both) (asked-y f g out out′ x y both)

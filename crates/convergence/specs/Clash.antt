@@ -3,7 +3,7 @@
 use Prim.Native.Nat.{ℕ, _+_}
 use lib.Dec.{eqb, ltb}
 use lib.ListN.{set, take, getD, length}
-use mathlib.Core.Bool.{cond, false, Bool, true, _&&_, _||_}
+use mathlib.Core.Bool.{cond, false, Bool, true, _&&_, _||_, not}
 use mathlib.Core.List.{List}
 use mathlib.Core.Path.{_≡_}
 use Rattle.rules.specs.Answer.{accepted}
@@ -30,6 +30,10 @@ circle parents x y = atOrBelow parents (x .parent) (y .node) && atOrBelow parent
 unfoldable pub clash : List ℕ → Move → Move → Bool
 clash parents x y = eqb (x .node) (y .node) || circle parents x y
 
+-- the parent table with a move made, whatever it closes
+unfoldable pub hang : List ℕ → Move → List ℕ
+hang parents x = set parents (slotOf (x .node)) (x .parent)
+
 -- x beats y: of two moves of one kind the higher replica's, else the upward one
 unfoldable pub beats : List ℕ → Move → Move → Bool
 beats parents x y =
@@ -46,18 +50,33 @@ nextSlot log s = slot s (countIn (countsOf log) s + 1)
 pub record Wins (log more : Log) (x y : Move) : Type 0 where
   pub winner : getD (outcomesOf more) (nextSlot log (x .replica)) 0 ≡ 1
   pub loser : getD (outcomesOf more) (nextSlot log (y .replica)) 0 ≡ cond (eqb (x .node) (y .node)) 2 3
-  pub tree : parentsOf more ≡ set (parentsOf log) (slotOf (x .node)) (x .parent)
+  pub tree : parentsOf more ≡ hang (parentsOf log) x
 
--- the buffers f and g hold one log; x is issued at f and y at g, and y's op is then delivered at f
+-- the buffers f and g hold one log; x is accepted at f and y at g, of two replicas
+pub record Issued (f g out out′ : List ℕ) (x y : Move) : Type 0 where
+  pub one-log : logOf width g ≡ logOf width f
+  pub replicas-differ : x .replica ≡ y .replica → ⊥
+  pub end : ℕ
+  pub end′ : ℕ
+  pub first : issueAnswer width f (length out) (x .replica) (request x) ≡ accepted end
+  pub second : issueAnswer width g (length out′) (y .replica) (request y) ≡ accepted end′
+
+-- y's op is then delivered where x was issued
 abbrev pub ClashDecided : Type 0
 ClashDecided =
-    (f g out out′ : List ℕ) (x y : Move) (i j k : ℕ) → logOf width g ≡ logOf width f → (x .replica ≡ y .replica → ⊥)
-    → issueAnswer width f (length out) (x .replica) (request x) ≡ accepted i
-    → issueAnswer width g (length out′) (y .replica) (request y) ≡ accepted j
+    (f g out out′ : List ℕ) (x y : Move) → Issued f g out out′ x y
+    → (n : ℕ)
     → let h = issueBuffer width f (length out) (x .replica) (request x) in
     let r = take width (issueOut width g out′ (y .replica) (request y)) in
     let log = logOf width f in
     let more = logOf width (deliverBuffer width h r) in
-    deliverAnswer width h r ≡ accepted k
+    deliverAnswer width h r ≡ accepted n
     → clash (parentsOf log) x y ≡ true
     → (beats (parentsOf log) x y ≡ true → Wins log more x y) × (beats (parentsOf log) x y ≡ false → Wins log more y x)
+
+-- what `circle` says is a circle: with both moves made, and only then, x's node has no way to the root
+abbrev pub CircleCutsOff : Type 0
+CircleCutsOff =
+    (f g out out′ : List ℕ) (x y : Move) → Issued f g out out′ x y
+    → let parents = parentsOf (logOf width f) in
+    circle parents x y ≡ not (atOrBelow (hang (hang parents x) y) (x .node) 0)
