@@ -11,3 +11,4 @@ pub mod LateLaws
 pub mod PlacedLaws
 pub mod RisingLaws
 pub mod TourLaws
+pub mod PlacingLaws

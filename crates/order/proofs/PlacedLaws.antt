@@ -45,7 +45,7 @@ times-ordered xs =
 
 ---- the times that nodes were placed
 
-abbrev PlacedBy : ℕ → List ℕ → Type 0
+abbrev pub PlacedBy : ℕ → List ℕ → Type 0
 PlacedBy b placed = (i : ℕ) → getD placed i 0 ≤ b
 
 placed-set : (placed : List ℕ) (b n t : ℕ) → PlacedBy b placed → t ≤ b → PlacedBy b (set placed n t)
@@ -71,7 +71,7 @@ placed-run [] st b h le = h
 placed-run (x ∷ xs) st b h le =
     placed-run xs (step st x) b (placed-step st x b h (omega arith)) (omega arith)
 
-placed-first : PlacedBy 0 (start .placed)
+pub placed-first : PlacedBy 0 (start .placed)
 unfolding start
 placed-first i = elim (decLe slots i) [
   | yes out ↦ rw (List·getD-eq-default {A = ℕ} (replicate slots 0) 0 {n = i} (omega (arith, length-replicate {A = ℕ} slots 0))) (le-refl 0)
@@ -89,7 +89,7 @@ pub record Full (st : State) : Type 0 where
   pub outcomes-full : length (st .outcomes) ≡ slots
   pub placed-full : length (st .placed) ≡ slots
 
-full-step : (st : State) (x : Stamped) → Full st → Full (step st x)
+pub full-step : (st : State) (x : Stamped) → Full st → Full (step st x)
 unfolding step
 full-step st x h = record {
   outcomes-full = length-set (st .outcomes) _ _ ∙ h .outcomes-full;
@@ -104,9 +104,13 @@ full-run : (xs : List Stamped) (st : State) → Full st → Full (foldl step st 
 full-run [] st h = h
 full-run (x ∷ xs) st h = full-run xs (step st x) (full-step st x h)
 
-pub tables-full : (log : Log) (cut : Vector) → Full (replay log cut)
-unfolding replay start
-tables-full log cut = full-run (ordered log cut) start (record {
+pub full-first : Full start
+unfolding start
+full-first = record {
   outcomes-full = length-replicate {A = ℕ} slots 0;
   placed-full = length-replicate {A = ℕ} slots 0;
-})
+}
+
+pub tables-full : (log : Log) (cut : Vector) → Full (replay log cut)
+unfolding replay
+tables-full log cut = full-run (ordered log cut) start full-first
