@@ -174,9 +174,8 @@ fn whole_exchanges(script: &mut Script) {
         }
         while files.iter().any(|file| *file != files[0]) {
             for at in 0..replicas {
-                for from in 0..replicas {
-                    hear(script, rng, &mut files, at, from);
-                }
+                let from = rng.below(replicas);
+                hear(script, rng, &mut files, at, from);
             }
         }
         script.load(&files[0]);
