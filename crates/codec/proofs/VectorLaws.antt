@@ -1,18 +1,21 @@
 -- Turns of the loops over the eight counts of a vector. Assumes nothing.
-use lib.Seq.{take-suc, take-suc-set}
-use mathlib.Core.Path.{_≡_, refl, sym, _∙_}
-use mathlib.Core.Bool.{Bool, true, _&&_}
-use mathlib.Core.List.{List, map}
-use Prim.Native.Nat.{ℕ, _+_, _-_, _≤_, _<_}
-use native.Mathlib.Omega.{arith}
+use Prim.Native.Nat.{ℕ, _+_, _-_, _<_, _*_, _/_, _%_, _≤_}
+use borrow.Author.Tests.{lt-leb, le-leb, eq-eqb, ne-eqb}
+use lib.Dec.{leb, eqb}
 use lib.ListN.{length, take, getD, set}
-use lib.Dec.{leb}
+use lib.Seq.{take-suc, take-suc-set}
+use mathlib.Core.Bool.{_&&_, Bool, and-eq-true-iff, true}
+use mathlib.Core.List.{List, map}
+use mathlib.Core.Path.{_≡_, refl, sym, _∙_}
+use native.Mathlib.Decide.{decLe}
 use native.Mathlib.Numerals.{add-one}
-use Rattle.rules.specs.Op.{Vector, countIn, replicas}
-use Rattle.rules.specs.Log.{within}
-use Rattle.rules.specs.Bytes.{upFrom}
+use native.Mathlib.Omega.{arith}
+use Rattle.codec.specs.Spread.{allMarked, spreadOf, Counts}
+use Rattle.rules.proofs.BoolLaws.{both-ways}
 use Rattle.rules.proofs.FileLaws.{count-map}
-use Rattle.rules.proofs.BoolLaws.{pass-all, pass-end, pass-turn, passFrom}
+use Rattle.rules.specs.Bytes.{upFrom, all}
+use Rattle.rules.specs.Log.{within}
+use Rattle.rules.specs.Op.{Vector, countIn, replicas}
 
 -- a turn of a loop that copies s to the front of v
 pub copy-step : (v s : List ℕ) (i x : ℕ) → take i v ≡ take i s → i < length v → i < length s → x ≡ getD s i 0 → take (i + 1) (set v i x) ≡ take (i + 1) s
@@ -31,18 +34,68 @@ pub build-step : (F : ℕ → ℕ) (v : List ℕ) (i x : ℕ) → take i v ≡ t
 build-step F v i x e h l ex =
     copy-step v (map F replicas) i x e (omega arith) (omega (arith, length-eight F)) (ex ∙ sym (count-map F (i + 1) (omega arith) (omega arith)) ∙ count-of (map F replicas) i)
 
--- a comparison of two vectors, from place i on
-unfoldable pub withinFrom : Vector → Vector → ℕ → Bool
-withinFrom v u i = passFrom (λ s. leb (countIn v s) (countIn u s)) i
+---- a comparison of four counts at once
 
-pub within-all : (v u : Vector) → within v u ≡ withinFrom v u 0
-unfolding within withinFrom
-within-all v u = pass-all (λ s. leb (countIn v s) (countIn u s))
+-- bit 8 of the lowest part
+low-mark : (x n : ℕ) → x < 512 → eqb ((x + 65536 * n) / 256 % 2) 1 ≡ leb 256 x
+low-mark x n h = elim (decLe 256 x) [
+  | yes l ↦ eq-eqb ((x + 65536 * n) / 256 % 2) 1 (omega arith) ∙ sym (le-leb 256 x l)
+  | no l ↦ ne-eqb ((x + 65536 * n) / 256 % 2) 1 (λ e. omega arith) ∙ sym (lt-leb 256 x (omega arith))
+]
 
-pub within-turn : (v u : Vector) (i : ℕ) → i < 8 → withinFrom v u i ≡ (leb (getD v i 0) (getD u i 0) && withinFrom v u (i + 1))
-unfolding withinFrom
-within-turn v u i h = pass-turn _ i h ∙ rw (count-of v i, count-of u i)
+high-mark : (x : ℕ) → x < 512 → eqb (x / 256 % 2) 1 ≡ leb 256 x
+high-mark x h = elim (decLe 256 x) [
+  | yes l ↦ eq-eqb (x / 256 % 2) 1 (omega arith) ∙ sym (le-leb 256 x l)
+  | no l ↦ ne-eqb (x / 256 % 2) 1 (λ e. omega arith) ∙ sym (lt-leb 256 x (omega arith))
+]
 
-pub within-end : (v u : Vector) (i : ℕ) → 8 ≤ i → withinFrom v u i ≡ true
-unfolding withinFrom
-within-end v u i h = pass-end _ i h
+-- the parts above it
+above-low : (x n : ℕ) → x < 512 → ((x + 65536 * n) / 16777216 ≡ n / 256) × ((x + 65536 * n) / 1099511627776 ≡ n / 16777216) × ((x + 65536 * n) / 72057594037927936 ≡ n / 1099511627776)
+above-low x n h = (omega arith, omega arith, omega arith)
+
+marks-of : (x y z w : ℕ) → x < 512 → y < 512 → z < 512 → w < 512 → allMarked (spreadOf x y z w) ≡ (leb 256 x && (leb 256 y && (leb 256 z && leb 256 w)))
+unfolding allMarked spreadOf
+marks-of x y z w a b c d =
+    let first = above-low x (y + 65536 * (z + 65536 * w)) a in
+    let second = above-low y (z + 65536 * w) b in
+    let third = above-low z w c in
+    rw (first .0, first .1, first .2, second .0, second .1, third .0, low-mark x (y + 65536 * (z + 65536 * w)) a, low-mark y (z + 65536 * w) b, low-mark z w c, high-mark w d)
+
+reaches : (u v : ℕ) → v < 256 → leb 256 (u + 256 - v) ≡ leb v u
+reaches u v h = elim (decLe v u) [
+  | yes l ↦ le-leb 256 (u + 256 - v) (omega arith) ∙ sym (le-leb v u l)
+  | no l ↦ lt-leb 256 (u + 256 - v) (omega arith) ∙ sym (lt-leb v u (omega arith))
+]
+
+pub spread-most : (a b c d : ℕ) → Counts a b c d → spreadOf a b c d ≤ 71777214294589695
+unfolding spreadOf
+spread-most a b c d h = omega (arith, h .first, h .second, h .third, h .fourth)
+
+module _ (a b c d p q r s : ℕ) (hi : Counts a b c d) (lo : Counts p q r s) where
+  pub spread-less : spreadOf a b c d + 72058693566333184 - spreadOf p q r s ≡ spreadOf (a + 256 - p) (b + 256 - q) (c + 256 - r) (d + 256 - s)
+  unfolding spreadOf
+  spread-less = omega (arith, lo .first, lo .second, lo .third, lo .fourth)
+
+  pub four-reach : allMarked (spreadOf a b c d + 72058693566333184 - spreadOf p q r s) ≡ (leb p a && (leb q b && (leb r c && leb s d)))
+  four-reach =
+      rw (spread-less, marks-of (a + 256 - p) (b + 256 - q) (c + 256 - r) (d + 256 - s) (omega (arith, hi .first)) (omega (arith, hi .second)) (omega (arith, hi .third)) (omega (arith, hi .fourth)), reaches a p (lo .first), reaches b q (lo .second), reaches c r (lo .third), reaches d s (lo .fourth))
+
+---- and of eight
+
+eight : (a b c d e f g h : Bool) → (a && (b && (c && (d && (e && (f && (g && (h && true)))))))) ≡ ((a && (c && (e && g))) && (b && (d && (f && h))))
+eight a b c d e f g h =
+    both-ways _ _
+    (λ t.
+    let x = simp and-eq-true-iff at t in
+    rw (x .0, x .1 .0, x .1 .1 .0, x .1 .1 .1 .0, x .1 .1 .1 .1 .0, x .1 .1 .1 .1 .1 .0, x .1 .1 .1 .1 .1 .1 .0, x .1 .1 .1 .1 .1 .1 .1 .0))
+    (λ t.
+    let x = simp and-eq-true-iff at t in
+    rw (x .0 .0, x .0 .1 .0, x .0 .1 .1 .0, x .0 .1 .1 .1, x .1 .0, x .1 .1 .0, x .1 .1 .1 .0, x .1 .1 .1 .1))
+
+abbrev pub reachesAt : Vector → Vector → ℕ → Bool
+reachesAt v u i = leb (getD v i 0) (getD u i 0)
+
+-- a comparison of two vectors
+pub within-halves : (v u : Vector) → within v u ≡ ((reachesAt v u 0 && (reachesAt v u 2 && (reachesAt v u 4 && reachesAt v u 6))) && (reachesAt v u 1 && (reachesAt v u 3 && (reachesAt v u 5 && reachesAt v u 7))))
+unfolding within all replicas upFrom countIn
+within-halves v u = eight (reachesAt v u 0) (reachesAt v u 1) (reachesAt v u 2) (reachesAt v u 3) (reachesAt v u 4) (reachesAt v u 5) (reachesAt v u 6) (reachesAt v u 7)

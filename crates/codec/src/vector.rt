@@ -2,6 +2,7 @@ ghost use mathlib.Core.Path.{_≡_};
 ghost use Prim.Native.Nat.{_+_, _≤_};
 ghost use lib.ListN.{length, take, drop};
 ghost use Rattle.rules.specs.Log as log;
+ghost use Rattle.codec.specs.Spread.{spreadOf, allMarked, Counts};
 
 // The version vector (the paper's context) at a place.
 pub fn vector_at(bytes: &[u8], at: usize) -> [u8; 8]
@@ -15,14 +16,38 @@ pub fn vector_at(bytes: &[u8], at: usize) -> [u8; 8]
     v
 }
 
-// Whether a vector is nowhere greater than another.
+// Four counts in one number, 16 bits for each, so that they are compared all at once.
+fn spread(a: u8, b: u8, c: u8, d: u8) -> u64
+    ensures { λ r. ⌜ (r ≡ spreadOf a b c d) × Counts a b c d ⌝ }
+{
+    (a as u64) + 65536 * ((b as u64) + 65536 * ((c as u64) + 65536 * (d as u64)))
+}
+
+// Whether bit 8 of each of the four parts is set.
+fn all_marked(n: u64) -> bool
+    ensures { λ r. ⌜ r ≡ allMarked n ⌝ }
+{
+    if n / 256 % 2 != 1 {
+        return false;
+    }
+    if n / 16777216 % 2 != 1 {
+        return false;
+    }
+    if n / 1099511627776 % 2 != 1 {
+        return false;
+    }
+    n / 72057594037927936 % 2 == 1
+}
+
+// Whether a vector is nowhere greater than another. 256 is added to each count of u before that of
+// v is taken away, so bit 8 tells whether it was as great.
 pub fn within(v: [u8; 8], u: [u8; 8]) -> bool
     ensures { λ r. ⌜ r ≡ log.within v u ⌝ }
 {
-    for i in 0..8 {
-        if u[i] < v[i] {
-            return false;
-        }
+    let even = spread(u[0], u[2], u[4], u[6]) + 72058693566333184 - spread(v[0], v[2], v[4], v[6]);
+    if !all_marked(even) {
+        return false;
     }
-    true
+    let odd = spread(u[1], u[3], u[5], u[7]) + 72058693566333184 - spread(v[1], v[3], v[5], v[7]);
+    all_marked(odd)
 }

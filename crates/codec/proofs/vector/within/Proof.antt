@@ -1,46 +1,72 @@
 -- `codec::vector::within` meets its contract. Assumes nothing.
-use mathlib.Core.Path.{_≡_, sym, _∙_}
-use Prim.Native.Nat.{_-_, _≤_}
+use borrow.Author.Needs.{needs}
+use borrow.Author.Tests.{not-true, not-false}
+use mathlib.Core.Bool.{_&&_}
+use mathlib.Core.Path.{sym, _≡_, _∙_}
 use native.Mathlib.Omega.{arith}
-use borrow.Author.Tests.{le-leb, lt-leb}
-use Rattle.rules.specs.Log.{within}
+use Rattle.codec.proofs.VectorLaws.{within-halves, spread-most, four-reach, reachesAt}
 use Rattle.codec.proofs.vector.within.Statement.{statement}
-use Rattle.codec.proofs.VectorLaws.{within-all, within-end, within-turn, withinFrom}
 use Rattle.codec.proofs.vector.within.Tie as tie
 
-abbrev Inv-loop : tie.InvT-loop
-Inv-loop v u i₀ i = (i ≤ 8) × (within v u ≡ withinFrom v u i)
+even-is : (c : tie.After-all-marked) → let v = c .before .before .before .args .t1 in let u = c .before .before .before .args .t2 in c .all-marked .result ≡ (reachesAt v u 0 && (reachesAt v u 2 && (reachesAt v u 4 && reachesAt v u 6)))
+even-is c =
+    let e = c .before .before .spread .ensures in
+    let e′ = c .before .spread2 .ensures in
+    c .all-marked .ensures ∙ rw (e .0, e′ .0) (four-reach _ _ _ _ _ _ _ _ (e .1) (e′ .1))
 
-abbrev μ-loop : tie.MeasureT-loop
-μ-loop v u i₀ i = 8 - i
+odd-is : (c : tie.After-all-marked2) → let v = c .before .before .before .before .before .before .before .args .t1 in let u = c .before .before .before .before .before .before .before .args .t2 in c .all-marked2 .result ≡ (reachesAt v u 1 && (reachesAt v u 3 && (reachesAt v u 5 && reachesAt v u 7)))
+odd-is c =
+    let e = c .before .before .spread3 .ensures in
+    let e′ = c .before .spread4 .ensures in
+    c .all-marked2 .ensures ∙ rw (e .0, e′ .0) (four-reach _ _ _ _ _ _ _ _ (e .1) (e′ .1))
 
-loop-holds : tie.Need-loop-holds Inv-loop μ-loop
-loop-holds c = (omega arith, within-all _ _)
+add-even : tie.Need-add-even
+add-even c = let e = c .spread .ensures in omega (arith, e .0, spread-most _ _ _ _ (e .1))
 
-returns : tie.Need-returns Inv-loop μ-loop
-returns c =
-    let l = c .before .before .loop in
-    sym (l .inv .1 ∙ within-turn _ _ (l .i) (omega arith) ∙ rw (lt-leb _ _ (c .if1 .taken)))
+sub-even : tie.Need-sub-even
+sub-even c = let e = c .spread2 .ensures in omega (arith, e .0, spread-most _ _ _ _ (e .1))
 
-loop-again : tie.Need-loop-again Inv-loop μ-loop
-loop-again c =
-    let l = c .before .before .loop in
-    (omega arith, l .inv .1 ∙ within-turn _ _ (l .i) (omega arith) ∙ rw (le-leb _ _ (c .if1 .left)))
+returns : tie.Need-returns
+returns c = sym (within-halves _ _ ∙ rw (← even-is (c .before), not-true (c .before .all-marked .result) (c .if1 .taken)))
 
-returns-2 : tie.Need-returns-2 Inv-loop μ-loop
-returns-2 c = let l = c .before .loop in sym (l .inv .1 ∙ within-end _ _ (l .i) (omega arith))
+add-odd : tie.Need-add-odd
+add-odd c = let e = c .spread3 .ensures in omega (arith, e .0, spread-most _ _ _ _ (e .1))
+
+sub-odd : tie.Need-sub-odd
+sub-odd c = let e = c .spread4 .ensures in omega (arith, e .0, spread-most _ _ _ _ (e .1))
+
+returns-2 : tie.Need-returns-2
+returns-2 c = sym (within-halves _ _ ∙ rw (← even-is (c .before .before .before .before), not-false (c .before .before .before .before .all-marked .result) (c .before .before .before .if1 .left), ← odd-is c))
 
 pub within-spec : {M : Type 1} → statement M
 within-spec =
     tie.close
     (tie.spec
-    Inv-loop
-    μ-loop
-    loop-holds
-    (λ c. omega arith)
-    (λ c. omega arith)
+    (λ c. search needs)
+    (λ c. search needs)
+    (λ c. search needs)
+    (λ c. search needs)
+    (λ c κs. search needs)
+    add-even
+    (λ c. search needs)
+    (λ c. search needs)
+    (λ c. search needs)
+    (λ c. search needs)
+    (λ c κs. search needs)
+    sub-even
+    (λ c κs. search needs)
     returns
-    (λ c. omega arith)
-    (λ c. omega arith)
-    loop-again
+    (λ c. search needs)
+    (λ c. search needs)
+    (λ c. search needs)
+    (λ c. search needs)
+    (λ c κs. search needs)
+    add-odd
+    (λ c. search needs)
+    (λ c. search needs)
+    (λ c. search needs)
+    (λ c. search needs)
+    (λ c κs. search needs)
+    sub-odd
+    (λ c κs. search needs)
     returns-2)

@@ -1,0 +1,16 @@
+-- `codec::vector::spread` meets its contract. Assumes nothing.
+use borrow.Author.Needs.{needs}
+use mathlib.Core.Path.{refl}
+use native.Mathlib.Omega.{arith}
+use Rattle.codec.proofs.vector.spread.Statement.{statement}
+use Rattle.codec.specs.Spread.{spreadOf}
+use Rattle.codec.proofs.vector.spread.Tie as tie
+
+returns : tie.Need-returns
+unfolding spreadOf
+returns c = (refl, record { first = omega arith; second = omega arith; third = omega arith; fourth = omega arith })
+
+pub spread-spec : {M : Type 1} → statement M
+spread-spec =
+    tie.close
+    (tie.spec (λ c. search needs) (λ c. search needs) (λ c. search needs) (λ c. search needs) (λ c. search needs) (λ c. search needs) returns)
