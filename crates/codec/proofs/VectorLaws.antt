@@ -43,23 +43,23 @@ low-mark x n h = elim (decLe 256 x) [
   | no l ↦ ne-eqb ((x + 65536 * n) / 256 % 2) 1 (λ e. omega arith) ∙ sym (lt-leb 256 x (omega arith))
 ]
 
-high-mark : (x : ℕ) → x < 512 → eqb (x / 256 % 2) 1 ≡ leb 256 x
+high-mark : (x : ℕ) → x < 512 → eqb ((x + 4096) / 256 % 2) 1 ≡ leb 256 x
 high-mark x h = elim (decLe 256 x) [
-  | yes l ↦ eq-eqb (x / 256 % 2) 1 (omega arith) ∙ sym (le-leb 256 x l)
-  | no l ↦ ne-eqb (x / 256 % 2) 1 (λ e. omega arith) ∙ sym (lt-leb 256 x (omega arith))
+  | yes l ↦ eq-eqb ((x + 4096) / 256 % 2) 1 (omega arith) ∙ sym (le-leb 256 x l)
+  | no l ↦ ne-eqb ((x + 4096) / 256 % 2) 1 (λ e. omega arith) ∙ sym (lt-leb 256 x (omega arith))
 ]
 
 -- the parts above it
 above-low : (x n : ℕ) → x < 512 → ((x + 65536 * n) / 16777216 ≡ n / 256) × ((x + 65536 * n) / 1099511627776 ≡ n / 16777216) × ((x + 65536 * n) / 72057594037927936 ≡ n / 1099511627776)
 above-low x n h = (omega arith, omega arith, omega arith)
 
-marks-of : (x y z w : ℕ) → x < 512 → y < 512 → z < 512 → w < 512 → allMarked (spreadOf x y z w) ≡ (leb 256 x && (leb 256 y && (leb 256 z && leb 256 w)))
+marks-of : (x y z w : ℕ) → x < 512 → y < 512 → z < 512 → w < 512 → allMarked (spreadOf x y z (w + 4096)) ≡ (leb 256 x && (leb 256 y && (leb 256 z && leb 256 w)))
 unfolding allMarked spreadOf
 marks-of x y z w a b c d =
-    let first = above-low x (y + 65536 * (z + 65536 * w)) a in
-    let second = above-low y (z + 65536 * w) b in
-    let third = above-low z w c in
-    rw (first .0, first .1, first .2, second .0, second .1, third .0, low-mark x (y + 65536 * (z + 65536 * w)) a, low-mark y (z + 65536 * w) b, low-mark z w c, high-mark w d)
+    let first = above-low x (y + 65536 * (z + 65536 * (w + 4096))) a in
+    let second = above-low y (z + 65536 * (w + 4096)) b in
+    let third = above-low z (w + 4096) c in
+    rw (first .0, first .1, first .2, second .0, second .1, third .0, low-mark x (y + 65536 * (z + 65536 * (w + 4096))) a, low-mark y (z + 65536 * (w + 4096)) b, low-mark z (w + 4096) c, high-mark w d)
 
 reaches : (u v : ℕ) → v < 256 → leb 256 (u + 256 - v) ≡ leb v u
 reaches u v h = elim (decLe v u) [
@@ -72,11 +72,11 @@ unfolding spreadOf
 spread-most a b c d h = omega (arith, h .first, h .second, h .third, h .fourth)
 
 module _ (a b c d p q r s : ℕ) (hi : Counts a b c d) (lo : Counts p q r s) where
-  pub spread-less : spreadOf a b c d + 72058693566333184 - spreadOf p q r s ≡ spreadOf (a + 256 - p) (b + 256 - q) (c + 256 - r) (d + 256 - s)
+  pub spread-less : spreadOf a b c d + 1224980198173180160 - spreadOf p q r s ≡ spreadOf (a + 256 - p) (b + 256 - q) (c + 256 - r) (d + 256 - s + 4096)
   unfolding spreadOf
   spread-less = omega (arith, lo .first, lo .second, lo .third, lo .fourth)
 
-  pub four-reach : allMarked (spreadOf a b c d + 72058693566333184 - spreadOf p q r s) ≡ (leb p a && (leb q b && (leb r c && leb s d)))
+  pub four-reach : allMarked (spreadOf a b c d + 1224980198173180160 - spreadOf p q r s) ≡ (leb p a && (leb q b && (leb r c && leb s d)))
   four-reach =
       rw (spread-less, marks-of (a + 256 - p) (b + 256 - q) (c + 256 - r) (d + 256 - s) (omega (arith, hi .first)) (omega (arith, hi .second)) (omega (arith, hi .third)) (omega (arith, hi .fourth)), reaches a p (lo .first), reaches b q (lo .second), reaches c r (lo .third), reaches d s (lo .fourth))
 

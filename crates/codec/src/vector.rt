@@ -40,14 +40,18 @@ fn all_marked(n: u64) -> bool
 }
 
 // Whether a vector is nowhere greater than another. 256 is added to each count of u before that of
-// v is taken away, so bit 8 tells whether it was as great.
+// v is taken away, so bit 8 of a part tells whether it was as great. The 4096 more in the highest
+// part lets one mask test all four.
 pub fn within(v: [u8; 8], u: [u8; 8]) -> bool
     ensures { λ r. ⌜ r ≡ log.within v u ⌝ }
 {
-    let even = spread(u[0], u[2], u[4], u[6]) + 72058693566333184 - spread(v[0], v[2], v[4], v[6]);
-    if !all_marked(even) {
-        return false;
+    let even = spread(u[0], u[2], u[4], u[6]) + 1224980198173180160
+        - spread(v[0], v[2], v[4], v[6]);
+    let odd = spread(u[1], u[3], u[5], u[7]) + 1224980198173180160 - spread(v[1], v[3], v[5], v[7]);
+    let is_even_within = all_marked(even);
+    let is_odd_within = all_marked(odd);
+    if is_even_within {
+        return is_odd_within;
     }
-    let odd = spread(u[1], u[3], u[5], u[7]) + 72058693566333184 - spread(v[1], v[3], v[5], v[7]);
-    all_marked(odd)
+    false
 }

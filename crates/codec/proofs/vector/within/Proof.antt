@@ -1,6 +1,5 @@
 -- `codec::vector::within` meets its contract. Assumes nothing.
 use borrow.Author.Needs.{needs}
-use borrow.Author.Tests.{not-true, not-false}
 use mathlib.Core.Bool.{_&&_}
 use mathlib.Core.Path.{sym, _≡_, _∙_}
 use native.Mathlib.Omega.{arith}
@@ -8,16 +7,16 @@ use Rattle.codec.proofs.VectorLaws.{within-halves, spread-most, four-re
 use Rattle.codec.proofs.vector.within.Statement.{statement}
 use Rattle.codec.proofs.vector.within.Tie as tie
 
-even-is : (c : tie.After-all-marked) → let v = c .before .before .before .args .t1 in let u = c .before .before .before .args .t2 in c .all-marked .result ≡ (reachesAt v u 0 && (reachesAt v u 2 && (reachesAt v u 4 && reachesAt v u 6)))
+even-is : (c : tie.After-all-marked) → let v = c .before .before .before .before .before .args .t1 in let u = c .before .before .before .before .before .args .t2 in c .all-marked .result ≡ (reachesAt v u 0 && (reachesAt v u 2 && (reachesAt v u 4 && reachesAt v u 6)))
 even-is c =
-    let e = c .before .before .spread .ensures in
-    let e′ = c .before .spread2 .ensures in
+    let e = c .before .before .before .before .spread .ensures in
+    let e′ = c .before .before .before .spread2 .ensures in
     c .all-marked .ensures ∙ rw (e .0, e′ .0) (four-reach _ _ _ _ _ _ _ _ (e .1) (e′ .1))
 
-odd-is : (c : tie.After-all-marked2) → let v = c .before .before .before .before .before .before .before .args .t1 in let u = c .before .before .before .before .before .before .before .args .t2 in c .all-marked2 .result ≡ (reachesAt v u 1 && (reachesAt v u 3 && (reachesAt v u 5 && reachesAt v u 7)))
+odd-is : (c : tie.After-all-marked2) → let v = c .before .before .before .before .before .before .args .t1 in let u = c .before .before .before .before .before .before .args .t2 in c .all-marked2 .result ≡ (reachesAt v u 1 && (reachesAt v u 3 && (reachesAt v u 5 && reachesAt v u 7)))
 odd-is c =
-    let e = c .before .before .spread3 .ensures in
-    let e′ = c .before .spread4 .ensures in
+    let e = c .before .before .before .spread3 .ensures in
+    let e′ = c .before .before .spread4 .ensures in
     c .all-marked2 .ensures ∙ rw (e .0, e′ .0) (four-reach _ _ _ _ _ _ _ _ (e .1) (e′ .1))
 
 add-even : tie.Need-add-even
@@ -26,17 +25,17 @@ add-even c = let e = c .spread .ensures in omega (arith, e .0, spread-most _ _ _
 sub-even : tie.Need-sub-even
 sub-even c = let e = c .spread2 .ensures in omega (arith, e .0, spread-most _ _ _ _ (e .1))
 
-returns : tie.Need-returns
-returns c = sym (within-halves _ _ ∙ rw (← even-is (c .before), not-true (c .before .all-marked .result) (c .if1 .taken)))
-
 add-odd : tie.Need-add-odd
 add-odd c = let e = c .spread3 .ensures in omega (arith, e .0, spread-most _ _ _ _ (e .1))
 
 sub-odd : tie.Need-sub-odd
 sub-odd c = let e = c .spread4 .ensures in omega (arith, e .0, spread-most _ _ _ _ (e .1))
 
+returns : tie.Need-returns
+returns c = sym (within-halves _ _ ∙ rw (← even-is (c .before .before), c .if1 .taken, ← odd-is (c .before)))
+
 returns-2 : tie.Need-returns-2
-returns-2 c = sym (within-halves _ _ ∙ rw (← even-is (c .before .before .before .before), not-false (c .before .before .before .before .all-marked .result) (c .before .before .before .if1 .left), ← odd-is c))
+returns-2 c = sym (within-halves _ _ ∙ rw (← even-is (c .before .before), c .if1 .left))
 
 pub within-spec : {M : Type 1} → statement M
 within-spec =
@@ -54,8 +53,6 @@ within-spec =
     (λ c. search needs)
     (λ c κs. search needs)
     sub-even
-    (λ c κs. search needs)
-    returns
     (λ c. search needs)
     (λ c. search needs)
     (λ c. search needs)
@@ -69,4 +66,6 @@ within-spec =
     (λ c κs. search needs)
     sub-odd
     (λ c κs. search needs)
+    (λ c κs. search needs)
+    returns
     returns-2)
