@@ -12,16 +12,16 @@ use Rattle.rules.specs.Tree.{atOrBelow, parentIn, slotOf, climb, depth, path, s
 use Rattle.rules.specs.Bytes.{isIn, any}
 
 -- a slot by cases
-pub slot-low : (n : ℕ) → n / 256 ≡ 0 → n % 256 ≡ slotOf n
+pub slot-low : (n : ℕ) → n < 256 → n ≡ slotOf n
 unfolding slotOf slot
-slot-low n e = elim (ℕ-discrete n 0) [
+slot-low n h = elim (ℕ-discrete n 0) [
   | yes z ↦ rw z
-  | no nz ↦ rw (ne-eqb n 0 nz, e) (omega arith)
+  | no nz ↦ rw (ne-eqb n 0 nz) (omega arith)
 ]
 
-pub slot-high : (n : ℕ) → (n / 256 ≡ 0 → ⊥) → 255 * (n / 256 - 1) + n % 256 ≡ slotOf n
+pub slot-high : (n : ℕ) → 256 ≤ n → n - n / 256 - 255 ≡ slotOf n
 unfolding slotOf slot
-slot-high n e = rw (ne-eqb n 0 (λ z. e (omega arith)))
+slot-high n h = rw (ne-eqb n 0 (λ z. omega arith)) (omega arith)
 
 -- a parent as the code reads it
 pub parent-read : (t : List ℕ) (at k : ℕ) → k ≡ slotOf at → length t ≡ 2041 → slotOf at < 2041 → parentIn t at ≡ getD t k 0

@@ -4,16 +4,14 @@ ghost use Prim.Native.Nat.{_<_};
 ghost use lib.ListN.{length};
 ghost use Rattle.rules.specs.Tree.{slotOf, depth, atOrBelow};
 
-// The slot of a node.
+// The slot of a node: 255 x (s - 1) + q is 256 x s + q less s and 255.
 pub fn slot_of(node: u16) -> usize
     ensures { λ r. ⌜ r ≡ slotOf node ⌝ }
 {
-    let replica = node / 256;
-    if replica == 0 {
-        widen16(node % 256)
-    } else {
-        255 * (widen16(replica) - 1) + widen16(node % 256)
+    if node < 256 {
+        return widen16(node);
     }
+    widen16(node - node / 256) - 255
 }
 
 // Whether a node lies at or below another. The climb stops at the node, at the root, and where
