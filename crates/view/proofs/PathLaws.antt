@@ -45,6 +45,17 @@ module _ (log : Log) (good : GoodLog log) where
   unfolding parentsOf
   root-way n w = replay-reaches log good (countsOf log) whole n w
 
+  -- what hangs, hangs under a known node or the root
+  pub named-parent : (n : ℕ) → Named log (countsOf log) n → (n ≡ 0 → ⊥) → Named log (countsOf log) (parentIn (parentsOf log) n)
+  unfolding up
+  named-parent n w nz =
+      let (j, b, r, o) = root-way n w in
+      go j (r .root) (r .on)
+    where
+      go : (j : ℕ) → up (parentsOf log) j n ≡ 0 → ((i : ℕ) → i ≤ j → Named log (countsOf log) (up (parentsOf log) i n)) → Named log (countsOf log) (parentIn (parentsOf log) n)
+      go zero z on = absurd (nz z)
+      go (suc j) z on = on 1 (omega arith)
+
   pub way-of : (n : ℕ) → Named log (countsOf log) n → Way (parentsOf log) n (depth (parentsOf log) n)
   unfolding path depth
   way-of n w =

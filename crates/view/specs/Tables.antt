@@ -20,8 +20,8 @@ unfoldable pub nodeAt : ℕ → ℕ
 nodeAt k = cond (eqb k 0) 0 (256 * ((k - 1) / 255 + 1) + ((k - 1) % 255 + 1))
 
 -- what a table has for a node
-abbrev pub at : List ℕ → ℕ → ℕ
-at t n = getD t (spot n) 0
+abbrev pub entry : List ℕ → ℕ → ℕ
+entry t n = getD t (spot n) 0
 
 ---- marks: not 0 where a node has a tombstone
 
@@ -37,8 +37,8 @@ marksOf log = foldl mark (replicate slots 0) (concat log)
 unfoldable pub reveal : ℕ → (parents hidden : List ℕ) → ℕ → List ℕ
 reveal zero parents hidden n = hidden
 reveal (suc k) parents hidden n =
-    let above = reveal k parents (set hidden (spot n) 0) (at parents n) in
-    cond (eqb (at hidden n) 0) hidden above
+    let above = reveal k parents (set hidden (spot n) 0) (entry parents n) in
+    cond (eqb (entry hidden n) 0) hidden above
 
 unfoldable pub revealSlot : (parents marks hidden : List ℕ) → ℕ → List ℕ
 revealSlot parents marks hidden k =
@@ -87,7 +87,7 @@ unfoldable pub tour : ℕ → Links → List ℕ → List ℕ
 tour zero l stack = []
 tour (suc k) l [] = []
 tour (suc k) l (e ∷ stack) =
-    e ∷ tour k l (push (at (l .first) (nodeIn e)) ((depthIn e + 1) % 65536) (push (at (l .next) (nodeIn e)) (depthIn e) stack))
+    e ∷ tour k l (push (entry (l .first) (nodeIn e)) ((depthIn e + 1) % 65536) (push (entry (l .next) (nodeIn e)) (depthIn e) stack))
 
 unfoldable pub tourOf : Links → List ℕ
 tourOf l = tour slots l (0 ∷ [])
@@ -95,7 +95,7 @@ tourOf l = tour slots l (0 ∷ [])
 ---- the lines
 
 unfoldable pub lineFor : List ℕ → ℕ → List ℕ
-lineFor marks e = lineOf (depthIn e) (nodeIn e) (not (eqb (at marks (nodeIn e)) 0))
+lineFor marks e = lineOf (depthIn e) (nodeIn e) (not (eqb (entry marks (nodeIn e)) 0))
 
 unfoldable pub linesOf : List ℕ → List ℕ → List ℕ
 linesOf marks es = concat (map (lineFor marks) es)
