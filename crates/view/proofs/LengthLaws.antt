@@ -1,19 +1,21 @@
 -- A tree in preorder has each node once, so at most 2,041 entries. Assumes nothing.
 use Prim.Native.Nat.{_+_, _-_, _<_, suc, zero, ℕ, _≤_}
 use borrow.Author.Tests.{eq-eqb, le-leb, lt-leb, ne-eqb}
-use lib.Dec.{eqb, leb}
+use lib.Dec.{eqb, leb, lit≤}
 use lib.ListN.{getD, length}
-use mathlib.Core.Bool.{_&&_, cond}
+use mathlib.Core.Bool.{_&&_, cond, Bool, false, true}
 use mathlib.Core.List.{_++_, List, [], map, _∷_}
 use mathlib.Core.Path.{ap, refl, sym, _∙_, _≡_}
 use native.Mathlib.Decide.{decLe, ℕ-discrete}
-use native.Mathlib.Nat.{le-of-suc-le-suc, not-suc-le-zero}
+use native.Mathlib.Nat.{le-of-suc-le-suc, not-suc-le-zero, le-trans}
 use native.Mathlib.Omega.{arith}
 use Rattle.order.proofs.FuelLaws.{Depth, depth-child, depth-unique}
 use Rattle.rules.proofs.TreeLaws.{Valid, pigeonhole, slot-below, slot-injective, up, up-last}
-use Rattle.rules.specs.Bytes.{concat}
+use Rattle.rules.specs.Bytes.{concat, filter, upFrom}
 use Rattle.rules.specs.Tree.{parentIn, slotOf}
+use Rattle.view.proofs.SlotLaws.{slot-node}
 use Rattle.view.proofs.TourLaws.{All, pre}
+use Rattle.view.specs.Tables.{nodeAt}
 
 ---- how often a number is in a list
 
@@ -44,6 +46,19 @@ all-at : (P : ℕ → Type 0) (xs : List ℕ) (k : ℕ) → All P xs → k < len
 all-at P [] k a h = absurd (not-suc-le-zero h)
 all-at P (x ∷ xs) zero a h = a .0
 all-at P (x ∷ xs) (suc k) a h = all-at P xs k (a .1) (le-of-suc-le-suc h)
+
+pub all-map : (P Q : ℕ → Type 0) (xs : List ℕ) → ((x : ℕ) → P x → Q x) → All P xs → All Q xs
+all-map P Q [] f a = tt
+all-map P Q (x ∷ xs) f a = (f x (a .0), all-map P Q xs f (a .1))
+
+pub all-append : (P : ℕ → Type 0) (xs ys : List ℕ) → All P xs → All P ys → All P (xs ++ ys)
+all-append P [] ys a b = b
+all-append P (x ∷ xs) ys a b = (a .0, all-append P xs ys (a .1) b)
+
+pub all-concat : (P : ℕ → Type 0) (F : ℕ → List ℕ) (cs : List ℕ) → All (λ c. All P (F c)) cs → All P (concat (map F cs))
+unfolding concat
+all-concat P F [] a = tt
+all-concat P F (c ∷ cs) a = all-append P (F c) (concat (map F cs)) (a .0) (all-concat P F cs (a .1))
 
 few : (xs : List ℕ) → All Valid xs → ((k : ℕ) → k < length xs → times (getD xs k 0) xs ≤ 1) → length xs ≤ 2041
 few xs v once =
@@ -76,10 +91,6 @@ module _ (parents : List ℕ) (kids : ℕ → List ℕ) (Node : ℕ → Type 0)
   unfolding times
   other-kids u n [] a ne = refl
   other-kids u n (c ∷ cs) (h, a) ne = rw (ne-eqb u c (λ e. ne (ap (parentIn parents) e ∙ h .1)), other-kids u n cs a ne)
-
-  all-map : (P Q : ℕ → Type 0) (xs : List ℕ) → ((x : ℕ) → P x → Q x) → All P xs → All Q xs
-  all-map P Q [] f a = tt
-  all-map P Q (x ∷ xs) f a = (f x (a .0), all-map P Q xs f (a .1))
 
   module _ (e x : ℕ) (dx : Depth parents e x) where
     hit-up : (d n : ℕ) → d < e → hit e x d n ≡ cond (eqb (up parents (e - d) x) n) 1 0
@@ -118,3 +129,49 @@ module _ (parents : List ℕ) (kids : ℕ → List ℕ) (Node : ℕ → Type 0)
                 | no nq ↦ rw (ne-eqb x n nq) (omega arith)
               ]
         ]
+
+  pub pre-nodes : (k n : ℕ) → Node n → All Node (pre kids k n)
+  unfolding pre
+  pre-nodes zero n w = tt
+  pre-nodes (suc k) n w = (w, all-concat Node (pre kids k) (kids n) (all-map _ _ (kids n) (λ c h. pre-nodes k c (h .0)) (node-kids n w)))
+
+  pub pre-short : ((n : ℕ) → Node n → Valid n) → (k n : ℕ) → Node n → length (pre kids k n) ≤ 2041
+  pre-short valid k n w =
+      let nodes = pre-nodes k n w in
+      few (pre kids k n) (all-map Node Valid (pre kids k n) valid nodes) (λ i h.
+      let (e, dx) = node-depth (getD (pre kids k n) i 0) (all-at Node (pre kids k n) i nodes h) in
+      let (d, dn) = node-depth n w in
+      le-trans (at-most-hit e (getD (pre kids k n) i 0) dx k d n w dn) (small (leb d e && eqb (up parents (e - d) (getD (pre kids k n) i 0)) n)))
+    where
+      small : (b : Bool) → cond b 1 0 ≤ 1
+      small true = lit≤ tt
+      small false = lit≤ tt
+
+---- the nodes of different slots
+
+module _ (y : ℕ) (q : ℕ → Bool) where
+  slots-none : (m a : ℕ) → 1 ≤ a → a + m ≤ 2041 → slotOf y < a → times y (map nodeAt (filter q (upFrom a m))) ≡ 0
+  unfolding times filter upFrom
+  slots-none zero a l u h = refl
+  slots-none (suc m) a l u h = go (q a) (slots-none m (suc a) (omega arith) (omega arith) (omega arith))
+    where
+      other : y ≡ nodeAt a → ⊥
+      other e = let z : slotOf y ≡ a = ap slotOf e ∙ slot-node a l (omega arith) in omega arith
+
+      go : (b : Bool) → times y (map nodeAt (filter q (upFrom (suc a) m))) ≡ 0 → times y (map nodeAt (cond b (a ∷ filter q (upFrom (suc a) m)) (filter q (upFrom (suc a) m)))) ≡ 0
+      go true ih = rw (ne-eqb y (nodeAt a) other, ih)
+      go false ih = ih
+
+  pub slots-once : (m a : ℕ) → 1 ≤ a → a + m ≤ 2041 → times y (map nodeAt (filter q (upFrom a m))) ≤ 1
+  unfolding times filter upFrom
+  slots-once zero a l u = omega arith
+  slots-once (suc m) a l u = go (q a) (slots-once m (suc a) (omega arith) (omega arith)) (slots-none m (suc a) (omega arith) (omega arith))
+    where
+      go : (b : Bool) → times y (map nodeAt (filter q (upFrom (suc a) m))) ≤ 1 → (slotOf y < suc a → times y (map nodeAt (filter q (upFrom (suc a) m))) ≡ 0) → times y (map nodeAt (cond b (a ∷ filter q (upFrom (suc a) m)) (filter q (upFrom (suc a) m)))) ≤ 1
+      go false ih none = ih
+      go true ih none = elim (ℕ-discrete y (nodeAt a)) [
+        | yes e ↦
+            let s : slotOf y ≡ a = ap slotOf e ∙ slot-node a l (omega arith) in
+            rw (eq-eqb y (nodeAt a) e, none (omega arith)) (omega arith)
+        | no ne ↦ rw (ne-eqb y (nodeAt a) ne) (omega arith)
+      ]

@@ -6,3 +6,5 @@ pub mod MarkLaws
 pub mod LinkLaws
 pub mod TourLaws
 pub mod LengthLaws
+pub mod PruneLaws
+pub mod ViewLaws

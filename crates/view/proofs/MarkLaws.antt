@@ -10,7 +10,7 @@ use mathlib.Core.Logic.{inr}
 use mathlib.Core.Path.{_≡_, ap, refl, sym, _∙_}
 use native.Mathlib.Decide.{ℕ-discrete}
 use native.Mathlib.Omega.{arith}
-use Rattle.order.proofs.GrowLaws.{known-more, named-valid, names-node}
+use Rattle.order.proofs.GrowLaws.{known-more, named-valid, names-node, known-reads}
 use Rattle.order.proofs.LevelLaws.{counted-bound}
 use Rattle.rules.proofs.BoolLaws.{and-left, and-right}
 use Rattle.rules.proofs.ListLaws.{map-upFrom}
@@ -111,3 +111,19 @@ module _ (log : Log) (good : GoodLog log) where
   pub marks-length : length (marksOf log) ≡ 2041
   unfolding marksOf
   marks-length = marks-size (replicate slots 0) (concat log) ∙ length-replicate {A = ℕ} slots 0
+
+  root-in : (rs : List Op) → all fine rs ≡ true → isIn 0 (map nodeOf (filter isRemove rs)) ≡ false
+  unfolding all isIn any filter
+  root-in [] f = refl
+  root-in (r ∷ rs) f = go (isRemove r) refl (root-in rs (and-right (fine r) _ f))
+    where
+      go : (b : Bool) → isRemove r ≡ b → any (eqb 0) (map nodeOf (filter isRemove rs)) ≡ false → any (eqb 0) (map nodeOf (cond b (r ∷ filter isRemove rs) (filter isRemove rs))) ≡ false
+      go false e ih = ih
+      go true e ih =
+          let w : known log (countsOf log) (nodeOf r) ≡ true = rw e at (and-left (fine r) _ f) in
+          let h = known-reads log (countsOf log) (nodeOf r) w .0 in
+          rw (ne-eqb 0 (nodeOf r) (λ z. omega (arith, h .low)), ih)
+
+  pub root-unmarked : tombstone log 0 ≡ false
+  unfolding tombstone removedIn
+  root-unmarked = root-in (opsWithin log (countsOf log)) removes-fine
