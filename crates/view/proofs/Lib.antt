@@ -8,3 +8,4 @@ pub mod TourLaws
 pub mod LengthLaws
 pub mod PruneLaws
 pub mod ViewLaws
+pub mod RevealLaws

@@ -49,7 +49,7 @@ climb-turn : (parents : List ℕ) (k n : ℕ) → climb (suc k) parents n ≡ n 
 unfolding climb
 climb-turn parents k n = refl
 
-depth-parent : (parents : List ℕ) (j n : ℕ) → Depth parents j n → (n ≡ 0 → ⊥) → (i : ℕ) × (suc i ≡ j) × Depth parents i (parentIn parents n)
+pub depth-parent : (parents : List ℕ) (j n : ℕ) → Depth parents j n → (n ≡ 0 → ⊥) → (i : ℕ) × (suc i ≡ j) × Depth parents i (parentIn parents n)
 unfolding up
 depth-parent parents zero n d nz = absurd (nz (d .root))
 depth-parent parents (suc j) n d nz = (j, refl, record { root = d .root; first = λ m w. d .first (suc m) (omega arith) })
