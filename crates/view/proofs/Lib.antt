@@ -9,3 +9,4 @@ pub mod LengthLaws
 pub mod PruneLaws
 pub mod ViewLaws
 pub mod RevealLaws
+pub mod ListingLaws

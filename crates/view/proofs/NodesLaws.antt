@@ -80,7 +80,7 @@ pub valid-parent : (n : ℕ) → Valid n → n ≡ 65535 → ⊥
 valid-parent n (inl e) q = omega arith
 valid-parent n (inr v) q = omega arith
 
-filter-map-filter : {A : Type 0} (p : A → Bool) (f : ℕ → A) (q r : ℕ → Bool) (n a : ℕ) → ((k : ℕ) → a ≤ k → k < a + n → (q k && p (f k)) ≡ r k) → filter p (map f (filter q (upFrom a n))) ≡ map f (filter r (upFrom a n))
+pub filter-map-filter : {A : Type 0} (p : A → Bool) (f : ℕ → A) (q r : ℕ → Bool) (n a : ℕ) → ((k : ℕ) → a ≤ k → k < a + n → (q k && p (f k)) ≡ r k) → filter p (map f (filter q (upFrom a n))) ≡ map f (filter r (upFrom a n))
 unfolding filter upFrom
 filter-map-filter p f q r zero a h = refl
 filter-map-filter p f q r (suc n) a h = go (q a) (p (f a)) (r a) refl refl refl (h a (le-refl a) (omega arith)) (filter-map-filter p f q r n (suc a) (λ k l u. h k (omega arith) (omega arith)))

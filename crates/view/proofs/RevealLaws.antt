@@ -129,7 +129,7 @@ any-map-filter p f q r (suc n) a h = rw (← h a (le-refl a) (omega arith), ← 
     go true = refl
     go false = refl
 
-not-not : (b : Bool) → not (not b) ≡ b
+pub not-not : (b : Bool) → not (not b) ≡ b
 not-not true = refl
 not-not false = refl
 
