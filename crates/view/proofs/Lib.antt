@@ -10,3 +10,4 @@ pub mod PruneLaws
 pub mod ViewLaws
 pub mod RevealLaws
 pub mod ListingLaws
+pub mod ViewTheorems
