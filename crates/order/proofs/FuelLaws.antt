@@ -58,7 +58,7 @@ unfolding isIn any
 map-isIn f g [] h = refl
 map-isIn f g (x ∷ xs) h = ap₂ _∷_ (h x (rw (eq-eqb x x refl))) (map-isIn f g xs (λ y e. h y (rw (e, or-true))))
 
-isIn-filter : (p : ℕ → Bool) (xs : List ℕ) (y : ℕ) → isIn y (filter p xs) ≡ true → (isIn y xs ≡ true) × (p y ≡ true)
+pub isIn-filter : (p : ℕ → Bool) (xs : List ℕ) (y : ℕ) → isIn y (filter p xs) ≡ true → (isIn y xs ≡ true) × (p y ≡ true)
 unfolding isIn any filter
 isIn-filter p [] y e = never e
 isIn-filter p (x ∷ xs) y e = go (p x) refl e (isIn-filter p xs y)
@@ -87,7 +87,7 @@ module _ (log : Log) (good : GoodLog log) where
   unfolding path
   path-fuel n w k h = let (j, b, d) = has-depth n w in climb-enough parents j k slots n d (omega arith) (omega arith)
 
-  child-named : (n m : ℕ) → isIn m (children log parents n) ≡ true → (known log (countsOf log) m ≡ true) × (parentIn parents m ≡ n)
+  pub child-named : (n m : ℕ) → isIn m (children log parents n) ≡ true → (known log (countsOf log) m ≡ true) × (parentIn parents m ≡ n)
   unfolding children nodes
   child-named n m e =
       let (a, b) = isIn-filter (λ m. eqb (parentIn parents m) n) (addedIn log (countsOf log)) m e in

@@ -6,3 +6,5 @@ pub mod NodeLaws
 pub mod DepthLaws
 pub mod TreeTheorem
 pub mod FuelLaws
+pub mod RisingLaws
+pub mod TourLaws

@@ -22,7 +22,7 @@ use Rattle.order.proofs.GrowLaws.{known-reads, names-add, known-of}
 
 ---- the added nodes
 
-isIn-left : (x : ℕ) (ys zs : List ℕ) → isIn x ys ≡ true → isIn x (ys ++ zs) ≡ true
+pub isIn-left : (x : ℕ) (ys zs : List ℕ) → isIn x ys ≡ true → isIn x (ys ++ zs) ≡ true
 unfolding isIn any
 isIn-left x [] zs e = let z : _≡_ {A = ℕ} 0 1 = cc in absurd (omega arith)
 isIn-left x (y ∷ ys) zs e = go (eqb x y) e (isIn-left x ys zs)
@@ -31,12 +31,12 @@ isIn-left x (y ∷ ys) zs e = go (eqb x y) e (isIn-left x ys zs)
     go true e ih = refl
     go false e ih = ih e
 
-isIn-right : (x : ℕ) (ys zs : List ℕ) → isIn x zs ≡ true → isIn x (ys ++ zs) ≡ true
+pub isIn-right : (x : ℕ) (ys zs : List ℕ) → isIn x zs ≡ true → isIn x (ys ++ zs) ≡ true
 unfolding isIn any
 isIn-right x [] zs e = e
 isIn-right x (y ∷ ys) zs e = rw (isIn-right x ys zs e, or-true)
 
-isIn-cases : (x : ℕ) (ys zs : List ℕ) → isIn x (ys ++ zs) ≡ true → (isIn x ys ≡ true) ⊎ (isIn x zs ≡ true)
+pub isIn-cases : (x : ℕ) (ys zs : List ℕ) → isIn x (ys ++ zs) ≡ true → (isIn x ys ≡ true) ⊎ (isIn x zs ≡ true)
 unfolding isIn any
 isIn-cases x [] zs e = inr e
 isIn-cases x (y ∷ ys) zs e = go (eqb x y) e (isIn-cases x ys zs)

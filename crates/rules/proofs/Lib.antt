@@ -12,3 +12,4 @@ pub mod ReadsBackLaws
 pub mod CausalLaws
 pub mod TimeLaws
 pub mod TreeLaws
+pub mod DecimalLaws
