@@ -5,7 +5,7 @@ pub mod NodesLaws
 pub mod MarkLaws
 pub mod LinkLaws
 pub mod TourLaws
-pub mod LengthLaws
+pub mod OrderLaws
 pub mod PruneLaws
 pub mod ViewLaws
 pub mod RevealLaws

@@ -16,7 +16,7 @@ use Rattle.rules.specs.Bytes.{filter, upFrom, downFrom}
 use Rattle.rules.specs.Tree.{noParent, slots}
 use Rattle.view.proofs.NodesLaws.{valid-parent}
 use Rattle.view.proofs.SlotLaws.{spot-node, node-nonzero, spot-below, spot-valid}
-use Rattle.view.specs.Tables.{Links, entry, linkSlot, links, nodeAt, spot, linksOf}
+use Rattle.view.specs.Tables.{Links, entry, linkSlot, links, nodeAt, spot, linksOf, noLinks}
 
 -- from x on, next passes these nodes and ends
 abbrev pub Chain : List ℕ → ℕ → List ℕ → Type 0
@@ -122,7 +122,7 @@ module _ (parents hidden : List ℕ) (entries : (k : ℕ) → 0 < k → k < 2041
   no-kids n = refl
 
   pub links-right : Linked 1 (linksOf parents hidden)
-  unfolding linksOf
+  unfolding linksOf noLinks
   links-right =
       link-all 2040 (lit≤ tt) (links (replicate slots 0) (replicate slots 0)) (record {
         first-size = length-replicate {A = ℕ} slots 0;

@@ -6,28 +6,30 @@ use mathlib.Core.Bool.{_&&_, Bool, cond, false, not, true}
 use mathlib.Core.List.{List, [], map, map-append, _∷_}
 use mathlib.Core.Logic.{inl}
 use mathlib.Core.Path.{refl, sym, _∙_, _≡_, ap}
+use native.Mathlib.Nat.{le-trans}
 use native.Mathlib.Omega.{arith}
 use Rattle.order.proofs.DepthLaws.{climb-length}
 use Rattle.order.proofs.FuelLaws.{Depth, depth-child, depth-unique, has-depth}
 use Rattle.order.proofs.GrowLaws.{Named, named-valid}
+use Rattle.order.proofs.TourLaws.{preorder-length}
 use Rattle.rules.proofs.StructureLaws.{GoodLog}
 use Rattle.rules.proofs.TreeLaws.{Valid, slot-root, up}
 use Rattle.rules.specs.Bytes.{concat, filter}
 use Rattle.rules.specs.Listing.{children, line, listingIn, listingOf, preorder}
-use Rattle.rules.specs.Log.{Log, countsOf, known}
+use Rattle.rules.specs.Log.{Log, countsOf}
 use Rattle.rules.specs.Replay.{parentsOf}
-use Rattle.rules.specs.Tree.{climb, depth, parentIn, path, slots}
+use Rattle.rules.specs.Tree.{climb, depth, path, slots}
 use Rattle.rules.specs.Views.{View, shown, tombstone, keeping, skipping}
-use Rattle.view.proofs.LengthLaws.{all-map, pre-nodes, pre-short, slots-once, times}
 use Rattle.view.proofs.LinkLaws.{kids, Chain, Linked, links-right}
 use Rattle.view.proofs.MarkLaws.{mark-tombstone}
-use Rattle.view.proofs.NodesLaws.{children-slots, filter-map-filter, nodes-slots, slot-entry}
+use Rattle.view.proofs.NodesLaws.{children-slots, filter-map-filter, slot-entry}
+use Rattle.view.proofs.OrderLaws.{all-map, length-filter, pre-nodes}
 use Rattle.view.proofs.PruneLaws.{pruned}
 use Rattle.view.proofs.RevealLaws.{not-not, keeping-hidden}
 use Rattle.view.proofs.SlotLaws.{spot-node, spot-valid}
 use Rattle.view.proofs.TourLaws.{All, pre, tour-root}
 use Rattle.view.proofs.ViewLaws.{Under, children-under, root-shown, skipping-child, keeping-child}
-use Rattle.view.specs.Tables.{Links, entry, entryOf, hiddenOf, lineFor, linesOf, linksOf, marksOf, nodeAt, tourOf}
+use Rattle.view.specs.Tables.{Links, entry, entryOf, hiddenOf, lineFor, linesOf, linksOf, marksOf, nodeAt, tourOf, orderOf}
 
 all-kept : (P : ℕ → Type 0) (g : ℕ → Bool) (xs : List ℕ) → All P xs → All P (filter g xs)
 unfolding filter
@@ -109,20 +111,11 @@ module _ (log : Log) (good : GoodLog log) where
     kids-under : (n : ℕ) → All (Under log good n) (kidsOf n)
     kids-under n = all-kept _ unhidden (children log P n) (children-under log good n)
 
-    kids-once : (y n : ℕ) → times y (kidsOf n) ≤ 1
-    unfolding children
-    kids-once y n =
-        rw (nodes-slots log good, filter-map-filter (λ m. eqb (parentIn P m) n) nodeAt (λ k. known log (countsOf log) (nodeAt k)) (λ k. known log (countsOf log) (nodeAt k) && eqb (parentIn P (nodeAt k)) n) 2040 1 (λ k a b. refl), filter-map-filter unhidden nodeAt (λ k. known log (countsOf log) (nodeAt k) && eqb (parentIn P (nodeAt k)) n) (λ k. known log (countsOf log) (nodeAt k) && eqb (parentIn P (nodeAt k)) n && unhidden (nodeAt k)) 2040 1 (λ k a b. refl))
-        (slots-once y (λ k. known log (countsOf log) (nodeAt k) && eqb (parentIn P (nodeAt k)) n && unhidden (nodeAt k)) 2040 1 (omega arith) (omega arith))
-
-    node-depth : (n : ℕ) → Node n → (j : ℕ) × Depth P j n
-    node-depth n w = let (j, b, d) = has-depth log good n w in (j, d)
-
-    pub order-short : (k : ℕ) → length (pre kidsOf k 0) ≤ 2041
-    order-short k = pre-short P kidsOf Node node-depth (λ n w. all-map _ _ (kidsOf n) (λ c u. (u .node, u .parent, u .below-root)) (kids-under n)) kids-once node-is-valid k 0 (inl refl)
+    pub order-short : length (pre kidsOf slots 0) ≤ 2041
+    order-short = rw (← shown-order) (le-trans (length-filter (shown view log P) (preorder slots log P 0)) (preorder-length log good slots))
 
     order-nodes : All Node (pre kidsOf slots 0)
-    order-nodes = pre-nodes P kidsOf Node node-depth (λ n w. all-map _ _ (kidsOf n) (λ c u. (u .node, u .parent, u .below-root)) (kids-under n)) kids-once slots 0 (inl refl)
+    order-nodes = pre-nodes kidsOf Node (λ n w. all-map _ _ (kidsOf n) (λ c u. u .node) (kids-under n)) slots 0 (inl refl)
 
     ---- the tour
 
@@ -161,7 +154,7 @@ module _ (log : Log) (good : GoodLog log) where
     root-good = record { node = inl refl; deep = record { root = refl; first = λ k h z. omega arith }; low = omega arith }
 
     tour-is : tourOf l ≡ map withDepth (pre kidsOf slots 0)
-    tour-is = tour-root l kidsOf tree Good chain opens below (λ d n g. omega (arith, g .low)) root-good (rw (spot-valid 0 (inl refl), slot-root 0 refl) (is-linked .root-last)) (rw length-map (order-short slots))
+    tour-is = tour-root l kidsOf tree Good chain opens below (λ d n g. omega (arith, g .low)) root-good (rw (spot-valid 0 (inl refl), slot-root 0 refl) (is-linked .root-last)) (rw length-map order-short)
 
     ---- the lines
 
@@ -174,6 +167,6 @@ module _ (log : Log) (good : GoodLog log) where
         let y : (n * 65536 + depth P n) % 65536 ≡ depth P n = omega arith in
         rw (x, y, mark-tombstone log good n (node-is-valid n w))
 
-    pub listing-is : linesOf marks (tourOf l) ≡ listingOf view log
-    unfolding linesOf listingOf listingIn
+    pub listing-is : linesOf marks (orderOf log view) ≡ listingOf view log
+    unfolding orderOf linesOf listingOf listingIn
     listing-is = rw (tour-is, shown-order) (ap concat (map-map (lineFor marks) withDepth (pre kidsOf slots 0) ∙ map-all Node (λ n. lineFor marks (withDepth n)) (line log P) (pre kidsOf slots 0) line-is order-nodes))

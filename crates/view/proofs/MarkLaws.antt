@@ -23,7 +23,7 @@ use Rattle.rules.specs.Replay.{opsWithin, removedIn}
 use Rattle.rules.specs.Tree.{slotOf, slots}
 use Rattle.rules.specs.Views.{tombstone}
 use Rattle.view.proofs.SlotLaws.{spot-valid}
-use Rattle.view.specs.Tables.{entry, mark, marksOf, spot}
+use Rattle.view.specs.Tables.{entry, mark, marksOf, spot, noMarks}
 
 ---- the ops of a log in file order
 
@@ -104,12 +104,12 @@ module _ (log : Log) (good : GoodLog log) where
       ]
 
   pub mark-tombstone : (n : ℕ) → Valid n → not (eqb (entry (marksOf log) n) 0) ≡ tombstone log n
-  unfolding marksOf tombstone removedIn
+  unfolding marksOf noMarks tombstone removedIn
   mark-tombstone n v =
       rw (spot-valid n v, ← ops-all log (good .eight)) (marks-are (opsWithin log (countsOf log)) (replicate slots 0) n (length-replicate {A = ℕ} slots 0) v removes-fine ∙ rw (getD-replicate {A = ℕ} slots (slotOf n) 0 0 (slot-below n v)))
 
   pub marks-length : length (marksOf log) ≡ 2041
-  unfolding marksOf
+  unfolding marksOf noMarks
   marks-length = marks-size (replicate slots 0) (concat log) ∙ length-replicate {A = ℕ} slots 0
 
   root-in : (rs : List Op) → all fine rs ≡ true → isIn 0 (map nodeOf (filter isRemove rs)) ≡ false

@@ -7,7 +7,7 @@ use Rattle.rules.proofs.ListLaws.{filter-append}
 use Rattle.rules.specs.Bytes.{concat, filter}
 use Rattle.rules.specs.Listing.{children, preorder}
 use Rattle.rules.specs.Log.{Log}
-use Rattle.view.proofs.LengthLaws.{all-map}
+use Rattle.view.proofs.OrderLaws.{all-map}
 use Rattle.view.proofs.TourLaws.{All, pre}
 
 filter-concat : {A : Type 0} (p : A → Bool) (F : ℕ → List A) (ns : List ℕ) → filter p (concat (map F ns)) ≡ concat (map (λ n. filter p (F n)) ns)

@@ -27,7 +27,7 @@ use Rattle.view.proofs.NodesLaws.{held-parent, nodes-slots, unheld-pare
 use Rattle.view.proofs.PathLaws.{root-way, table-size}
 use Rattle.view.proofs.SlotLaws.{spot-below, spot-valid, node-valid, slot-positive, spot-node}
 use Rattle.view.proofs.ViewLaws.{depth-parent, and-swap, path-closed}
-use Rattle.view.specs.Tables.{entry, reveal, spot, hiddenOf, marksOf, nodeAt, revealSlot}
+use Rattle.view.specs.Tables.{entry, reveal, spot, hiddenOf, marksOf, nodeAt, revealSlot, allHidden}
 
 depth-up : (parents : List ℕ) (j n i : ℕ) → Depth parents j n → i ≤ j → Depth parents (j - i) (up parents i n)
 depth-up parents j n i d h =
@@ -222,7 +222,7 @@ module _ (log : Log) (good : GoodLog log) where
   unmarked-is k p b = rw (← mark-tombstone log good (nodeAt k) (node-valid k p b), spot-node k p b) (sym (not-not (eqb (getD marks k 0) 0)))
 
   pub keeping-hidden : (m : ℕ) → Valid m → shows-in (hiddenOf P marks keeping) m ≡ shown keeping log P m
-  unfolding hiddenOf shown atOrBelow
+  unfolding hiddenOf allHidden shown atOrBelow
   keeping-hidden m vm =
       reveal-slots 2040 1 (omega arith) (omega arith) (set (replicate slots 1) 0 0) (λ m. eqb m 0) (length-set {A = ℕ} (replicate slots 1) 0 0 ∙ length-replicate {A = ℕ} slots 1) start-hidden (record { has-root = refl; upward = λ c w nz e. absurd (nz (eqb-true c 0 e)) }) m vm
       ∙ ap (λ (b : Bool). eqb m 0 || b) (sym (ap (any (λ x. isIn m (path P x) && not (tombstone log x))) (nodes-slots log good)

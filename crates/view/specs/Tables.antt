@@ -8,6 +8,7 @@ use Rattle.rules.specs.Bytes.{upFrom, downFrom, concat}
 use Rattle.rules.specs.Op.{Op, nodeOf, isRemove}
 use Rattle.rules.specs.Log.{Log}
 use Rattle.rules.specs.Tree.{slotOf, slots, noParent}
+use Rattle.rules.specs.Replay.{parentsOf}
 use Rattle.rules.specs.Views.{View, keeping, skipping}
 use Rattle.rules.specs.Listing.{lineOf}
 
@@ -28,8 +29,12 @@ entry t n = getD t (spot n) 0
 unfoldable pub mark : List ℕ → Op → List ℕ
 mark marks r = cond (isRemove r) (set marks (spot (nodeOf r)) 1) marks
 
+-- no node is marked
+unfoldable pub noMarks : List ℕ
+noMarks = replicate slots 0
+
 unfoldable pub marksOf : Log → List ℕ
-marksOf log = foldl mark (replicate slots 0) (concat log)
+marksOf log = foldl mark noMarks (concat log)
 
 ---- what is hidden from the keeping view: not 0
 
@@ -45,8 +50,12 @@ revealSlot parents marks hidden k =
     let shown = reveal slots parents hidden (nodeAt k) in
     cond (eqb (getD parents k 0) noParent) hidden (cond (eqb (getD marks k 0) 0) shown hidden)
 
+-- all but the root
+unfoldable pub allHidden : List ℕ
+allHidden = set (replicate slots 1) 0 0
+
 unfoldable pub hiddenOf : (parents marks : List ℕ) → View → List ℕ
-hiddenOf parents marks keeping = foldl (revealSlot parents marks) (set (replicate slots 1) 0 0) (upFrom 1 2040)
+hiddenOf parents marks keeping = foldl (revealSlot parents marks) allHidden (upFrom 1 2040)
 hiddenOf parents marks skipping = marks
 
 ---- the first child and the next sibling of each node, 0 where there is none
@@ -65,8 +74,11 @@ linkSlot parents hidden l k =
     let linked = links (set (l .first) p (nodeAt k)) (set (l .next) k (getD (l .first) p 0)) in
     cond (eqb (getD parents k 0) noParent) l (cond (eqb (getD hidden k 0) 0) linked l)
 
+unfoldable pub noLinks : Links
+noLinks = links (replicate slots 0) (replicate slots 0)
+
 unfoldable pub linksOf : (parents hidden : List ℕ) → Links
-linksOf parents hidden = foldl (linkSlot parents hidden) (links (replicate slots 0) (replicate slots 0)) (downFrom 2040)
+linksOf parents hidden = foldl (linkSlot parents hidden) noLinks (downFrom 2040)
 
 ---- the tour: nodes with their depths
 
@@ -91,6 +103,10 @@ tour (suc k) l (e ∷ stack) =
 
 unfoldable pub tourOf : Links → List ℕ
 tourOf l = tour slots l (0 ∷ [])
+
+-- what a view shows of a log, in preorder
+unfoldable pub orderOf : Log → View → List ℕ
+orderOf log view = tourOf (linksOf (parentsOf log) (hiddenOf (parentsOf log) (marksOf log) view))
 
 ---- the lines
 

@@ -2,6 +2,8 @@
 // bytes, and a refused call changes nothing.
 mod answer;
 mod paths;
+mod slots;
 
 pub use answer::Listed;
+pub use answer::View;
 pub use paths::path;
