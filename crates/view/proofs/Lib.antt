@@ -11,3 +11,5 @@ pub mod ViewLaws
 pub mod RevealLaws
 pub mod ListingLaws
 pub mod ViewTheorems
+pub mod BodyLaws
+pub mod TurnLaws

@@ -1,6 +1,8 @@
 // What users see of a log: the path of a node, and the listing of a view. Every call takes any
 // bytes, and a refused call changes nothing.
 mod answer;
+mod hiding;
+mod marking;
 mod paths;
 mod slots;
 

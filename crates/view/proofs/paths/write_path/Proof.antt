@@ -10,6 +10,7 @@ use Rattle.oplog.proofs.InsertLaws.{front-step, front}
 use Rattle.replay.proofs.ClimbLaws.{parent-read}
 use Rattle.rules.specs.Tree.{parentIn, path, slotOf}
 use Rattle.view.proofs.PathLaws.{written-all}
+use Rattle.view.proofs.TourLaws.{pre}
 use Rattle.view.proofs.paths.write_path.Statement.{statement}
 use Rattle.view.specs.Answers.{Way}
 use Rattle.view.proofs.paths.write_path.Tie as tie
