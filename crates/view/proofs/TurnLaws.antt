@@ -1,14 +1,15 @@
 -- Turns of the loops that fill the tables. Assumes nothing.
-use Prim.Native.Nat.{_+_, _-_, _<_, suc, ℕ, _≤_}
+use Prim.Native.Nat.{_+_, _-_, _<_, suc, ℕ, _≤_, _%_, _*_, zero}
 use borrow.Author.Tests.{eq-eqb, ne-eqb}
-use lib.ListN.{getD, set}
-use mathlib.Core.List.{List, foldl}
-use mathlib.Core.Path.{ap, _∙_, _≡_}
+use lib.ListN.{getD, set, drop, drop-of-length-le, length, length-set, replicate, take, take-append-drop}
+use lib.Seq.{append-snoc, drop-cons, drop-set-lt, getD-set-same, length-take-le, take-suc-set}
+use mathlib.Core.List.{List, foldl, _++_, [], append-nil, _∷_}
+use mathlib.Core.Path.{ap, _∙_, _≡_, refl, sym}
 use native.Mathlib.Numerals.{add-one}
 use native.Mathlib.Omega.{arith}
 use Rattle.rules.specs.Bytes.{downFrom, upFrom}
 use Rattle.rules.specs.Tree.{noParent, slots}
-use Rattle.view.specs.Tables.{Links, entry, linkSlot, links, nodeAt, reveal, revealSlot, spot}
+use Rattle.view.specs.Tables.{Links, entry, linkSlot, links, nodeAt, reveal, revealSlot, spot, depthIn, nodeIn, push, tour, tourOf}
 
 ---- revealing
 
@@ -66,3 +67,46 @@ link-hidden parents hidden l k e h = rw (ne-eqb (getD parents k 0) noParent e, n
 pub link-shown : (parents hidden first next : List ℕ) (k : ℕ) → (getD parents k 0 ≡ noParent → ⊥) → getD hidden k 0 ≡ 0 → linkSlot parents hidden (links first next) k ≡ links (set first (spot (getD parents k 0)) (nodeAt k)) (set next k (getD first (spot (getD parents k 0)) 0))
 unfolding linkSlot
 link-shown parents hidden first next k e h = rw (ne-eqb (getD parents k 0) noParent e, eq-eqb (getD hidden k 0) 0 h)
+
+---- the tour
+
+drop-replicate : (n a : ℕ) → drop n (replicate (suc n) a) ≡ a ∷ []
+drop-replicate zero a = refl
+drop-replicate (suc n) a = drop-replicate n a
+
+pub tour-start : (l : Links) (order : List ℕ) → tourOf l ≡ take 0 order ++ tour (2041 - 0) l (drop 2041 (replicate 2042 0))
+unfolding tourOf
+tour-start l order = rw (drop-replicate 2041 0)
+
+tour-none : (k : ℕ) (l : Links) → tour k l [] ≡ []
+unfolding tour
+tour-none zero l = refl
+tour-none (suc k) l = refl
+
+pub tour-turn : (first next order stack after : List ℕ) (i top end : ℕ) → i < 2041 → i < length order → top < length stack
+  → drop end after ≡ push (entry first (nodeIn (getD stack top 0))) ((depthIn (getD stack top 0) + 1) % 65536) (push (entry next (nodeIn (getD stack top 0))) (depthIn (getD stack top 0)) (drop (top + 1) stack))
+  → take i order ++ tour (2041 - i) (links first next) (drop top stack) ≡ take (i + 1) (set order i (getD stack top 0)) ++ tour (2041 - (i + 1)) (links first next) (drop end after)
+unfolding tour
+tour-turn first next order stack after i top end h u b d =
+    let k : 2041 - i ≡ suc (2041 - (i + 1)) = omega arith in
+    rw (d, k, drop-cons stack top 0 b, add-one i, add-one top, take-suc-set order i (getD stack top 0) u) (sym (append-snoc (take i order) (getD stack top 0) _))
+
+-- all nodes are out
+pub tour-done : (T order before : List ℕ) (i : ℕ) → i ≤ length order → T ≡ take i order → drop i order ≡ drop i before → (i ≡ length T) × (order ≡ T ++ drop i before)
+tour-done T order before i h e d = (sym (ap length e ∙ length-take-le i order h), rw (e, ← d) (sym (take-append-drop i order)))
+
+pub tour-stop : (l : Links) (order stack : List ℕ) (i top : ℕ) → length stack ≤ top → tourOf l ≡ take i order ++ tour (2041 - i) l (drop top stack) → tourOf l ≡ take i order
+tour-stop l order stack i top h e = e ∙ rw (drop-of-length-le stack h, tour-none (2041 - i) l) (append-nil (take i order))
+
+pub tour-end : (l : Links) (order rest : List ℕ) (i : ℕ) → 2041 ≤ i → tourOf l ≡ take i order ++ tour (2041 - i) l rest → tourOf l ≡ take i order
+unfolding tour
+tour-end l order rest i h e = let z : 2041 - i ≡ 0 = omega arith in e ∙ rw z (append-nil (take i order))
+
+pub push-on : (stack : List ℕ) (top place n d x : ℕ) → (n ≡ 0 → ⊥) → top ≡ suc place → top ≤ length stack → x ≡ n * 65536 + d → drop place (set stack place x) ≡ push n d (drop top stack)
+unfolding push
+push-on stack top place n d x nz e h q =
+    rw (ne-eqb n 0 nz, e, ← q) (drop-cons (set stack place x) place 0 (rw (length-set stack place x) (omega arith)) ∙ rw (getD-set-same stack place x 0 (omega arith), drop-set-lt (suc place) stack place x (omega arith)))
+
+pub push-none : (stack : List ℕ) (n d : ℕ) → n ≡ 0 → stack ≡ push n d stack
+unfolding push
+push-none stack n d e = rw (eq-eqb n 0 e)

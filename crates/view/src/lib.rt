@@ -2,9 +2,11 @@
 // bytes, and a refused call changes nothing.
 mod answer;
 mod hiding;
+mod linking;
 mod marking;
 mod paths;
 mod slots;
+mod touring;
 
 pub use answer::Listed;
 pub use answer::View;
