@@ -2,7 +2,7 @@
 use Prim.Native.Nat.{_+_, _-_, _<_, suc, ℕ, _≤_, _%_, _*_, zero}
 use borrow.Author.Tests.{eq-eqb, ne-eqb}
 use lib.ListN.{getD, set, drop, drop-of-length-le, length, length-set, replicate, take, take-append-drop}
-use lib.Seq.{append-snoc, drop-cons, drop-set-lt, getD-set-same, length-take-le, take-suc-set}
+use lib.Seq.{append-snoc, drop-cons, drop-set-lt, getD-set-same, length-take-le, take-suc-set, drop-drop}
 use mathlib.Core.List.{List, foldl, _++_, [], append-nil, _∷_}
 use mathlib.Core.Path.{ap, _∙_, _≡_, refl, sym}
 use native.Mathlib.Numerals.{add-one}
@@ -110,3 +110,9 @@ push-on stack top place n d x nz e h q =
 pub push-none : (stack : List ℕ) (n d : ℕ) → n ≡ 0 → stack ≡ push n d stack
 unfolding push
 push-none stack n d e = rw (eq-eqb n 0 e)
+
+pub drop-more : (xs ys : List ℕ) (i : ℕ) → drop i xs ≡ drop i ys → drop (i + 1) xs ≡ drop (i + 1) ys
+drop-more xs ys i e = sym (drop-drop 1 i xs) ∙ ap (drop 1) e ∙ drop-drop 1 i ys
+
+pub tour-full : (T order before : List ℕ) (i r : ℕ) → i ≡ r → i ≤ length order → T ≡ take i order → drop i order ≡ drop i before → (r ≡ length T) × (order ≡ T ++ drop r before)
+tour-full T order before i r q h e d = rw (← q) (tour-done T order before i h e d)

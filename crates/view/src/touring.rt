@@ -39,3 +39,24 @@ fn push(stack: &mut [u32], top: usize, node: u16, depth: u16) -> usize
     place
 }
 
+// The nodes from the root on in preorder, with their depths; answers how many there are. The
+// stack has the first of the siblings that are left, for each level that the tour is in.
+pub fn tour(first: &[u16], next: &[u16], order: &mut [u32]) -> usize
+    requires { ⌜ (length (now first) ≡ 2041) × (length (now next) ≡ 2041) × (length (now order) ≡ 2041) ⌝ }
+    ensures { λ r. ⌜ (r ≡ length (tourOf (links (now (first .entry)) (now (next .entry))))) × (now (order .exit) ≡ tourOf (links (now (first .entry)) (now (next .entry))) ++ drop r (now (order .entry))) ⌝ }
+{
+    let mut stack = [0u32; 2042];
+    let mut top: usize = 2041;
+    for i in 0..2041usize {
+        if top == 2042 {
+            return i;
+        }
+        let entry = stack[top];
+        order[i] = entry;
+        let slot = spot_of(node_in(entry));
+        let depth = depth_in(entry);
+        let rest = push(&mut stack, top + 1, next[slot], depth);
+        top = push(&mut stack, rest, first[slot], wrapping_add_u16(depth, 1));
+    }
+    2041
+}
