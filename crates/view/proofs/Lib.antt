@@ -15,3 +15,4 @@ pub mod BodyLaws
 pub mod TurnLaws
 pub mod LineLaws
 pub mod ListingCases
+pub mod OutlineCases
