@@ -9,7 +9,7 @@ use mathlib.Core.Path.{ap, refl, sym, _∙_, _≡_}
 use native.Mathlib.Numerals.{add-one}
 use native.Mathlib.Omega.{arith}
 use Rattle.rules.proofs.ListLaws.{concat-append}
-use Rattle.rules.specs.Bytes.{concat}
+use Rattle.rules.specs.Bytes.{concat, all}
 use Rattle.rules.specs.Listing.{lineOf}
 use Rattle.view.specs.Tables.{depthIn, lineFor, linesOf, nodeIn, spot}
 

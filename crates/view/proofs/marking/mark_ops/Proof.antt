@@ -11,7 +11,8 @@ use Rattle.rules.proofs.StructureLaws.{laid-reads}
 use Rattle.rules.specs.Bytes.{concat, sum}
 use Rattle.rules.specs.Exchange.{left}
 use Rattle.rules.specs.Log.{headerCounts, logOf, width}
-use Rattle.view.proofs.BodyLaws.{bodies-fit, start-least, bodies-all, bodies-end, total-is, bodies-turn, bodiesFrom}
+use Rattle.view.proofs.BodyLaws.{bodies-all, bodies-end, bodies-turn, bodiesFrom}
+use Rattle.view.proofs.ChunkLaws.{bodies-fit, start-least, total-is}
 use Rattle.view.proofs.TourLaws.{pre}
 use Rattle.view.proofs.marking.mark_ops.Statement.{statement}
 use Rattle.view.specs.Tables.{mark}
