@@ -10,11 +10,13 @@ use native.Mathlib.Decide.{ℕ-discrete}
 use native.Mathlib.Omega.{arith}
 use Rattle.order.proofs.TourLaws.{sound-listing}
 use Rattle.rules.specs.Answer.{accepted, refused, require}
+use Rattle.rules.specs.Exchange.{answer}
 use Rattle.rules.specs.Listing.{listing, listingAnswer, listingOf, outline, refusedLine}
 use Rattle.rules.specs.Log.{fileEnd, logOf, width}
 use Rattle.rules.specs.Sound.{sound}
 use Rattle.rules.specs.Views.{View, keeping}
 use Rattle.view.specs.Answers.{putText, textAnswer}
+use Rattle.view.specs.Claims.{OutlineFits}
 
 pub text-short : (text out : List ℕ) → length out < length text → textAnswer text (length out) ≡ refused 8
 unfolding textAnswer require
@@ -51,7 +53,7 @@ module _ (f : List ℕ) where
     listing-text view out = rw e
 
 -- the length of every output
-pub outline-size : (f : List ℕ) → length (outline width f) ≤ 24492
+pub outline-size : OutlineFits
 outline-size f = go (sound width f) refl
   where
     line-size : length (outline width f) ≡ 10 → length (outline width f) ≤ 24492
@@ -63,3 +65,8 @@ outline-size f = go (sound width f) refl
       | yes q ↦ rw (outline-listed f e q) (sound-listing width f keeping e)
       | no ne ↦ line-size (ap length (outline-long f e ne) ∙ refused-size)
     ]
+
+-- lent so many bytes, the call puts the whole output in front
+pub outline-printed : (f out : List ℕ) → 24492 ≤ length out → (putText (outline width f) out .answer ≡ accepted (length (outline width f))) × (putText (outline width f) out .out ≡ outline width f ++ drop (length (outline width f)) out)
+unfolding putText
+outline-printed f out h = let s = outline-size f in rw (text-done (outline width f) out (omega arith)) (refl, refl)

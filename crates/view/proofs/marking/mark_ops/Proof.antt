@@ -45,8 +45,7 @@ mark-op-requires c κs = let l = c .before .before .loop in (omega (arith, l .in
 loop-again : tie.Need-loop-again Inv-loop μ-loop
 loop-again c =
     let l = c .before .before .before .before .before .loop in
-    let m = c .before .before .mark-op in
-    (
+    let m = c .before .before .mark-op in (
       omega (arith, l .inv .0, m .kept .1 .1 .0),
       omega arith,
       l .inv .2,
