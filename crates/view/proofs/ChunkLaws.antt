@@ -8,7 +8,6 @@ use mathlib.Core.List.{_++_, List, [], _∷_}
 use mathlib.Core.Path.{refl, sym, _≡_}
 use native.Mathlib.Nat.{add-zero, mul-zero, suc-add, zero-add}
 use native.Mathlib.Omega.{arith}
-use Rattle.oplog.proofs.FieldLaws.{fits}
 use Rattle.rules.proofs.FileLaws.{length-counts}
 use Rattle.rules.proofs.ListLaws.{mul-step}
 use Rattle.rules.proofs.StructureLaws.{laid-reads}

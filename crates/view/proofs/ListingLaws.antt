@@ -20,7 +20,7 @@ use Rattle.rules.specs.Log.{Log, countsOf}
 use Rattle.rules.specs.Replay.{parentsOf}
 use Rattle.rules.specs.Tree.{climb, depth, path, slots}
 use Rattle.rules.specs.Views.{View, keeping, shown, skipping, tombstone}
-use Rattle.view.proofs.LinkLaws.{kids, Chain, Linked, links-right}
+use Rattle.view.proofs.LinkLaws.{Chain, Linked, kids, links-right}
 use Rattle.view.proofs.MarkLaws.{mark-tombstone}
 use Rattle.view.proofs.NodesLaws.{children-slots, slot-entry}
 use Rattle.view.proofs.OrderLaws.{pre-nodes}

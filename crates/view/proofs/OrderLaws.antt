@@ -1,6 +1,7 @@
 -- What a preorder has. Assumes nothing.
 use Prim.Native.Nat.{suc, zero, ℕ}
 use mathlib.Core.List.{List}
+use Rattle.view.proofs.LinkLaws.{kids}
 use Rattle.view.proofs.SeqLaws.{All, all-concat, all-map}
 use Rattle.view.proofs.TourLaws.{pre}
 

@@ -5,12 +5,11 @@ use lib.ListN.{drop, length}
 use lib.Seq.{sets, sets-eq}
 use mathlib.Core.Bool.{Bool, false, true}
 use mathlib.Core.List.{_++_, List}
-use mathlib.Core.Path.{ap, refl, _≡_, _∙_}
+use mathlib.Core.Path.{ap, refl, _∙_, _≡_}
 use native.Mathlib.Decide.{ℕ-discrete}
 use native.Mathlib.Omega.{arith}
 use Rattle.order.proofs.TourLaws.{sound-listing}
 use Rattle.rules.specs.Answer.{accepted, refused, require}
-use Rattle.rules.specs.Exchange.{answer}
 use Rattle.rules.specs.Listing.{listing, listingAnswer, listingOf, outline, refusedLine}
 use Rattle.rules.specs.Log.{fileEnd, logOf, width}
 use Rattle.rules.specs.Sound.{sound}

@@ -1,8 +1,8 @@
 -- Revealing every unmarked node and what is above it leaves hidden what the keeping view hides. Assumes nothing.
 use Prim.Native.Nat.{_+_, _<_, suc, zero, ℕ, _≤_}
 use borrow.Author.Tests.{eq-eqb, eqb-true, ne-eqb}
-use lib.Dec.{lit≤, eqb}
-use lib.ListN.{getD, getD-replicate, length, length-replicate, replicate, set, length-set}
+use lib.Dec.{eqb, lit≤}
+use lib.ListN.{length-set, getD, getD-replicate, length, length-replicate, replicate, set}
 use lib.Seq.{getD-set-other, getD-set-same}
 use mathlib.Core.Bool.{_&&_, Bool, cond, false, not, or-assoc, or-false, or-true, true, _||_}
 use mathlib.Core.List.{List, foldl}

@@ -1,4 +1,4 @@
--- Laws of lists and of tests that stand above any crate. Assumes nothing.
+-- Laws of lists and of tests of their elements. Assumes nothing.
 use Prim.Native.Nat.{_*_, _+_, _-_, _<_, suc, zero, ℕ, _≤_}
 use borrow.Author.Tests.{eq-eqb, eqb-true}
 use lib.Dec.{eqb}

@@ -29,15 +29,16 @@ ops-all log e =
     whole-log : map (opsOf log) (upFrom 1 8) ≡ log
     whole-log = rw (← e) (map-getD [] log 1)
 
-module _ (log : Log) (good : GoodLog log) where
-  abbrev pub fine : Op → Bool
-  fine r = not (isRemove r) || known log (countsOf log) (nodeOf r)
+-- an op that is no remove, or removes a known node
+abbrev pub removesKnown : Log → Op → Bool
+removesKnown log r = not (isRemove r) || known log (countsOf log) (nodeOf r)
 
-  pub removes-fine : all fine (opsWithin log (countsOf log)) ≡ true
+module _ (log : Log) (good : GoodLog log) where
+  pub removes-known : all (removesKnown log) (opsWithin log (countsOf log)) ≡ true
   unfolding isRemove
-  removes-fine = all-greatest fine (opsWithin log (countsOf log)) (counted-bound log (countsOf log) (λ r. cond (fine r) 0 1) 0 (λ s q l u lq uq. rw (one s q l u lq uq) (omega arith)))
+  removes-known = all-greatest (removesKnown log) (opsWithin log (countsOf log)) (counted-bound log (countsOf log) (λ r. cond (removesKnown log r) 0 1) 0 (λ s q l u lq uq. rw (one s q l u lq uq) (omega arith)))
     where
-      one : (s q : ℕ) → 1 ≤ s → s ≤ 8 → 1 ≤ q → q ≤ countIn (countsOf log) s → fine (opAt log s q) ≡ true
+      one : (s q : ℕ) → 1 ≤ s → s ≤ 8 → 1 ≤ q → q ≤ countIn (countsOf log) s → removesKnown log (opAt log s q) ≡ true
       one s q l u lq uq = elim (ℕ-discrete (kindOf (opAt log s q)) 2) [
         | yes e ↦
             let x = good-ops good s q l u lq uq in
@@ -45,18 +46,18 @@ module _ (log : Log) (good : GoodLog log) where
         | no e ↦ rw (ne-eqb (kindOf (opAt log s q)) 2 e)
       ]
 
-  pub root-in : (rs : List Op) → all fine rs ≡ true → isIn 0 (map nodeOf (filter isRemove rs)) ≡ false
+  pub root-in : (rs : List Op) → all (removesKnown log) rs ≡ true → isIn 0 (map nodeOf (filter isRemove rs)) ≡ false
   unfolding all isIn any filter
   root-in [] f = refl
-  root-in (r ∷ rs) f = go (isRemove r) refl (root-in rs (and-right (fine r) _ f))
+  root-in (r ∷ rs) f = go (isRemove r) refl (root-in rs (and-right (removesKnown log r) _ f))
     where
       go : (b : Bool) → isRemove r ≡ b → any (eqb 0) (map nodeOf (filter isRemove rs)) ≡ false → any (eqb 0) (map nodeOf (cond b (r ∷ filter isRemove rs) (filter isRemove rs))) ≡ false
       go false e ih = ih
       go true e ih =
-          let w : known log (countsOf log) (nodeOf r) ≡ true = rw e at (and-left (fine r) _ f) in
+          let w : known log (countsOf log) (nodeOf r) ≡ true = rw e at (and-left (removesKnown log r) _ f) in
           let h = known-reads log (countsOf log) (nodeOf r) w .0 in
           rw (ne-eqb 0 (nodeOf r) (λ z. omega (arith, h .low)), ih)
 
   pub root-unmarked : tombstone log 0 ≡ false
   unfolding tombstone removedIn
-  root-unmarked = root-in (opsWithin log (countsOf log)) removes-fine
+  root-unmarked = root-in (opsWithin log (countsOf log)) removes-known

@@ -8,7 +8,7 @@ use native.Mathlib.Nat.{le-of-suc-le-suc, not-suc-le-zero}
 use native.Mathlib.Omega.{arith}
 use Rattle.rules.specs.Bytes.{concat}
 use Rattle.rules.specs.Tree.{slots}
-use Rattle.view.proofs.LinkLaws.{Chain}
+use Rattle.view.proofs.LinkLaws.{Chain, kids}
 use Rattle.view.proofs.SeqLaws.{All}
 use Rattle.view.specs.Tables.{Links, entry, entryOf, push, tour, tourOf}
 

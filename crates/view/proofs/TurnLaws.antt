@@ -1,15 +1,15 @@
 -- Turns of the loops that fill the tables. Assumes nothing.
-use Prim.Native.Nat.{_+_, _-_, _<_, suc, ℕ, _≤_, _%_, _*_, zero}
+use Prim.Native.Nat.{_%_, _*_, _+_, _-_, _<_, suc, zero, ℕ, _≤_}
 use borrow.Author.Tests.{eq-eqb, ne-eqb}
-use lib.ListN.{getD, set, drop, drop-of-length-le, length, length-set, replicate, take, take-append-drop}
-use lib.Seq.{append-snoc, drop-cons, drop-set-lt, getD-set-same, length-take-le, take-suc-set, drop-drop}
-use mathlib.Core.List.{List, foldl, _++_, [], append-nil, _∷_}
-use mathlib.Core.Path.{ap, _∙_, _≡_, refl, sym}
+use lib.ListN.{drop, drop-of-length-le, getD, length, length-set, replicate, set, take, take-append-drop}
+use lib.Seq.{append-snoc, drop-cons, drop-drop, drop-set-lt, getD-set-same, length-take-le, take-suc-set}
+use mathlib.Core.List.{_++_, List, [], append-nil, foldl, _∷_}
+use mathlib.Core.Path.{ap, refl, sym, _∙_, _≡_}
 use native.Mathlib.Numerals.{add-one}
 use native.Mathlib.Omega.{arith}
 use Rattle.rules.specs.Bytes.{downFrom, upFrom}
 use Rattle.rules.specs.Tree.{noParent, slots}
-use Rattle.view.specs.Tables.{Links, entry, linkSlot, links, nodeAt, reveal, revealSlot, spot, depthIn, nodeIn, push, tour, tourOf}
+use Rattle.view.specs.Tables.{Links, depthIn, entry, linkSlot, links, nodeAt, nodeIn, push, reveal, revealSlot, spot, tour, tourOf}
 
 ---- revealing
 

@@ -1,4 +1,4 @@
--- Paths in the tree of a log, and what they say of the two views. Assumes nothing.
+-- What each view shows of a node, by what it shows of the node's parent. Assumes nothing.
 use Prim.Native.Nat.{ℕ}
 use borrow.Author.Tests.{ne-eqb}
 use lib.Dec.{eqb}

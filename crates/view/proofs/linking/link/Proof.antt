@@ -2,13 +2,9 @@
 use Prim.Native.Nat.{_≤_}
 use denote.Ref.{now}
 use mathlib.Core.List.{foldl}
-use mathlib.Core.Path.{sym, refl, _∙_, _≡_}
+use mathlib.Core.Path.{refl, sym, _∙_, _≡_}
 use native.Mathlib.Omega.{arith}
-use Rattle.rules.proofs.OfferLaws.{taken}
 use Rattle.rules.specs.Bytes.{downFrom}
-use Rattle.rules.specs.Exchange.{left}
-use Rattle.view.proofs.MarkLaws.{marks-size}
-use Rattle.view.proofs.TourLaws.{pre}
 use Rattle.view.proofs.TurnLaws.{down-end, down-turn}
 use Rattle.view.proofs.linking.link.Statement.{statement}
 use Rattle.view.specs.Answers.{Sized}

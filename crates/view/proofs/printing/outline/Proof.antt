@@ -1,20 +1,17 @@
 -- `view::printing::outline` meets its contract. Assumes nothing.
 use borrow.Author.Needs.{needs}
-use borrow.Author.Tests.{not-true, not-false}
+use borrow.Author.Tests.{not-false, not-true}
 use denote.Ref.{now}
 use mathlib.Core.Bool.{true}
 use mathlib.Core.Path.{sym, _∙_, _≡_}
 use native.Mathlib.Omega.{arith}
 use Rattle.oplog.proofs.HeaderLaws.{end-is, laid-header}
-use Rattle.rules.proofs.OfferLaws.{taken}
 use Rattle.rules.proofs.SoundLaws.{sound-structural}
 use Rattle.rules.proofs.StructureLaws.{laid-reads, structural-laid}
-use Rattle.rules.specs.Exchange.{left}
-use Rattle.rules.specs.Listing.{listing}
 use Rattle.rules.specs.Log.{fileEnd, width}
 use Rattle.rules.specs.Sound.{sound}
 use Rattle.rules.specs.Views.{keeping}
-use Rattle.view.proofs.OutlineCases.{outline-unsound, listing-text, outline-listed, outline-long}
+use Rattle.view.proofs.OutlineCases.{listing-text, outline-listed, outline-long, outline-unsound}
 use Rattle.view.proofs.printing.outline.Statement.{statement}
 use Rattle.view.proofs.printing.outline.Tie as tie
 

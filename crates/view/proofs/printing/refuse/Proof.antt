@@ -1,13 +1,11 @@
 -- `view::printing::refuse` meets its contract. Assumes nothing.
 use denote.Ref.{now}
-use lib.Seq.{lt-length-sets, length-sets}
+use lib.Seq.{length-sets, lt-length-sets}
 use mathlib.Core.List.{[], _∷_}
 use mathlib.Core.Path.{refl}
 use native.Mathlib.Omega.{arith}
-use Rattle.rules.proofs.OfferLaws.{taken}
-use Rattle.rules.specs.Exchange.{left}
 use Rattle.rules.specs.Listing.{refusedLine}
-use Rattle.view.proofs.OutlineCases.{refused-written, text-short, refused-size, text-done}
+use Rattle.view.proofs.OutlineCases.{refused-size, refused-written, text-done, text-short}
 use Rattle.view.proofs.printing.refuse.Statement.{statement}
 use Rattle.view.specs.Answers.{putText}
 use Rattle.view.proofs.printing.refuse.Tie as tie
