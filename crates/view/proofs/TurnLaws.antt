@@ -48,13 +48,16 @@ up-end f x k h = let e : 2041 - k ≡ 0 = omega arith in rw e
 
 ---- linking
 
-pub down-turn : {A : Type 0} (f : A → ℕ → A) (x : A) (k : ℕ) → 0 < k → foldl f x (downFrom k) ≡ foldl f (f x k) (downFrom (k - 1))
+-- what is left of a fold over the slots downwards, with i of them passed
+pub down-turn : {A : Type 0} (f : A → ℕ → A) (x : A) (i : ℕ) → i < 2040 → foldl f x (downFrom (2040 - i)) ≡ foldl f (f x (2040 - i)) (downFrom (2040 - (i + 1)))
 unfolding downFrom
-down-turn f x k h = let e : k ≡ suc (k - 1) = omega arith in ap (λ (n : ℕ). foldl f x (downFrom n)) e ∙ rw (← e)
+down-turn f x i h =
+    let e : 2040 - i ≡ suc (2040 - (i + 1)) = omega arith in
+    ap (λ (n : ℕ). foldl f x (downFrom n)) e ∙ rw (← e)
 
-pub down-end : {A : Type 0} (f : A → ℕ → A) (x : A) (k : ℕ) → k ≤ 0 → foldl f x (downFrom k) ≡ x
+pub down-end : {A : Type 0} (f : A → ℕ → A) (x : A) (i : ℕ) → 2040 ≤ i → foldl f x (downFrom (2040 - i)) ≡ x
 unfolding downFrom
-down-end f x k h = let e : k ≡ 0 = omega arith in rw e
+down-end f x i h = let e : 2040 - i ≡ 0 = omega arith in rw e
 
 pub link-bare : (parents hidden : List ℕ) (l : Links) (k : ℕ) → getD parents k 0 ≡ noParent → linkSlot parents hidden l k ≡ l
 unfolding linkSlot
