@@ -24,8 +24,7 @@ loop-again : tie.Need-loop-again Inv-loop μ-loop
 loop-again c =
     let l = c .before .before .before .before .before .before .before .before .loop in
     let m = c .before .before .before .before .link-slot in
-    let s = l .inv .1 in
-    (
+    let s = l .inv .1 in (
       l .inv .0,
       record { parents-size = s .parents-size; marks-size = s .marks-size; first-size = omega (arith, s .first-size, m .kept .1 .1 .1 .0); next-size = omega (arith, s .next-size, m .kept .1 .1 .1 .1 .0) },
       omega arith,
