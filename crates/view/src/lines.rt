@@ -2,8 +2,8 @@ use crate::slots::spot_of;
 use crate::touring::depth_in;
 use crate::touring::node_in;
 use pen::Pen;
+use pen::lend_line;
 use pen::line_size;
-use pen::write_line;
 ghost use mathlib.Core.Path.{_≡_};
 ghost use mathlib.Core.List.{List, _++_};
 ghost use Prim.Native.Nat.{ℕ, _≤_};
@@ -33,7 +33,7 @@ pub fn write_lines(order: &[u32], count: usize, marks: &[u8], out: &mut [u8])
         let entry = order[i];
         let node = node_in(entry);
         let slot = spot_of(node);
-        let after = write_line(out, pen, depth_in(entry), node, marks[slot] != 0);
+        let after = lend_line(out, pen, depth_in(entry), node, marks[slot] != 0);
         pen = after;
     }
 }

@@ -25,11 +25,11 @@ the-line c = line-for (now (c .before .before .before .before .before .before .b
 loop-holds : tie.Need-loop-holds Inv-loop μ-loop
 loop-holds c = let e = lines-none (now (c .before .before .before .args .marks)) (now (c .before .before .before .args .order)) in (c .before .before .before .pre .0, c .before .before .before .pre .1, c .before .before .before .pre .2, c .before .before .before .pre .3, omega arith, refl, sym (ap length e), refl, rw e)
 
-shared-slice-read-write-line : tie.Need-shared-slice-read-write-line Inv-loop μ-loop
-shared-slice-read-write-line c = omega (arith, c .before .before .before .spot-of .ensures .1, c .before .before .before .before .before .before .before .loop .inv .2)
+shared-slice-read-lend-line : tie.Need-shared-slice-read-lend-line Inv-loop μ-loop
+shared-slice-read-lend-line c = omega (arith, c .before .before .before .spot-of .ensures .1, c .before .before .before .before .before .before .before .loop .inv .2)
 
-write-line-requires : tie.Need-write-line-requires Inv-loop μ-loop
-write-line-requires c κs =
+lend-line-requires : tie.Need-lend-line-requires Inv-loop μ-loop
+lend-line-requires c κs =
     let l = c .before .before .before .before .before .before .before .loop in
     let e = ap length (the-line c) in
     let fit = lines-fit (now (c .before .before .before .before .before .before .before .before .before .before .before .args .marks)) (now (c .before .before .before .before .before .before .before .before .before .before .before .args .order)) (l .i) (c .before .before .before .before .before .before .before .before .before .before .before .args .count) (c .before .before .before .before .before .before .loop-test .taken) (l .inv .0) in
@@ -38,7 +38,7 @@ write-line-requires c κs =
 loop-again : tie.Need-loop-again Inv-loop μ-loop
 loop-again c =
     let l = c .before .before .before .before .before .before .before .before .before .before .loop in
-    let w = c .before .before .write-line in
+    let w = c .before .before .lend-line in
     let t = write-turn (now (c .before .before .before .before .before .before .before .before .before .before .before .before .before .before .args .marks)) (now (c .before .before .before .before .before .before .before .before .before .before .before .before .before .before .args .order)) (now (c .before .before .before .before .before .before .before .before .before .before .before .before .before .before .args .out)) (l .out) (w .last .0) _ (l .i) (l .pen .bytes) (w .result .bytes) (omega (arith, l .inv .0, c .before .before .before .before .before .before .before .before .before .loop-test .taken)) (the-line (c .before .before .before)) (l .inv .6) (l .inv .8) (w .ensures .0) (w .ensures .1) in
     (l .inv .0, l .inv .1, l .inv .2, l .inv .3, omega arith, w .kept .0 ∙ l .inv .5, t .0, omega (arith, w .ensures .2, l .inv .7), t .1)
 
@@ -60,8 +60,8 @@ write-lines-spec =
     (λ c κs. omega arith)
     (λ c κs. omega arith)
     (λ c κs. omega arith)
-    shared-slice-read-write-line
-    write-line-requires
+    shared-slice-read-lend-line
+    lend-line-requires
     (λ c. omega arith)
     (λ c. omega arith)
     loop-again
