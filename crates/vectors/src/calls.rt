@@ -1,4 +1,5 @@
 use crate::print::memory;
+use crate::print::memory_front;
 use crate::print::number;
 use crate::print::numbers;
 use crate::print::text;
@@ -10,6 +11,8 @@ use replica::Delivery;
 use replica::Issue;
 use replica::Judged;
 use replica::Made;
+use view::Listed;
+use view::View;
 
 fn refused(why: Refusal) {
     text(b"r ");
@@ -143,6 +146,74 @@ fn judge(file: &[u8], line: &[u8]) {
     judge_parts(file, &mut parents, &mut outcomes, n, m);
 }
 
+fn listed(answer: Listed) {
+    match answer {
+        Listed::Accepted(n) => accepted(n),
+        Listed::Refused(why) => refused(why),
+    }
+}
+
+fn path_into(file: &[u8], node: u16, out: &mut [u16]) {
+    listed(view::path(file, node, out));
+    memory(file);
+    numbers(out);
+}
+
+fn path_part(file: &[u8], node: u16, out: &mut [u16], n: usize) {
+    if out.len() < n {
+        return;
+    }
+    path_into(file, node, &mut out[..n]);
+}
+
+fn path(file: &[u8], line: &[u8]) {
+    if line.len() < 5 {
+        return;
+    }
+    let mut out = [61166u16; 2100];
+    let n = widen16(word_at(line, 3));
+    path_part(file, word_at(line, 1), &mut out, n);
+}
+
+fn list(file: &[u8], skipping: bool, out: &mut [u8]) -> Listed {
+    if skipping {
+        return view::listing(file, View::Skipping, out);
+    }
+    view::listing(file, View::Keeping, out)
+}
+
+fn listing_into(file: &[u8], skipping: bool, out: &mut [u8]) {
+    listed(list(file, skipping, out));
+    memory(file);
+    memory(out);
+}
+
+fn listing_part(file: &[u8], skipping: bool, out: &mut [u8], n: usize) {
+    if out.len() < n {
+        return;
+    }
+    listing_into(file, skipping, &mut out[..n]);
+}
+
+fn listing(file: &[u8], line: &[u8]) {
+    if line.len() < 4 {
+        return;
+    }
+    let mut out = [238u8; 24000];
+    let n = widen16(word_at(line, 2));
+    listing_part(file, line[1] != 0, &mut out, n);
+}
+
+// What the program `outline` prints for the buffer.
+fn outline(input: &[u8]) {
+    let mut out = [0u8; 24492];
+    text(b"o");
+    let Listed::Accepted(n) = view::outline(input, &mut out) else {
+        return;
+    };
+    memory_front(&out, n);
+}
+
 // Copies bytes to the front of the buffer, and answers their number.
 fn load(buf: &mut [u8], bytes: &[u8]) -> usize {
     for i in 0..bytes.len() {
@@ -185,7 +256,19 @@ fn dispatch(call: u8, line: &[u8], lent: &mut [u8]) {
             issue(lent, line);
             return;
         }
-        0 | 7..=255 => {
+        7 => {
+            path(lent, line);
+            return;
+        }
+        8 => {
+            listing(lent, line);
+            return;
+        }
+        9 => {
+            outline(lent);
+            return;
+        }
+        0 | 10..=255 => {
             text(b"l");
             memory(lent);
             return;

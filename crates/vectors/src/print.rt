@@ -82,6 +82,13 @@ fn low(n: u16) -> u64
     (n % 256) as u64
 }
 
+// The same of the first n bytes.
+pub fn memory_front(bytes: &[u8], n: usize) {
+    if n <= bytes.len() {
+        memory(&bytes[..n]);
+    }
+}
+
 // The digest of two-byte numbers, high byte first.
 fn digest_words(words: &[u16]) -> u64 {
     let mut h: u64 = 0;
