@@ -1,0 +1,15 @@
+pub mod PathLaws
+pub mod PathCases
+pub mod SlotLaws
+pub mod NodesLaws
+pub mod MarkLaws
+pub mod LinkLaws
+pub mod TourLaws
+pub mod OrderLaws
+pub mod PruneLaws
+pub mod ViewLaws
+pub mod RevealLaws
+pub mod ListingLaws
+pub mod ViewTheorems
+pub mod BodyLaws
+pub mod TurnLaws

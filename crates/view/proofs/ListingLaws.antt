@@ -1,0 +1,172 @@
+-- The tables of a log give its listing. Assumes nothing.
+use Prim.Native.Nat.{_-_, suc, ℕ, _≤_, _%_, _*_, _+_, _/_}
+use lib.Dec.{eqb}
+use lib.ListN.{getD, length, length-map}
+use mathlib.Core.Bool.{_&&_, Bool, cond, false, not, true}
+use mathlib.Core.List.{List, [], map, map-append, _∷_}
+use mathlib.Core.Logic.{inl}
+use mathlib.Core.Path.{refl, sym, _∙_, _≡_, ap}
+use native.Mathlib.Nat.{le-trans}
+use native.Mathlib.Omega.{arith}
+use Rattle.order.proofs.DepthLaws.{climb-length}
+use Rattle.order.proofs.FuelLaws.{Depth, depth-child, depth-unique, has-depth}
+use Rattle.order.proofs.GrowLaws.{Named, named-valid}
+use Rattle.order.proofs.TourLaws.{preorder-length}
+use Rattle.rules.proofs.StructureLaws.{GoodLog}
+use Rattle.rules.proofs.TreeLaws.{Valid, slot-root, up}
+use Rattle.rules.specs.Bytes.{concat, filter}
+use Rattle.rules.specs.Listing.{children, line, listingIn, listingOf, preorder}
+use Rattle.rules.specs.Log.{Log, countsOf}
+use Rattle.rules.specs.Replay.{parentsOf}
+use Rattle.rules.specs.Tree.{climb, depth, path, slots}
+use Rattle.rules.specs.Views.{View, shown, tombstone, keeping, skipping}
+use Rattle.view.proofs.LinkLaws.{kids, Chain, Linked, links-right}
+use Rattle.view.proofs.MarkLaws.{mark-tombstone}
+use Rattle.view.proofs.NodesLaws.{children-slots, filter-map-filter, slot-entry}
+use Rattle.view.proofs.OrderLaws.{all-map, length-filter, pre-nodes}
+use Rattle.view.proofs.PruneLaws.{pruned}
+use Rattle.view.proofs.RevealLaws.{not-not, keeping-hidden}
+use Rattle.view.proofs.SlotLaws.{spot-node, spot-valid}
+use Rattle.view.proofs.TourLaws.{All, pre, tour-root}
+use Rattle.view.proofs.ViewLaws.{Under, children-under, root-shown, skipping-child, keeping-child}
+use Rattle.view.specs.Tables.{Links, entry, entryOf, hiddenOf, lineFor, linesOf, linksOf, marksOf, nodeAt, tourOf, orderOf}
+
+all-kept : (P : ℕ → Type 0) (g : ℕ → Bool) (xs : List ℕ) → All P xs → All P (filter g xs)
+unfolding filter
+all-kept P g [] a = tt
+all-kept P g (x ∷ xs) a = go (g x) (all-kept P g xs (a .1))
+  where
+    go : (b : Bool) → All P (filter g xs) → All P (cond b (x ∷ filter g xs) (filter g xs))
+    go true ih = (a .0, ih)
+    go false ih = ih
+
+pub map-concat : {A : Type 0} (f : ℕ → A) (F : ℕ → List ℕ) (cs : List ℕ) → map f (concat (map F cs)) ≡ concat (map (λ c. map f (F c)) cs)
+unfolding concat
+map-concat f F [] = refl
+map-concat f F (c ∷ cs) = rw (map-append, map-concat f F cs)
+
+map-map : {A : Type 0} (f : ℕ → A) (g : ℕ → ℕ) (xs : List ℕ) → map f (map g xs) ≡ map (λ x. f (g x)) xs
+map-map f g [] = refl
+map-map f g (x ∷ xs) = ap (λ ys. f (g x) ∷ ys) (map-map f g xs)
+
+map-all : {A : Type 0} (P : ℕ → Type 0) (f g : ℕ → A) (xs : List ℕ) → ((x : ℕ) → P x → f x ≡ g x) → All P xs → map f xs ≡ map g xs
+map-all P f g [] h a = refl
+map-all P f g (x ∷ xs) h a = rw (h x (a .0), map-all P f g xs h (a .1))
+
+pre-turn : (kids : ℕ → List ℕ) (k n : ℕ) → pre kids (suc k) n ≡ n ∷ concat (map (pre kids k) (kids n))
+unfolding pre
+pre-turn kids k n = refl
+
+under-and : (a b : Bool) → (b ≡ true → a ≡ true) → b ≡ (a && b)
+under-and true b h = refl
+under-and false true h = sym (h refl)
+under-and false false h = refl
+
+module _ (log : Log) (good : GoodLog log) where
+  abbrev P : List ℕ
+  P = parentsOf log
+
+  abbrev marks : List ℕ
+  marks = marksOf log
+
+  abbrev Node : ℕ → Type 0
+  Node n = Named log (countsOf log) n
+
+  node-is-valid : (n : ℕ) → Node n → Valid n
+  node-is-valid n w = named-valid log (countsOf log) n w
+
+  unmarked-node : (n : ℕ) → Valid n → eqb (entry marks n) 0 ≡ not (tombstone log n)
+  unmarked-node n v = rw (← mark-tombstone log good n v) (sym (not-not (eqb (entry marks n) 0)))
+
+  -- a node is shown if its parent is and it is not hidden itself
+  shown-child : (view : View) (n c : ℕ) → Node n → Under log good n c → shown view log P c ≡ (shown view log P n && eqb (entry (hiddenOf P marks view) c) 0)
+  unfolding hiddenOf
+  shown-child keeping n c w u = rw (keeping-hidden log good c (node-is-valid c (u .node))) (under-and (shown keeping log P n) (shown keeping log P c) (keeping-child log good n c u))
+  shown-child skipping n c w u = rw (unmarked-node c (node-is-valid c (u .node))) (skipping-child log good n c w u)
+
+  module _ (view : View) where
+    abbrev hidden : List ℕ
+    hidden = hiddenOf P marks view
+
+    abbrev unhidden : ℕ → Bool
+    unhidden m = eqb (entry hidden m) 0
+
+    abbrev kidsOf : ℕ → List ℕ
+    kidsOf n = filter unhidden (children log P n)
+
+    abbrev l : Links
+    l = linksOf P hidden
+
+    shown-order : filter (shown view log P) (preorder slots log P 0) ≡ pre kidsOf slots 0
+    shown-order =
+        pruned log P (shown view log P) unhidden Node (λ n w. all-map _ _ (children log P n) (λ c u. (u .node, shown-child view n c w u)) (children-under log good n)) slots 0 (inl refl)
+        ∙ rw (root-shown log good view)
+
+    is-linked : Linked P hidden (slot-entry log good) 1 l
+    is-linked = links-right P hidden (slot-entry log good)
+
+    kids-same : (n : ℕ) → Valid n → kidsOf n ≡ kids P hidden (slot-entry log good) 1 n
+    kids-same n v = rw (children-slots log good n v) (filter-map-filter unhidden nodeAt (λ k. eqb (getD P k 0) n) _ 2040 1 (λ k a b. rw (spot-node k a (omega arith))))
+
+    kids-under : (n : ℕ) → All (Under log good n) (kidsOf n)
+    kids-under n = all-kept _ unhidden (children log P n) (children-under log good n)
+
+    pub order-short : length (pre kidsOf slots 0) ≤ 2041
+    order-short = rw (← shown-order) (le-trans (length-filter (shown view log P) (preorder slots log P 0)) (preorder-length log good slots))
+
+    order-nodes : All Node (pre kidsOf slots 0)
+    order-nodes = pre-nodes kidsOf Node (λ n w. all-map _ _ (kidsOf n) (λ c u. u .node) (kids-under n)) slots 0 (inl refl)
+
+    ---- the tour
+
+    abbrev withDepth : ℕ → ℕ
+    withDepth n = entryOf n (depth P n)
+
+    abbrev tree : ℕ → ℕ → List ℕ
+    tree d n = map withDepth (pre kidsOf (2041 - d) n)
+
+    record Good (d n : ℕ) : Type 0 where
+      node : Named log (countsOf log) n
+      deep : Depth P d n
+      low : d ≤ 2040
+
+    depth-is : (d n : ℕ) → Good d n → depth P n ≡ d
+    unfolding depth path
+    depth-is d n g = let e : length (climb slots P n) ≡ suc d = climb-length P slots d n (omega (arith, g .low)) (g .deep .root) (g .deep .first) in omega arith
+
+    opens : (d n : ℕ) → Good d n → tree d n ≡ entryOf n d ∷ concat (map (tree (suc d)) (kidsOf n))
+    opens d n g =
+        let e : 2041 - d ≡ suc (2041 - suc d) = omega (arith, g .low) in
+        rw (e, pre-turn kidsOf (2041 - suc d) n, depth-is d n g, map-concat withDepth (pre kidsOf (2041 - suc d)) (kidsOf n))
+
+    below : (d n : ℕ) → Good d n → All (Good (suc d)) (kidsOf n)
+    below d n g = all-map _ _ (kidsOf n) (λ c u.
+        let (j, b, dc) = has-depth log good c (u .node) in
+        let d′ = depth-child P d n c (u .parent) (u .below-root) (g .deep) in
+        let z : suc d ≡ j = depth-unique P (suc d) j c d′ dc in
+        record { node = u .node; deep = d′; low = omega arith }) (kids-under n)
+
+    chain : (d n : ℕ) → Good d n → Chain (l .next) (entry (l .first) n) (kidsOf n)
+    chain d n g = let v = node-is-valid n (g .node) in rw (kids-same n v) (is-linked .chains n v)
+
+    root-good : Good 0 0
+    unfolding up
+    root-good = record { node = inl refl; deep = record { root = refl; first = λ k h z. omega arith }; low = omega arith }
+
+    tour-is : tourOf l ≡ map withDepth (pre kidsOf slots 0)
+    tour-is = tour-root l kidsOf tree Good chain opens below (λ d n g. omega (arith, g .low)) root-good (rw (spot-valid 0 (inl refl), slot-root 0 refl) (is-linked .root-last)) (rw length-map order-short)
+
+    ---- the lines
+
+    line-is : (n : ℕ) → Node n → lineFor marks (withDepth n) ≡ line log P n
+    unfolding lineFor line
+    line-is n w =
+        let (j, b, d) = has-depth log good n w in
+        let e : depth P n ≡ j = depth-is j n (record { node = w; deep = d; low = b }) in
+        let x : (n * 65536 + depth P n) / 65536 ≡ n = omega arith in
+        let y : (n * 65536 + depth P n) % 65536 ≡ depth P n = omega arith in
+        rw (x, y, mark-tombstone log good n (node-is-valid n w))
+
+    pub listing-is : linesOf marks (orderOf log view) ≡ listingOf view log
+    unfolding orderOf linesOf listingOf listingIn
+    listing-is = rw (tour-is, shown-order) (ap concat (map-map (lineFor marks) withDepth (pre kidsOf slots 0) ∙ map-all Node (λ n. lineFor marks (withDepth n)) (line log P) (pre kidsOf slots 0) line-is order-nodes))

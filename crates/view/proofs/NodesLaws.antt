@@ -1,0 +1,175 @@
+-- The added nodes are those of the slots in rising order; each slot has an added node with a parent, or no parent. Assumes nothing.
+use Prim.Native.Nat.{_*_, _+_, _-_, _<_, suc, zero, ℕ, _≤_, _%_, _/_}
+use borrow.Author.Tests.{eqb-true, ne-eqb}
+use lib.Dec.{eqb}
+use lib.ListN.{getD, length, take}
+use lib.Seq.{take-all}
+use mathlib.Core.Bool.{Bool, cond, false, true, _&&_}
+use mathlib.Core.List.{List, [], map, map-append, _∷_}
+use mathlib.Core.Logic.{inl, inr, _⊎_}
+use mathlib.Core.Path.{refl, _≡_, ap, sym, _∙_}
+use native.Mathlib.Nat.{add-zero, le-of-suc-le-suc, not-suc-le-zero, le-refl}
+use native.Mathlib.Omega.{arith}
+use Rattle.order.proofs.GrowLaws.{Named, known-of, known-reads, names-add, named-valid}
+use Rattle.order.proofs.NodeLaws.{added-is}
+use Rattle.order.proofs.TreeTheorem.{is-tree}
+use Rattle.replay.proofs.ClimbLaws.{parent-read}
+use Rattle.rules.proofs.BoolLaws.{both-ways, fails, never}
+use Rattle.rules.proofs.ListLaws.{filter-append, map-upFrom, upFrom-add}
+use Rattle.rules.proofs.StructureLaws.{GoodLog, count-held, good-ops}
+use Rattle.rules.proofs.TreeLaws.{Valid}
+use Rattle.rules.specs.Bytes.{concat, filter, upFrom}
+use Rattle.rules.specs.Listing.{children}
+use Rattle.rules.specs.Log.{Log, countsOf, known, opsOf, opAt}
+use Rattle.rules.specs.Op.{Op, countIn, isAdd, nodeOf, nodeNumber, replicas}
+use Rattle.rules.specs.Replay.{addedIn, opsWithin, parentsOf}
+use Rattle.rules.specs.Tree.{noParent, parentIn}
+use Rattle.rules.specs.Views.{nodes}
+use Rattle.view.proofs.PathLaws.{whole, named-parent, table-size}
+use Rattle.view.proofs.SlotLaws.{seat-node, node-nonzero, node-slot, slot-node}
+use Rattle.view.specs.Tables.{nodeAt}
+
+none-from : (p : ℕ → Bool) (n a : ℕ) → ((i : ℕ) → i < n → p (a + i) ≡ false) → filter p (upFrom a n) ≡ []
+unfolding filter upFrom
+none-from p zero a h = refl
+none-from p (suc n) a h =
+    let e : p a ≡ false = rw (← add-zero a) (h 0 (omega arith)) in
+    rw e (none-from p n (suc a) (λ i l. let q : suc a + i ≡ a + suc i = omega arith in rw q (h (suc i) (omega arith))))
+
+ops-nodes : (p : ℕ → Bool) (g : ℕ → ℕ) (rs : List Op) (n a : ℕ) → length rs ≤ n
+  → ((i : ℕ) → i < length rs → (isAdd (getD rs i []) ≡ p (a + i)) × (isAdd (getD rs i []) ≡ true → nodeOf (getD rs i []) ≡ g (a + i)))
+  → ((i : ℕ) → length rs ≤ i → i < n → p (a + i) ≡ false)
+  → map nodeOf (filter isAdd rs) ≡ map g (filter p (upFrom a n))
+unfolding filter upFrom
+ops-nodes p g [] n a l h o = rw (none-from p n a (λ i b. o i (omega arith) b))
+ops-nodes p g (r ∷ rs) zero a l h o = absurd (not-suc-le-zero l)
+ops-nodes p g (r ∷ rs) (suc n) a l h o =
+    let z = add-zero a in
+    let (e, g₀) = h 0 (omega arith) in
+    let ih = ops-nodes p g rs n (suc a) (le-of-suc-le-suc l)
+        (λ i b. let q : suc a + i ≡ a + suc i = omega arith in rw q (h (suc i) (omega arith)))
+        (λ i b c. let q : suc a + i ≡ a + suc i = omega arith in rw q (o (suc i) (omega arith) (omega arith))) in
+    go (isAdd r) refl (rw z at e) (rw z at g₀) ih
+  where
+    go : (b : Bool) → isAdd r ≡ b → isAdd r ≡ p a → (isAdd r ≡ true → nodeOf r ≡ g a) → map nodeOf (filter isAdd rs) ≡ map g (filter p (upFrom (suc a) n)) → map nodeOf (cond b (r ∷ filter isAdd rs) (filter isAdd rs)) ≡ map g (cond (p a) (a ∷ filter p (upFrom (suc a) n)) (filter p (upFrom (suc a) n)))
+    go true q e m ih = rw (← e, q, m q, ih)
+    go false q e m ih = rw (← e, q, ih)
+
+map-filter-concat : {A B : Type 0} (f : A → B) (p : A → Bool) (F : ℕ → List A) (ns : List ℕ) → map f (filter p (concat (map F ns))) ≡ concat (map (λ s. map f (filter p (F s))) ns)
+unfolding concat filter
+map-filter-concat f p F [] = refl
+map-filter-concat f p F (n ∷ ns) = rw (filter-append p (F n) (concat (map F ns)), map-append, map-filter-concat f p F ns)
+
+up-cons : (a n : ℕ) → upFrom a (suc n) ≡ a ∷ upFrom (suc a) n
+unfolding upFrom
+up-cons a n = refl
+
+up-none : (a : ℕ) → upFrom a 0 ≡ []
+unfolding upFrom
+up-none a = refl
+
+blocks : (n a : ℕ) → 1 ≤ a → concat (map (λ s. upFrom (255 * (s - 1) + 1) 255) (upFrom a n)) ≡ upFrom (255 * (a - 1) + 1) (255 * n)
+unfolding concat
+blocks zero a l = rw (up-none a) (sym (up-none (255 * (a - 1) + 1)))
+blocks (suc n) a l =
+    let e : 255 * suc n ≡ 255 + 255 * n = omega arith in
+    let q : 255 * (suc a - 1) + 1 ≡ 255 * (a - 1) + 1 + 255 = omega arith in
+    rw (up-cons a n, blocks n (suc a) (omega arith), e, q) (sym (upFrom-add (255 * (a - 1) + 1) 255 (255 * n)))
+
+pub valid-parent : (n : ℕ) → Valid n → n ≡ 65535 → ⊥
+valid-parent n (inl e) q = omega arith
+valid-parent n (inr v) q = omega arith
+
+pub filter-map-filter : {A : Type 0} (p : A → Bool) (f : ℕ → A) (q r : ℕ → Bool) (n a : ℕ) → ((k : ℕ) → a ≤ k → k < a + n → (q k && p (f k)) ≡ r k) → filter p (map f (filter q (upFrom a n))) ≡ map f (filter r (upFrom a n))
+unfolding filter upFrom
+filter-map-filter p f q r zero a h = refl
+filter-map-filter p f q r (suc n) a h = go (q a) (p (f a)) (r a) refl refl refl (h a (le-refl a) (omega arith)) (filter-map-filter p f q r n (suc a) (λ k l u. h k (omega arith) (omega arith)))
+  where
+    go : (x y z : Bool) → q a ≡ x → p (f a) ≡ y → r a ≡ z → (q a && p (f a)) ≡ r a → filter p (map f (filter q (upFrom (suc a) n))) ≡ map f (filter r (upFrom (suc a) n)) → filter p (map f (cond x (a ∷ filter q (upFrom (suc a) n)) (filter q (upFrom (suc a) n)))) ≡ map f (cond z (a ∷ filter r (upFrom (suc a) n)) (filter r (upFrom (suc a) n)))
+    go true true true e₁ e₂ e₃ e ih = rw (e₂, ih)
+    go true true false e₁ e₂ e₃ e ih = never (sym (rw (e₁, e₂, e₃) at e))
+    go true false true e₁ e₂ e₃ e ih = never (rw (e₁, e₂, e₃) at e)
+    go true false false e₁ e₂ e₃ e ih = rw (e₂, ih)
+    go false y true e₁ e₂ e₃ e ih = never (rw (e₁, e₃) at e)
+    go false y false e₁ e₂ e₃ e ih = ih
+
+module _ (log : Log) (good : GoodLog log) where
+  abbrev held : ℕ → Bool
+  held k = known log (countsOf log) (nodeAt k)
+
+  module _ (s i : ℕ) (l : 1 ≤ s) (u : s ≤ 8) (b : i < 255) where
+    high : nodeAt (255 * (s - 1) + 1 + i) / 256 ≡ s
+    high = rw (seat-node s i l b) (omega arith)
+
+    low : nodeAt (255 * (s - 1) + 1 + i) % 256 ≡ i + 1
+    low = rw (seat-node s i l b) (omega arith)
+
+    held-add : i < countIn (countsOf log) s → isAdd (opAt log s (i + 1)) ≡ held (255 * (s - 1) + 1 + i)
+    held-add h =
+        both-ways (isAdd (opAt log s (i + 1))) (held (255 * (s - 1) + 1 + i))
+        (λ e. known-of log (countsOf log) _ (record { low = rw high l; high = rw high u; first = rw low (omega arith); last = rw (low, high) (omega arith) }) (rw (low, high) e))
+        (λ e. rw (low, high) at (known-reads log (countsOf log) _ e .1))
+
+    unheld : countIn (countsOf log) s ≤ i → held (255 * (s - 1) + 1 + i) ≡ false
+    unheld h = fails _ (λ e. let w = known-reads log (countsOf log) _ e .0 .last in let w′ : i + 1 ≤ countIn (countsOf log) s = rw (low, high) at w in omega arith)
+
+    add-node : i < countIn (countsOf log) s → isAdd (opAt log s (i + 1)) ≡ true → nodeOf (opAt log s (i + 1)) ≡ nodeAt (255 * (s - 1) + 1 + i)
+    unfolding isAdd nodeNumber
+    add-node h e =
+        let x = good-ops good s (i + 1) l u (omega arith) (omega arith) in
+        names-add log (opAt log s (i + 1)) (x .names) (eqb-true _ _ e) .1 ∙ rw (x .origin, x .number, seat-node s i l b)
+
+  op-at : (s i : ℕ) → getD (opsOf log s) i [] ≡ opAt log s (i + 1)
+  unfolding opAt
+  op-at s i = let e : i + 1 - 1 ≡ i = omega arith in rw e
+
+  seat-nodes : (s : ℕ) → 1 ≤ s → s ≤ 8 → map nodeOf (filter isAdd (take (countIn (countsOf log) s) (opsOf log s))) ≡ map nodeAt (filter held (upFrom (255 * (s - 1) + 1) 255))
+  seat-nodes s l u =
+      let c = count-held log s in
+      let few = good .counts s l u in
+      let t : take (countIn (countsOf log) s) (opsOf log s) ≡ opsOf log s = take-all (countIn (countsOf log) s) (opsOf log s) (omega arith) in
+      rw t (ops-nodes held nodeAt (opsOf log s) 255 (255 * (s - 1) + 1) (omega arith)
+      (λ i h. rw (op-at s i) (held-add s i l u (omega arith) (omega arith), add-node s i l u (omega arith) (omega arith)))
+      (λ i h b. unheld s i l u b (omega arith)))
+
+  pub nodes-slots : nodes log ≡ map nodeAt (filter held (upFrom 1 2040))
+  unfolding nodes addedIn opsWithin replicas
+  nodes-slots =
+      map-filter-concat nodeOf isAdd (λ s. take (countIn (countsOf log) s) (opsOf log s)) (upFrom 1 8)
+      ∙ ap concat (map-upFrom _ (λ s. map nodeAt (filter held (upFrom (255 * (s - 1) + 1) 255))) 8 1 (λ s l u. seat-nodes s l (omega arith)))
+      ∙ sym (map-filter-concat nodeAt held (λ s. upFrom (255 * (s - 1) + 1) 255) (upFrom 1 8))
+      ∙ ap (λ ks. map nodeAt (filter held ks)) (blocks 8 1 (omega arith))
+
+  -- a slot's parent entry
+  pub slot-parent : (k : ℕ) → 0 < k → k < 2041 → parentIn (parentsOf log) (nodeAt k) ≡ getD (parentsOf log) k 0
+  slot-parent k l u = parent-read (parentsOf log) (nodeAt k) k (sym (slot-node k l u)) (table-size log good) (rw (slot-node k l u) u)
+
+  pub held-parent : (k : ℕ) → 0 < k → k < 2041 → held k ≡ true → Named log (countsOf log) (getD (parentsOf log) k 0)
+  held-parent k l u h = rw (← slot-parent k l u) (named-parent log good (nodeAt k) (inr h) (node-nonzero k l))
+
+  pub unheld-parent : (k : ℕ) → 0 < k → k < 2041 → held k ≡ false → getD (parentsOf log) k 0 ≡ noParent
+  unfolding parentsOf
+  unheld-parent k l u h = is-tree log good (countsOf log) (whole log good) .bare k l u (λ n e q.
+      let w : known log (countsOf log) n ≡ true = sym (added-is log good (countsOf log) (whole log good) n) ∙ e in
+      let m : nodeAt k ≡ n = rw (← q) (node-slot n (named-valid log (countsOf log) n (inr w))) in
+      never (sym (rw m at h) ∙ w))
+
+  -- the table has a known node, the root, or no parent
+  pub slot-entry : (k : ℕ) → 0 < k → k < 2041 → (getD (parentsOf log) k 0 ≡ noParent) ⊎ Valid (getD (parentsOf log) k 0)
+  slot-entry k l u = go (held k) refl
+    where
+      go : (b : Bool) → held k ≡ b → (getD (parentsOf log) k 0 ≡ noParent) ⊎ Valid (getD (parentsOf log) k 0)
+      go true e = inr (named-valid log (countsOf log) _ (held-parent k l u e))
+      go false e = inl (unheld-parent k l u e)
+
+  -- children, by slots
+  pub children-slots : (n : ℕ) → Valid n → children log (parentsOf log) n ≡ map nodeAt (filter (λ k. eqb (getD (parentsOf log) k 0) n) (upFrom 1 2040))
+  unfolding children
+  children-slots n v = rw nodes-slots (filter-map-filter (λ m. eqb (parentIn (parentsOf log) m) n) nodeAt held (λ k. eqb (getD (parentsOf log) k 0) n) 2040 1 (λ k l u. same k (omega arith) (omega arith)))
+    where
+      same : (k : ℕ) → 0 < k → k < 2041 → (held k && eqb (parentIn (parentsOf log) (nodeAt k)) n) ≡ eqb (getD (parentsOf log) k 0) n
+      same k l u = rw (slot-parent k l u) (go (held k) refl)
+        where
+          go : (b : Bool) → held k ≡ b → (b && eqb (getD (parentsOf log) k 0) n) ≡ eqb (getD (parentsOf log) k 0) n
+          go true e = refl
+          go false e = rw (unheld-parent k l u e) (sym (ne-eqb 65535 n (λ q. valid-parent n v (sym q))))

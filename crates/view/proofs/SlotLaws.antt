@@ -1,0 +1,59 @@
+-- Slots and their nodes. Assumes nothing.
+use Prim.Native.Nat.{_%_, _*_, _+_, _-_, _/_, _<_, ℕ, _≤_}
+use borrow.Author.Tests.{lt-ltb, ltb-true, ne-eqb}
+use lib.Dec.{lit≤, ltb}
+use mathlib.Core.Bool.{Bool, cond, false, true}
+use mathlib.Core.Logic.{inl, inr}
+use mathlib.Core.Path.{refl, _∙_, _≡_}
+use native.Mathlib.Omega.{arith}
+use Rattle.rules.proofs.TreeLaws.{Valid, slot-below, slot-injective, slot-root}
+use Rattle.rules.specs.Tree.{slot, slotOf, slots}
+use Rattle.view.specs.Tables.{nodeAt, spot}
+
+pub spot-valid : (n : ℕ) → Valid n → spot n ≡ slotOf n
+unfolding spot
+spot-valid n v = rw (lt-ltb (slotOf n) slots (slot-below n v))
+
+pub spot-below : (n : ℕ) → spot n < 2041
+unfolding spot
+spot-below n = go (ltb (slotOf n) slots) refl
+  where
+    go : (b : Bool) → ltb (slotOf n) slots ≡ b → cond b (slotOf n) 0 < 2041
+    go true e = ltb-true _ _ e
+    go false e = lit≤ tt
+
+pub node-valid : (k : ℕ) → 0 < k → k < 2041 → Valid (nodeAt k)
+unfolding nodeAt
+node-valid k l u = rw (ne-eqb k 0 (λ e. omega arith)) (inr (omega arith, omega arith, omega arith))
+
+pub slot-node : (k : ℕ) → 0 < k → k < 2041 → slotOf (nodeAt k) ≡ k
+unfolding nodeAt slotOf slot
+slot-node k l u =
+    let z : 256 * ((k - 1) / 255 + 1) + ((k - 1) % 255 + 1) ≡ 0 → ⊥ = λ e. omega arith in
+    rw (ne-eqb k 0 (λ e. omega arith), ne-eqb _ 0 z) (omega arith)
+
+pub spot-node : (k : ℕ) → 0 < k → k < 2041 → spot (nodeAt k) ≡ k
+spot-node k l u = spot-valid (nodeAt k) (node-valid k l u) ∙ slot-node k l u
+
+pub node-nonzero : (k : ℕ) → 0 < k → nodeAt k ≡ 0 → ⊥
+unfolding nodeAt
+node-nonzero k l e = let z : 256 * ((k - 1) / 255 + 1) + ((k - 1) % 255 + 1) ≡ 0 = rw (ne-eqb k 0 (λ e. omega arith)) at e in omega arith
+
+pub slot-positive : (n : ℕ) → (1 ≤ n / 256) × (n / 256 ≤ 8) × (1 ≤ n % 256) → 0 < slotOf n
+unfolding slotOf slot
+slot-positive n v = rw (ne-eqb n 0 (λ e. omega arith)) (omega arith)
+
+node-root : nodeAt 0 ≡ 0
+unfolding nodeAt
+node-root = refl
+
+pub node-slot : (n : ℕ) → Valid n → nodeAt (slotOf n) ≡ n
+node-slot n (inl e) = rw (e, slot-root 0 refl) node-root
+node-slot n (inr v) =
+    let p : 0 < slotOf n = slot-positive n v in
+    let b : slotOf n < 2041 = slot-below n (inr v) in
+    slot-injective (nodeAt (slotOf n)) n (node-valid (slotOf n) p b) (inr v) (slot-node (slotOf n) p b)
+
+pub seat-node : (s i : ℕ) → 1 ≤ s → i < 255 → nodeAt (255 * (s - 1) + 1 + i) ≡ 256 * s + (i + 1)
+unfolding nodeAt
+seat-node s i l u = rw (ne-eqb (255 * (s - 1) + 1 + i) 0 (λ e. omega arith)) (omega arith)

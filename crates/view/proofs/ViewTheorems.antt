@@ -1,0 +1,76 @@
+-- The claims about the two views hold. Assumes nothing.
+use Prim.Native.Nat.{ℕ}
+use borrow.Author.Tests.{eq-eqb, eqb-true, not-true}
+use lib.Dec.{eqb}
+use mathlib.Core.Bool.{_&&_, Bool, false, not, or-true, true}
+use mathlib.Core.List.{List, [], _∷_}
+use mathlib.Core.Logic.{inl, inr, ⊎-elim}
+use mathlib.Core.Path.{refl, sym, _∙_, _≡_}
+use Rattle.order.proofs.GrowLaws.{Named, parent-reads}
+use Rattle.rules.proofs.BoolLaws.{and-both, and-left, and-right, never, or-cases}
+use Rattle.rules.proofs.StructureLaws.{GoodLog, structural-good}
+use Rattle.rules.specs.Bytes.{all, any, isIn}
+use Rattle.rules.specs.Log.{Log, countsOf, known, logOf}
+use Rattle.rules.specs.Replay.{parentsOf, removedIn}
+use Rattle.rules.specs.Tree.{atOrBelow, parentIn, path}
+use Rattle.rules.specs.Views.{View, keeping, nodes, shown, skipping, tombstone}
+use Rattle.view.proofs.PathLaws.{named-parent}
+use Rattle.view.proofs.ViewLaws.{Under, keeping-child, known-nonzero, nodes-known, path-child, root-shown, skipping-child}
+use Rattle.view.specs.Claims.{AllShown, ParentsShown, SkippingWithin}
+
+any-in : (p : ℕ → Bool) (xs : List ℕ) (x : ℕ) → isIn x xs ≡ true → p x ≡ true → any p xs ≡ true
+unfolding isIn any
+any-in p [] x i e = never i
+any-in p (y ∷ xs) x i e =
+    ⊎-elim
+    (λ (q : eqb x y ≡ true). rw (← eqb-true x y q, e))
+    (λ (q : any (eqb x) xs ≡ true). rw (any-in p xs x q e) (or-true (p y)))
+    (or-cases (eqb x y) _ i)
+
+all-true : (p : ℕ → Bool) (xs : List ℕ) → ((x : ℕ) → p x ≡ true) → all p xs ≡ true
+unfolding all
+all-true p [] h = refl
+all-true p (x ∷ xs) h = and-both (h x) (all-true p xs h)
+
+module _ (log : Log) (good : GoodLog log) where
+  abbrev P : List ℕ
+  P = parentsOf log
+
+  hangs : (n : ℕ) → known log (countsOf log) n ≡ true → Under log good (parentIn P n) n
+  hangs n k = record { node = inr k; parent = refl; below-root = known-nonzero log good n k }
+
+  parent-shown : (view : View) (n : ℕ) → known log (countsOf log) n ≡ true → shown view log P n ≡ true → shown view log P (parentIn P n) ≡ true
+  parent-shown keeping n k s = keeping-child log good (parentIn P n) n (hangs n k) s
+  parent-shown skipping n k s =
+      and-left (shown skipping log P (parentIn P n)) _ (sym (skipping-child log good (parentIn P n) n (named-parent log good n (inr k) (known-nonzero log good n k)) (hangs n k)) ∙ s)
+
+  -- an unmarked node is shown by the keeping view
+  unmarked-kept : (n : ℕ) → known log (countsOf log) n ≡ true → tombstone log n ≡ false → shown keeping log P n ≡ true
+  unfolding shown atOrBelow isIn any
+  unmarked-kept n k t =
+      rw (any-in (λ m. isIn n (path P m) && not (tombstone log m)) (nodes log) n (nodes-known log good n ∙ k) (rw (path-child log good (parentIn P n) n (hangs n k), eq-eqb n n refl, t))) (or-true (eqb n 0))
+
+  nothing-marked : removedIn log (countsOf log) ≡ [] → (n : ℕ) → tombstone log n ≡ false
+  unfolding tombstone isIn any
+  nothing-marked e n = rw e
+
+  all-shown : removedIn log (countsOf log) ≡ [] → (view : View) (n : ℕ) → Named log (countsOf log) n → shown view log P n ≡ true
+  unfolding shown
+  all-shown e keeping n (inl z) = rw z
+  all-shown e keeping n (inr k) = unmarked-kept n k (nothing-marked e n)
+  all-shown e skipping n w = rw (all-true (λ m. not (tombstone log m)) (path P n) (λ m. rw (nothing-marked e m))) (or-true (eqb n 0))
+
+  skipping-kept : (n : ℕ) → Named log (countsOf log) n → shown skipping log P n ≡ true → shown keeping log P n ≡ true
+  skipping-kept n (inl z) s = rw z (root-shown log good keeping)
+  skipping-kept n (inr k) s =
+      let t : not (tombstone log n) ≡ true = and-right (shown skipping log P (parentIn P n)) _ (sym (skipping-child log good (parentIn P n) n (named-parent log good n (inr k) (known-nonzero log good n k)) (hangs n k)) ∙ s) in
+      unmarked-kept n k (not-true (tombstone log n) t)
+
+pub parents-shown : ParentsShown
+parents-shown w f s view n k e = parent-shown (logOf w f) (structural-good w f s) view n k e
+
+pub everything-shown : AllShown
+everything-shown w f s none view n k = all-shown (logOf w f) (structural-good w f s) none view n (parent-reads _ _ n k)
+
+pub skipping-within : SkippingWithin
+skipping-within w f s n k e = skipping-kept (logOf w f) (structural-good w f s) n (parent-reads _ _ n k) e

@@ -1,0 +1,117 @@
+-- The tables from which a listing is made, as the code fills them. Assumes nothing.
+use Prim.Native.Nat.{ℕ, zero, suc, _+_, _*_, _-_, _/_, _%_}
+use mathlib.Core.Bool.{Bool, cond, not}
+use mathlib.Core.List.{List, [], _∷_, map, foldl}
+use lib.ListN.{getD, set, replicate}
+use lib.Dec.{ltb, eqb}
+use Rattle.rules.specs.Bytes.{upFrom, downFrom, concat}
+use Rattle.rules.specs.Op.{Op, nodeOf, isRemove}
+use Rattle.rules.specs.Log.{Log}
+use Rattle.rules.specs.Tree.{slotOf, slots, noParent}
+use Rattle.rules.specs.Replay.{parentsOf}
+use Rattle.rules.specs.Views.{View, keeping, skipping}
+use Rattle.rules.specs.Listing.{lineOf}
+
+-- the slot of a node; 0 for a number without one
+unfoldable pub spot : ℕ → ℕ
+spot n = cond (ltb (slotOf n) slots) (slotOf n) 0
+
+-- the node of a slot
+unfoldable pub nodeAt : ℕ → ℕ
+nodeAt k = cond (eqb k 0) 0 (256 * ((k - 1) / 255 + 1) + ((k - 1) % 255 + 1))
+
+-- what a table has for a node
+abbrev pub entry : List ℕ → ℕ → ℕ
+entry t n = getD t (spot n) 0
+
+---- marks: not 0 where a node has a tombstone
+
+unfoldable pub mark : List ℕ → Op → List ℕ
+mark marks r = cond (isRemove r) (set marks (spot (nodeOf r)) 1) marks
+
+-- no node is marked
+unfoldable pub noMarks : List ℕ
+noMarks = replicate slots 0
+
+unfoldable pub marksOf : Log → List ℕ
+marksOf log = foldl mark noMarks (concat log)
+
+---- what is hidden from the keeping view: not 0
+
+-- shows a node and what is above it, up to the first that is shown already
+unfoldable pub reveal : ℕ → (parents hidden : List ℕ) → ℕ → List ℕ
+reveal zero parents hidden n = hidden
+reveal (suc k) parents hidden n =
+    let above = reveal k parents (set hidden (spot n) 0) (entry parents n) in
+    cond (eqb (entry hidden n) 0) hidden above
+
+unfoldable pub revealSlot : (parents marks hidden : List ℕ) → ℕ → List ℕ
+revealSlot parents marks hidden k =
+    let shown = reveal slots parents hidden (nodeAt k) in
+    cond (eqb (getD parents k 0) noParent) hidden (cond (eqb (getD marks k 0) 0) shown hidden)
+
+-- all but the root
+unfoldable pub allHidden : List ℕ
+allHidden = set (replicate slots 1) 0 0
+
+unfoldable pub hiddenOf : (parents marks : List ℕ) → View → List ℕ
+hiddenOf parents marks keeping = foldl (revealSlot parents marks) allHidden (upFrom 1 2040)
+hiddenOf parents marks skipping = marks
+
+---- the first child and the next sibling of each node, 0 where there is none
+
+pub record Links : Type 0 where
+  pub first : List ℕ
+  pub next : List ℕ
+
+abbrev pub links : List ℕ → List ℕ → Links
+links f n = record { first = f; next = n }
+
+-- a node before its siblings
+unfoldable pub linkSlot : (parents hidden : List ℕ) → Links → ℕ → Links
+linkSlot parents hidden l k =
+    let p = spot (getD parents k 0) in
+    let linked = links (set (l .first) p (nodeAt k)) (set (l .next) k (getD (l .first) p 0)) in
+    cond (eqb (getD parents k 0) noParent) l (cond (eqb (getD hidden k 0) 0) linked l)
+
+unfoldable pub noLinks : Links
+noLinks = links (replicate slots 0) (replicate slots 0)
+
+unfoldable pub linksOf : (parents hidden : List ℕ) → Links
+linksOf parents hidden = foldl (linkSlot parents hidden) noLinks (downFrom 2040)
+
+---- the tour: nodes with their depths
+
+abbrev pub entryOf : ℕ → ℕ → ℕ
+entryOf n d = n * 65536 + d
+
+abbrev pub nodeIn : ℕ → ℕ
+nodeIn e = e / 65536
+
+abbrev pub depthIn : ℕ → ℕ
+depthIn e = e % 65536
+
+unfoldable pub push : ℕ → ℕ → List ℕ → List ℕ
+push n d stack = cond (eqb n 0) stack (entryOf n d ∷ stack)
+
+-- each entry of the stack is the first of some siblings that are left
+unfoldable pub tour : ℕ → Links → List ℕ → List ℕ
+tour zero l stack = []
+tour (suc k) l [] = []
+tour (suc k) l (e ∷ stack) =
+    e ∷ tour k l (push (entry (l .first) (nodeIn e)) ((depthIn e + 1) % 65536) (push (entry (l .next) (nodeIn e)) (depthIn e) stack))
+
+unfoldable pub tourOf : Links → List ℕ
+tourOf l = tour slots l (0 ∷ [])
+
+-- what a view shows of a log, in preorder
+unfoldable pub orderOf : Log → View → List ℕ
+orderOf log view = tourOf (linksOf (parentsOf log) (hiddenOf (parentsOf log) (marksOf log) view))
+
+---- the lines
+
+unfoldable pub lineFor : List ℕ → ℕ → List ℕ
+lineFor marks e = lineOf (depthIn e) (nodeIn e) (not (eqb (entry marks (nodeIn e)) 0))
+
+unfoldable pub linesOf : List ℕ → List ℕ → List ℕ
+linesOf marks es = concat (map (lineFor marks) es)

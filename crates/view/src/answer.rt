@@ -1,0 +1,16 @@
+use codec::Refusal;
+
+// What a path and a listing answer.
+pub enum Listed {
+    // The entries of the path, or the bytes of the listing.
+    Accepted(usize),
+    Refused(Refusal),
+}
+
+// The two views of a log.
+pub enum View {
+    // A node is shown if it or some node below it is unmarked.
+    Keeping,
+    // A node is shown if neither it nor any node above it is marked.
+    Skipping,
+}

@@ -1,0 +1,53 @@
+use crate::answer::Listed;
+use codec::Refusal;
+use oplog::counts_of;
+use oplog::known_parent;
+use replay::depth_of;
+use replay::replay_all;
+use replay::slot_of;
+use replica::WIDTH;
+use replica::is_sound;
+ghost use mathlib.Core.Path.{_≡_};
+ghost use mathlib.Core.List.{_++_};
+ghost use Prim.Native.Nat.{_+_, _<_};
+ghost use lib.ListN.{length, drop};
+ghost use Rattle.rules.specs.Log.{width};
+ghost use Rattle.rules.specs.Tree as tree;
+ghost use Rattle.rules.specs.Path.{pathCall};
+ghost use Rattle.view.specs.Answers.{listedAnswer, Way};
+
+// Writes a node, its parent, and so on to the root.
+fn write_path(parents: &[u16], node: u16, steps: usize, out: &mut [u16])
+    requires { ⌜ Way (now parents) node steps × (steps < length (now out)) ⌝ }
+    ensures { λ _. ⌜ now (out .exit) ≡ tree.path (now (parents .entry)) node ++ drop (steps + 1) (now (out .entry)) ⌝ }
+{
+    let mut at = node;
+    for i in 0..steps {
+        out[i] = at;
+        let slot = slot_of(at);
+        at = parents[slot];
+    }
+    out[steps] = at;
+}
+
+// Puts the path of a node into lent entries.
+pub fn path(file: &[u8], node: u16, out: &mut [u16]) -> Listed
+    ensures { λ r. ⌜ (listedAnswer r ≡ pathCall width (now (file .entry)) node (now (out .entry)) .answer) × (now (out .exit) ≡ pathCall width (now (file .entry)) node (now (out .entry)) .out) ⌝ }
+{
+    if !is_sound(file) {
+        return Listed::Refused(Refusal::Unsound);
+    }
+    let counts = counts_of(file, WIDTH);
+    if !known_parent(file, counts, node, WIDTH) {
+        return Listed::Refused(Refusal::Unknown);
+    }
+    let mut parents = [0u16; 2041];
+    let mut outcomes = [0u8; 2041];
+    replay_all(file, &mut parents, &mut outcomes, WIDTH);
+    let steps = depth_of(&parents, node);
+    if out.len() <= steps {
+        return Listed::Refused(Refusal::NoRoom);
+    }
+    write_path(&parents, node, steps, out);
+    Listed::Accepted(steps + 1)
+}

@@ -1,0 +1,62 @@
+use crate::slots::spot_of;
+use std::num::wrapping_add_u16;
+ghost use mathlib.Core.Path.{_≡_};
+ghost use mathlib.Core.List.{_++_};
+ghost use Prim.Native.Nat.{_+_, _*_, _/_, _%_, _<_, _≤_};
+ghost use lib.ListN.{length, drop};
+ghost use Rattle.view.specs.Tables as tables;
+ghost use Rattle.view.specs.Tables.{links, tourOf};
+
+// An entry of a tour: a node with its depth.
+fn entry_of(node: u16, depth: u16) -> u32
+    ensures { λ r. ⌜ r ≡ node * 65536 + depth ⌝ }
+{
+    (node as u32) * 65536 + (depth as u32)
+}
+
+pub fn node_in(entry: u32) -> u16
+    ensures { λ r. ⌜ r ≡ entry / 65536 ⌝ }
+{
+    (entry / 65536) as u16
+}
+
+pub fn depth_in(entry: u32) -> u16
+    ensures { λ r. ⌜ r ≡ entry % 65536 ⌝ }
+{
+    (entry % 65536) as u16
+}
+
+// Puts a node on a stack that grows towards its front.
+fn push(stack: &mut [u32], top: usize, node: u16, depth: u16) -> usize
+    requires { ⌜ (0 < top) × (top ≤ length (now stack)) ⌝ }
+    ensures { λ r. ⌜ (drop r (now (stack .exit)) ≡ tables.push node depth (drop top (now (stack .entry)))) × (r ≤ top) × (top ≤ r + 1) ⌝ }
+{
+    if node == 0 {
+        return top;
+    }
+    let place = top - 1;
+    stack[place] = entry_of(node, depth);
+    place
+}
+
+// The nodes from the root on in preorder, with their depths; answers how many there are. The
+// stack has the first of the siblings that are left, for each level that the tour is in.
+pub fn tour(first: &[u16], next: &[u16], order: &mut [u32]) -> usize
+    requires { ⌜ (length (now first) ≡ 2041) × (length (now next) ≡ 2041) × (length (now order) ≡ 2041) ⌝ }
+    ensures { λ r. ⌜ (r ≡ length (tourOf (links (now (first .entry)) (now (next .entry))))) × (now (order .exit) ≡ tourOf (links (now (first .entry)) (now (next .entry))) ++ drop r (now (order .entry))) ⌝ }
+{
+    let mut stack = [0u32; 2042];
+    let mut top: usize = 2041;
+    for i in 0..2041usize {
+        if top == 2042 {
+            return i;
+        }
+        let entry = stack[top];
+        order[i] = entry;
+        let slot = spot_of(node_in(entry));
+        let depth = depth_in(entry);
+        let rest = push(&mut stack, top + 1, next[slot], depth);
+        top = push(&mut stack, rest, first[slot], wrapping_add_u16(depth, 1));
+    }
+    2041
+}
