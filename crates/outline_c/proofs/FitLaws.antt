@@ -5,12 +5,14 @@ use mathlib.Core.List.{List}
 use mathlib.Core.Path.{_≡_, refl, transport, ap}
 use native.Mathlib.Omega.{arith}
 use Rattle.outline_c.specs.Number.{fits}
+use Rattle.rules.specs.Path.{pathAnswer, pathOf, pathCall}
 use Rattle.rules.proofs.DeliverLaws.{admitted, required, accepted-same}
 use Rattle.rules.proofs.IssueLaws.{allowed}
 use Rattle.rules.specs.Answer.{Answer, refused, hadIt, done, accepted}
 use Rattle.rules.specs.Deliver.{makeAnswer, deliverAnswer}
 use Rattle.rules.specs.Issue.{Request, issueAnswer}
-use Rattle.rules.specs.Log.{width}
+use borrow.Author.Tests.{leb-true}
+use Rattle.rules.specs.Log.{width, logOf}
 
 -- an answer fits if what it accepts does
 pub fits-if : (a : Answer) → ((n : ℕ) → a ≡ accepted n → n ≤ 9223372036854775807) → fits a
@@ -32,6 +34,15 @@ pub issue-fits : (f : List ℕ) (room s : ℕ) (q : Request) → length f ≤ 92
 issue-fits f room s q h =
     fits-if (issueAnswer width f room s q)
     (λ n e. omega (arith, allowed width f room s q n e .room-left, allowed width f room s q n e .end))
+
+pub path-fits : (f : List ℕ) (n : ℕ) (out : List ℕ) → length out ≤ 9223372036854775807 → fits (pathCall width f n out .answer)
+unfolding pathCall pathAnswer
+path-fits f n out h =
+    fits-if (pathAnswer width f (length out) n)
+    (λ m e.
+    let c = required _ _ _ m (required _ _ _ m (required _ _ _ m e .1) .1) in
+    let room : length (pathOf (logOf width f) n) ≤ length out = leb-true _ _ (c .0) in
+    omega (arith, room, accepted-same _ m (c .1)))
 
 -- an answer that fits and accepts a value
 pub value-fits : (a : Answer) (n : ℕ) → a ≡ accepted n → fits a → n ≤ 9223372036854775807

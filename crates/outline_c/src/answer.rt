@@ -3,9 +3,11 @@ use replica::Delivery;
 use replica::Issue;
 use replica::Judged;
 use replica::Made;
+use view::Listed;
 ghost use mathlib.Core.Path.{_≡_};
 ghost use Rattle.codec.specs.Read.{numberOf};
 ghost use Rattle.replica.specs.Answers.{madeAnswer, deliveryAnswer, issueAnswerOf, judgedAnswer};
+ghost use Rattle.view.specs.Answers.{listedAnswer};
 ghost use Rattle.outline_c.specs.Number.{number, fits};
 
 // A refusal by the paper's number.
@@ -63,5 +65,15 @@ pub fn judged_number(answer: Judged) -> usize
     match answer {
         Judged::Done => 17,
         Judged::Refused(why) => refusal_number(why),
+    }
+}
+
+pub fn listed_number(answer: Listed) -> usize
+    requires { ⌜ fits (listedAnswer answer) ⌝ }
+    ensures { λ r. ⌜ r ≡ number (listedAnswer answer) ⌝ }
+{
+    match answer {
+        Listed::Accepted(count) => 256 + count,
+        Listed::Refused(why) => refusal_number(why),
     }
 }

@@ -1,6 +1,7 @@
 use crate::answer::delivery_number;
 use crate::answer::issue_number;
 use crate::answer::judged_number;
+use crate::answer::listed_number;
 use crate::answer::made_number;
 use replica::deliver;
 use replica::issue_add;
@@ -8,12 +9,14 @@ use replica::issue_move;
 use replica::issue_remove;
 use replica::judge;
 use replica::make;
+use view::path;
 ghost use mathlib.Core.Path.{_≡_};
 ghost use Rattle.rules.specs.Deliver as delivering;
 ghost use Rattle.rules.specs.Issue as issuing;
 ghost use Rattle.rules.specs.Issue.{add, remove, move};
 ghost use Rattle.rules.specs.Judge as judging;
 ghost use Rattle.rules.specs.Log.{width};
+ghost use Rattle.rules.specs.Path.{pathCall};
 ghost use Rattle.outline_c.specs.Number.{number};
 
 // Makes an empty log in a buffer.
@@ -78,4 +81,12 @@ pub extern "C" fn outline_judge(file: &[u8], parents: &mut [u16], outcomes: &mut
     ensures { λ r. ⌜ (r ≡ number (judging.judge width (now (file .entry)) (now (parents .entry)) (now (outcomes .entry)) .answer)) × (now (parents .exit) ≡ judging.judge width (now (file .entry)) (now (parents .entry)) (now (outcomes .entry)) .parents) × (now (outcomes .exit) ≡ judging.judge width (now (file .entry)) (now (parents .entry)) (now (outcomes .entry)) .outcomes) ⌝ }
 {
     judged_number(judge(file, parents, outcomes))
+}
+
+// Puts the path of a node into lent entries.
+#[no_mangle]
+pub extern "C" fn outline_path(file: &[u8], node: u16, out: &mut [u16]) -> usize
+    ensures { λ r. ⌜ (r ≡ number (pathCall width (now (file .entry)) node (now (out .entry)) .answer)) × (now (out .exit) ≡ pathCall width (now (file .entry)) node (now (out .entry)) .out) ⌝ }
+{
+    listed_number(path(file, node, out))
 }

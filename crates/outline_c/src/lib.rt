@@ -9,3 +9,4 @@ pub use calls::outline_issue_move;
 pub use calls::outline_issue_remove;
 pub use calls::outline_judge;
 pub use calls::outline_make;
+pub use calls::outline_path;

@@ -37,9 +37,9 @@ none-from p (suc n) a h =
     rw e (none-from p n (suc a) (λ i l. let q : suc a + i ≡ a + suc i = omega arith in rw q (h (suc i) (omega arith))))
 
 ops-nodes : (p : ℕ → Bool) (g : ℕ → ℕ) (rs : List Op) (n a : ℕ) → length rs ≤ n
-  → ((i : ℕ) → i < length rs → (isAdd (getD rs i []) ≡ p (a + i)) × (isAdd (getD rs i []) ≡ true → nodeOf (getD rs i []) ≡ g (a + i)))
-  → ((i : ℕ) → length rs ≤ i → i < n → p (a + i) ≡ false)
-  → map nodeOf (filter isAdd rs) ≡ map g (filter p (upFrom a n))
+    → ((i : ℕ) → i < length rs → (isAdd (getD rs i []) ≡ p (a + i)) × (isAdd (getD rs i []) ≡ true → nodeOf (getD rs i []) ≡ g (a + i)))
+    → ((i : ℕ) → length rs ≤ i → i < n → p (a + i) ≡ false)
+    → map nodeOf (filter isAdd rs) ≡ map g (filter p (upFrom a n))
 unfolding filter upFrom
 ops-nodes p g [] n a l h o = rw (none-from p n a (λ i b. o i (omega arith) b))
 ops-nodes p g (r ∷ rs) zero a l h o = absurd (not-suc-le-zero l)
@@ -47,8 +47,8 @@ ops-nodes p g (r ∷ rs) (suc n) a l h o =
     let z = add-zero a in
     let (e, g₀) = h 0 (omega arith) in
     let ih = ops-nodes p g rs n (suc a) (le-of-suc-le-suc l)
-        (λ i b. let q : suc a + i ≡ a + suc i = omega arith in rw q (h (suc i) (omega arith)))
-        (λ i b c. let q : suc a + i ≡ a + suc i = omega arith in rw q (o (suc i) (omega arith) (omega arith))) in
+    (λ i b. let q : suc a + i ≡ a + suc i = omega arith in rw q (h (suc i) (omega arith)))
+    (λ i b c. let q : suc a + i ≡ a + suc i = omega arith in rw q (o (suc i) (omega arith) (omega arith))) in
     go (isAdd r) refl (rw z at e) (rw z at g₀) ih
   where
     go : (b : Bool) → isAdd r ≡ b → isAdd r ≡ p a → (isAdd r ≡ true → nodeOf r ≡ g a) → map nodeOf (filter isAdd rs) ≡ map g (filter p (upFrom (suc a) n)) → map nodeOf (cond b (r ∷ filter isAdd rs) (filter isAdd rs)) ≡ map g (cond (p a) (a ∷ filter p (upFrom (suc a) n)) (filter p (upFrom (suc a) n)))

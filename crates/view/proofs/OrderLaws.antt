@@ -35,4 +35,3 @@ module _ (kids : ℕ → List ℕ) (Node : ℕ → Type 0) (node-kids : (n : ℕ
   unfolding pre
   pre-nodes zero n w = tt
   pre-nodes (suc k) n w = (w, all-concat Node (pre kids k) (kids n) (all-map _ _ (kids n) (λ c h. pre-nodes k c h) (node-kids n w)))
-

@@ -27,8 +27,7 @@ kept-children g true F G (c ∷ cs) a = go (g c) (a .0) (kept-children g true F 
     go false e ih = rw (e, ih)
 
 module _ (log : Log) (parents : List ℕ) (shows g : ℕ → Bool) (Node : ℕ → Type 0)
-  (by-parent : (n : ℕ) → Node n → All (λ c. Node c × (shows c ≡ (shows n && g c))) (children log parents n)) where
-
+    (by-parent : (n : ℕ) → Node n → All (λ c. Node c × (shows c ≡ (shows n && g c))) (children log parents n)) where
   pub pruned : (k n : ℕ) → Node n → filter shows (preorder k log parents n) ≡ cond (shows n) (pre (λ m. filter g (children log parents m)) k n) []
   unfolding preorder pre filter
   pruned zero n w = go (shows n)

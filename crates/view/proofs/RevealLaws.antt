@@ -94,7 +94,7 @@ module _ (parents : List ℕ) (size : length parents ≡ 2041) where
       let nz : n ≡ 0 → ⊥ = λ z. never (sym e ∙ rw z r) in
       let (i, q, d′) = depth-parent parents j n d nz in
       let closed′ : Closed (set hidden (spot n) 0) i (parentIn parents n) = λ t b s.
-          rw (show-one hidden n (up parents (suc (suc t)) n) l vn (v (suc (suc t)) (omega arith)), c (suc t) (omega arith) (step t (omega arith) s)) in
+      rw (show-one hidden n (up parents (suc (suc t)) n) l vn (v (suc (suc t)) (omega arith)), c (suc t) (omega arith) (step t (omega arith) s)) in
       let r′ : shows (set hidden (spot n) 0) 0 ≡ true = rw (show-one hidden n 0 l vn (inl refl), r) in
       rw (parent-entry n vn, ih i (set hidden (spot n) 0) (parentIn parents n) m (length-set hidden (spot n) 0 ∙ l) d′ (λ t b. v (suc t) (omega arith)) (omega arith) r′ closed′ vm, show-one hidden n m l vn vm, ne-eqb n 0 nz) (or-assoc (shows hidden m) (eqb m n) (any (eqb m) (climb k parents (parentIn parents n))))
     where
@@ -165,7 +165,7 @@ module _ (log : Log) (good : GoodLog log) where
       let d : Depth P j n = record { root = r .root; first = o } in
       let v : (i : ℕ) → i ≤ j → Valid (up P i n) = λ i h. named-valid log (countsOf log) (up P i n) (r .on i h) in
       let c : (i : ℕ) → i < j → shows-in hidden (up P i n) ≡ true → shows-in hidden (up P (suc i) n) ≡ true = λ i h s.
-          is (up P (suc i) n) (v (suc i) h) ∙ rw (up-last P i n) (u .upward (up P i n) (r .on i (omega arith)) (o i h) (sym (is (up P i n) (v i (omega arith))) ∙ s)) in
+      is (up P (suc i) n) (v (suc i) h) ∙ rw (up-last P i n) (u .upward (up P i n) (r .on i (omega arith)) (o i h) (sym (is (up P i n) (v i (omega arith))) ∙ s)) in
       reveals P (table-size log good) slots j hidden n m l d v (omega arith) (is 0 (inl refl) ∙ u .has-root) c vm ∙ rw (is m vm)
 
   reveal-slot : (k : ℕ) → 0 < k → k < 2041 → (hidden : List ℕ) (S : ℕ → Bool) → length hidden ≡ 2041 → ((m : ℕ) → Valid m → shows-in hidden m ≡ S m) → Upward S → (m : ℕ) → Valid m → shows-in (revealSlot P marks hidden k) m ≡ (S m || (unmarked k && isIn m (path P (nodeAt k))))

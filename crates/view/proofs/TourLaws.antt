@@ -33,11 +33,10 @@ record Group : Type 0 where
   members : List ℕ
 
 module _ (l : Links) (kids : ℕ → List ℕ) (T : ℕ → ℕ → List ℕ) (Good : ℕ → ℕ → Type 0)
-  (chain : (d n : ℕ) → Good d n → Chain (l .next) (entry (l .first) n) (kids n))
-  (opens : (d n : ℕ) → Good d n → T d n ≡ entryOf n d ∷ concat (map (T (suc d)) (kids n)))
-  (below : (d n : ℕ) → Good d n → All (Good (suc d)) (kids n))
-  (small : (d n : ℕ) → Good d n → d < 65535) where
-
+    (chain : (d n : ℕ) → Good d n → Chain (l .next) (entry (l .first) n) (kids n))
+    (opens : (d n : ℕ) → Good d n → T d n ≡ entryOf n d ∷ concat (map (T (suc d)) (kids n)))
+    (below : (d n : ℕ) → Good d n → All (Good (suc d)) (kids n))
+    (small : (d n : ℕ) → Good d n → d < 65535) where
   abbrev heads : List Group → List ℕ
   heads [] = []
   heads (g ∷ gs) = top (g .depth) (g .members) (heads gs)

@@ -84,8 +84,8 @@ tour-none zero l = refl
 tour-none (suc k) l = refl
 
 pub tour-turn : (first next order stack after : List ℕ) (i top end : ℕ) → i < 2041 → i < length order → top < length stack
-  → drop end after ≡ push (entry first (nodeIn (getD stack top 0))) ((depthIn (getD stack top 0) + 1) % 65536) (push (entry next (nodeIn (getD stack top 0))) (depthIn (getD stack top 0)) (drop (top + 1) stack))
-  → take i order ++ tour (2041 - i) (links first next) (drop top stack) ≡ take (i + 1) (set order i (getD stack top 0)) ++ tour (2041 - (i + 1)) (links first next) (drop end after)
+    → drop end after ≡ push (entry first (nodeIn (getD stack top 0))) ((depthIn (getD stack top 0) + 1) % 65536) (push (entry next (nodeIn (getD stack top 0))) (depthIn (getD stack top 0)) (drop (top + 1) stack))
+    → take i order ++ tour (2041 - i) (links first next) (drop top stack) ≡ take (i + 1) (set order i (getD stack top 0)) ++ tour (2041 - (i + 1)) (links first next) (drop end after)
 unfolding tour
 tour-turn first next order stack after i top end h u b d =
     let k : 2041 - i ≡ suc (2041 - (i + 1)) = omega arith in

@@ -37,9 +37,9 @@ climb-closed parents (suc k) (suc j) m c d h i nz =
     let e = ne-eqb m 0 nm in
     let d′ : Depth parents j (parentIn parents m) = record { root = d .root; first = λ n w. d .first (suc n) (omega arith) } in
     rw e (⊎-elim
-      (λ (q : eqb c m ≡ true). rw (eqb-true c m q, head k (parentIn parents m) (omega arith)) (or-true (eqb (parentIn parents m) m)))
-      (λ (q : isIn c (climb k parents (parentIn parents m)) ≡ true). rw (climb-closed parents k j (parentIn parents m) c d′ (le-of-suc-le-suc h) q nz) (or-true (eqb (parentIn parents c) m)))
-      (or-cases (eqb c m) _ (rw e at i)))
+    (λ (q : eqb c m ≡ true). rw (eqb-true c m q, head k (parentIn parents m) (omega arith)) (or-true (eqb (parentIn parents m) m)))
+    (λ (q : isIn c (climb k parents (parentIn parents m)) ≡ true). rw (climb-closed parents k j (parentIn parents m) c d′ (le-of-suc-le-suc h) q nz) (or-true (eqb (parentIn parents c) m)))
+    (or-cases (eqb c m) _ (rw e at i)))
   where
     head : (k n : ℕ) → 0 < k → any (eqb n) (climb k parents n) ≡ true
     head zero n l = absurd (not-suc-le-zero l)

@@ -11,13 +11,7 @@ ghost use Rattle.view.specs.Answers.{viewOf, Sized};
 ghost use Rattle.view.specs.Tables.{links, linkSlot, hiddenOf};
 
 // Puts the node of a slot before its siblings, if there is one and it is not hidden.
-fn link_slot(
-    parents: &[u16],
-    hidden: &[u8],
-    slot: usize,
-    first: &mut [u16],
-    next: &mut [u16],
-)
+fn link_slot(parents: &[u16], hidden: &[u8], slot: usize, first: &mut [u16], next: &mut [u16])
     requires { ⌜ Sized (now parents) (now hidden) (now first) (now next) × (slot < 2041) ⌝ }
     ensures { λ _. ⌜ links (now (first .exit)) (now (next .exit)) ≡ linkSlot (now (parents .entry)) (now (hidden .entry)) (links (now (first .entry)) (now (next .entry))) slot ⌝ }
 {
@@ -48,13 +42,7 @@ fn link(parents: &[u16], hidden: &[u8], first: &mut [u16], next: &mut [u16])
 
 // Links the nodes that a view shows. In the skipping view a marked node is hidden, and with it
 // all below, since the tour does not come there.
-pub fn link_view(
-    parents: &[u16],
-    marks: &[u8],
-    view: View,
-    first: &mut [u16],
-    next: &mut [u16],
-)
+pub fn link_view(parents: &[u16], marks: &[u8], view: View, first: &mut [u16], next: &mut [u16])
     requires { ⌜ Sized (now parents) (now marks) (now first) (now next) ⌝ }
     ensures { λ _. ⌜ links (now (first .exit)) (now (next .exit)) ≡ foldl (linkSlot (now (parents .entry)) (hiddenOf (now (parents .entry)) (now (marks .entry)) (viewOf view))) (links (now (first .entry)) (now (next .entry))) (downFrom 2040) ⌝ }
 {

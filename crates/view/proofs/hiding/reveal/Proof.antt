@@ -7,7 +7,6 @@ use native.Mathlib.Omega.{arith}
 use Rattle.oplog.proofs.FieldLaws.{spot-of}
 use Rattle.replay.specs.Tables.{tables}
 use Rattle.rules.proofs.OfferLaws.{taken}
-use Rattle.rules.specs.Exchange.{left}
 use Rattle.rules.specs.Tree.{slots}
 use Rattle.view.proofs.TourLaws.{pre}
 use Rattle.view.proofs.TurnLaws.{reveal-stop, reveal-turn, reveal-end}

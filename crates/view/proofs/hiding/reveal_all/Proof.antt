@@ -7,7 +7,6 @@ use mathlib.Core.Path.{refl, sym, _∙_, _≡_}
 use native.Mathlib.Omega.{arith}
 use Rattle.rules.proofs.OfferLaws.{taken}
 use Rattle.rules.specs.Bytes.{upFrom}
-use Rattle.rules.specs.Exchange.{left}
 use Rattle.view.proofs.TourLaws.{pre}
 use Rattle.view.proofs.TurnLaws.{up-turn, up-end}
 use Rattle.view.proofs.hiding.reveal_all.Statement.{statement}

@@ -4,7 +4,6 @@ use denote.Ref.{now}
 use mathlib.Core.Path.{sym, _∙_}
 use native.Mathlib.Omega.{arith}
 use Rattle.rules.proofs.OfferLaws.{taken}
-use Rattle.rules.specs.Exchange.{left}
 use Rattle.rules.specs.Tree.{slot}
 use Rattle.view.proofs.TourLaws.{pre}
 use Rattle.view.proofs.TurnLaws.{slot-marked, slot-shown, slot-bare}

@@ -6,7 +6,6 @@ use mathlib.Core.Path.{sym}
 use native.Mathlib.Omega.{arith}
 use Rattle.oplog.proofs.FieldLaws.{spot-of}
 use Rattle.rules.proofs.OfferLaws.{taken}
-use Rattle.rules.specs.Exchange.{left}
 use Rattle.rules.specs.Tree.{slot}
 use Rattle.view.proofs.MarkLaws.{marks-size}
 use Rattle.view.proofs.TourLaws.{pre}

@@ -4,7 +4,6 @@ use denote.Ref.{now}
 use mathlib.Core.Path.{sym}
 use Rattle.oplog.proofs.FieldLaws.{spot-of}
 use Rattle.rules.proofs.OfferLaws.{taken}
-use Rattle.rules.specs.Exchange.{left}
 use Rattle.view.proofs.BodyLaws.{mark-does, mark-not}
 use Rattle.view.proofs.marking.mark_op.Statement.{statement}
 use Rattle.view.proofs.marking.mark_op.Tie as tie

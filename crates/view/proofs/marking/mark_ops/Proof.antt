@@ -9,7 +9,6 @@ use Rattle.oplog.proofs.HeaderLaws.{laid-header}
 use Rattle.rules.proofs.OfferLaws.{taken}
 use Rattle.rules.proofs.StructureLaws.{laid-reads}
 use Rattle.rules.specs.Bytes.{concat, sum}
-use Rattle.rules.specs.Exchange.{left}
 use Rattle.rules.specs.Log.{headerCounts, logOf, width}
 use Rattle.view.proofs.BodyLaws.{bodies-fit, start-least, bodies-all, bodies-end, total-is, bodies-turn, bodiesFrom}
 use Rattle.view.proofs.TourLaws.{pre}
@@ -44,8 +43,7 @@ mark-op-requires c κs = let l = c .before .before .loop in (omega (arith, l .in
 loop-again : tie.Need-loop-again Inv-loop μ-loop
 loop-again c =
     let l = c .before .before .before .before .before .loop in
-    let m = c .before .before .mark-op in
-    (
+    let m = c .before .before .mark-op in (
       omega (arith, l .inv .0, m .kept .1 .1 .0),
       omega arith,
       l .inv .2,

@@ -11,7 +11,6 @@ use Rattle.rules.proofs.FileLaws.{counts-logOf}
 use Rattle.rules.proofs.OfferLaws.{taken}
 use Rattle.rules.proofs.SoundLaws.{sound-structural}
 use Rattle.rules.proofs.StructureLaws.{laid-reads, structural-laid, counts-covered}
-use Rattle.rules.specs.Exchange.{left}
 use Rattle.rules.specs.Log.{countsOf, covered, knownParent, laid, logOf, width}
 use Rattle.rules.specs.Path.{pathCall, pathOf}
 use Rattle.rules.specs.Replay.{parentsOf}

@@ -2,7 +2,6 @@
 use borrow.Author.Needs.{needs}
 use borrow.Author.Tests.{eq-eqb, ne-eqb}
 use Rattle.rules.proofs.OfferLaws.{taken}
-use Rattle.rules.specs.Exchange.{left}
 use Rattle.rules.specs.Tree.{slot}
 use Rattle.view.proofs.slots.node_at.Statement.{statement}
 use Rattle.view.specs.Tables.{nodeAt}

@@ -5,7 +5,6 @@ use denote.Ref.{now}
 use lib.ListN.{length-set}
 use native.Mathlib.Omega.{arith}
 use Rattle.rules.proofs.OfferLaws.{taken}
-use Rattle.rules.specs.Exchange.{left}
 use Rattle.rules.specs.Tree.{depth}
 use Rattle.view.proofs.TourLaws.{pre}
 use Rattle.view.proofs.TurnLaws.{push-on, push-none}

@@ -9,7 +9,6 @@ use native.Mathlib.Omega.{arith}
 use Rattle.oplog.proofs.FieldLaws.{spot-of}
 use Rattle.replay.specs.Tables.{tables}
 use Rattle.rules.proofs.OfferLaws.{taken}
-use Rattle.rules.specs.Exchange.{left}
 use Rattle.view.proofs.TourLaws.{pre}
 use Rattle.view.proofs.TurnLaws.{tour-end, tour-stop, tour-full, tour-done, tour-start, drop-more, tour-turn}
 use Rattle.view.proofs.touring.tour.Statement.{statement}
@@ -63,8 +62,7 @@ loop-again c =
     let p = c .before .before .before .before .before .before .push in
     let q = c .before .push2 in
     let d : drop (q .result) (q .last .0) ≡ tables.push (entry f (nodeIn (getD (l .stack) (l .top) 0))) ((depthIn (getD (l .stack) (l .top) 0) + 1) % 65536) (tables.push (entry n (nodeIn (getD (l .stack) (l .top) 0))) (depthIn (getD (l .stack) (l .top) 0)) (drop (l .top + 1) (l .stack))) =
-        q .ensures .0 ∙ rw (c .before .before .wrapping-add-u16 .ensures, p .ensures .0, c .before .before .before .before .before .before .before .before .before .before .spot-of .ensures .0, c .before .before .before .before .before .before .before .before .before .before .before .node-in .ensures, c .before .before .before .before .before .before .before .before .before .depth-in .ensures) in
-    (
+    q .ensures .0 ∙ rw (c .before .before .wrapping-add-u16 .ensures, p .ensures .0, c .before .before .before .before .before .before .before .before .before .before .spot-of .ensures .0, c .before .before .before .before .before .before .before .before .before .before .before .node-in .ensures, c .before .before .before .before .before .before .before .before .before .depth-in .ensures) in (
       l .inv .0,
       l .inv .1,
       l .inv .2,
