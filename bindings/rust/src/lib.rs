@@ -46,8 +46,8 @@
 mod answer;
 mod ffi;
 
-pub use answer::{Delivery, Refusal};
 use answer::{read, stray, value, Answer};
+pub use answer::{Delivery, Refusal};
 
 /// Bytes of an empty log.
 pub const HEADER: usize = 32;
@@ -305,13 +305,7 @@ pub fn judge(file: &[u8], parents: &mut [u16], outcomes: &mut [u8]) -> Result<()
 pub fn path(file: &[u8], node: u16, out: &mut [u16]) -> Result<usize, Refusal> {
     // SAFETY: pointers and lengths are those of slices, which do not overlap.
     value(unsafe {
-        ffi::outline_path(
-            file.as_ptr(),
-            file.len(),
-            node,
-            out.as_mut_ptr(),
-            out.len(),
-        )
+        ffi::outline_path(file.as_ptr(), file.len(), node, out.as_mut_ptr(), out.len())
     })
 }
 

@@ -43,7 +43,10 @@ fn delivery() {
     assert_eq!(outline::deliver(&mut buf, &[]), Err(Refusal::Length));
     let mut malformed = ADD;
     malformed[1] = 9;
-    assert_eq!(outline::deliver(&mut buf, &malformed), Err(Refusal::Malformed));
+    assert_eq!(
+        outline::deliver(&mut buf, &malformed),
+        Err(Refusal::Malformed)
+    );
     let mut early = ADD;
     early[7] = 1;
     assert_eq!(outline::deliver(&mut buf, &early), Err(Refusal::Early));
@@ -62,12 +65,30 @@ fn issuing() {
     let mut buf = two_nodes();
     let before = buf.clone();
     let mut out = [7; 20];
-    assert_eq!(outline::issue_add(&mut buf, 1, 0, &mut out[..13]), Err(Refusal::Length));
-    assert_eq!(outline::issue_add(&mut buf, 0, 0, &mut out), Err(Refusal::Malformed));
-    assert_eq!(outline::issue_remove(&mut buf, 1, 259, &mut out), Err(Refusal::Unknown));
-    assert_eq!(outline::issue_move(&mut buf, 1, 257, 257, &mut out), Err(Refusal::Unknown));
-    assert_eq!(outline::issue_move(&mut buf, 1, 257, 258, &mut out), Err(Refusal::Cycle));
-    assert_eq!(outline::issue_remove(&mut buf[..73], 1, 257, &mut out), Err(Refusal::NoRoom));
+    assert_eq!(
+        outline::issue_add(&mut buf, 1, 0, &mut out[..13]),
+        Err(Refusal::Length)
+    );
+    assert_eq!(
+        outline::issue_add(&mut buf, 0, 0, &mut out),
+        Err(Refusal::Malformed)
+    );
+    assert_eq!(
+        outline::issue_remove(&mut buf, 1, 259, &mut out),
+        Err(Refusal::Unknown)
+    );
+    assert_eq!(
+        outline::issue_move(&mut buf, 1, 257, 257, &mut out),
+        Err(Refusal::Unknown)
+    );
+    assert_eq!(
+        outline::issue_move(&mut buf, 1, 257, 258, &mut out),
+        Err(Refusal::Cycle)
+    );
+    assert_eq!(
+        outline::issue_remove(&mut buf[..73], 1, 257, &mut out),
+        Err(Refusal::NoRoom)
+    );
     assert_eq!((&buf, out), (&before, [7; 20]));
     assert_eq!(outline::issue_move(&mut buf, 8, 258, 0, &mut out), Ok(74));
     assert_eq!(out[..6], [3, 8, 1, 2, 0, 0]);
@@ -81,9 +102,15 @@ fn exhausted() {
     let mut buf = empty(outline::LARGEST);
     let mut op = [0; 14];
     for sequence in 1..=255 {
-        assert_eq!(outline::issue_add(&mut buf, 3, 0, &mut op), Ok(32 + 14 * sequence));
+        assert_eq!(
+            outline::issue_add(&mut buf, 3, 0, &mut op),
+            Ok(32 + 14 * sequence)
+        );
     }
-    assert_eq!(outline::issue_add(&mut buf, 3, 0, &mut op), Err(Refusal::Exhausted));
+    assert_eq!(
+        outline::issue_add(&mut buf, 3, 0, &mut op),
+        Err(Refusal::Exhausted)
+    );
 }
 
 #[test]
@@ -91,9 +118,18 @@ fn judging() {
     let buf = two_nodes();
     let mut parents = [7; 2050];
     let mut outcomes = [7; 2050];
-    assert_eq!(outline::judge(&buf, &mut parents[..2040], &mut outcomes), Err(Refusal::Length));
-    assert_eq!(outline::judge(&buf, &mut parents, &mut outcomes[..2040]), Err(Refusal::Length));
-    assert_eq!(outline::judge(&buf[1..], &mut parents, &mut outcomes), Err(Refusal::Unsound));
+    assert_eq!(
+        outline::judge(&buf, &mut parents[..2040], &mut outcomes),
+        Err(Refusal::Length)
+    );
+    assert_eq!(
+        outline::judge(&buf, &mut parents, &mut outcomes[..2040]),
+        Err(Refusal::Length)
+    );
+    assert_eq!(
+        outline::judge(&buf[1..], &mut parents, &mut outcomes),
+        Err(Refusal::Unsound)
+    );
     assert_eq!((parents, outcomes), ([7; 2050], [7; 2050]));
     assert_eq!(outline::judge(&buf, &mut parents, &mut outcomes), Ok(()));
     assert_eq!(parents[..4], [0, 0, 257, outline::NO_PARENT]);
@@ -107,7 +143,10 @@ fn paths() {
     let buf = two_nodes();
     let mut out = [7; 4];
     assert_eq!(outline::path(&buf, 513, &mut out), Err(Refusal::Unknown));
-    assert_eq!(outline::path(&buf, 258, &mut out[..2]), Err(Refusal::NoRoom));
+    assert_eq!(
+        outline::path(&buf, 258, &mut out[..2]),
+        Err(Refusal::NoRoom)
+    );
     assert_eq!(outline::path(&[], 0, &mut out), Err(Refusal::Unsound));
     assert_eq!(out, [7; 4]);
     assert_eq!(outline::path(&buf, 0, &mut out), Ok(1));
@@ -121,8 +160,14 @@ fn listings() {
     let mut buf = two_nodes();
     outline::issue_remove(&mut buf, 1, 257, &mut [0; 14]).unwrap();
     let mut out = [7; 30];
-    assert_eq!(outline::listing(&buf, View::Keeping, &mut out[..21]), Err(Refusal::NoRoom));
-    assert_eq!(outline::listing(&buf[..73], View::Keeping, &mut out), Err(Refusal::Unsound));
+    assert_eq!(
+        outline::listing(&buf, View::Keeping, &mut out[..21]),
+        Err(Refusal::NoRoom)
+    );
+    assert_eq!(
+        outline::listing(&buf[..73], View::Keeping, &mut out),
+        Err(Refusal::Unsound)
+    );
     assert_eq!(out, [7; 30]);
     assert_eq!(outline::listing(&buf, View::Keeping, &mut out), Ok(22));
     assert_eq!(&out[..22], b"0 0 k\n1 257 r\n2 258 k\n");
