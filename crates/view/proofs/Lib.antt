@@ -13,3 +13,5 @@ pub mod ListingLaws
 pub mod ViewTheorems
 pub mod BodyLaws
 pub mod TurnLaws
+pub mod LineLaws
+pub mod ListingCases

@@ -2,7 +2,9 @@
 // bytes, and a refused call changes nothing.
 mod answer;
 mod hiding;
+mod lines;
 mod linking;
+mod listings;
 mod marking;
 mod paths;
 mod slots;
@@ -10,4 +12,5 @@ mod touring;
 
 pub use answer::Listed;
 pub use answer::View;
+pub use listings::listing;
 pub use paths::path;
