@@ -5,6 +5,8 @@ use mathlib.Core.List.{List}
 use mathlib.Core.Path.{_≡_, refl, transport, ap}
 use native.Mathlib.Omega.{arith}
 use Rattle.outline_c.specs.Number.{fits}
+use Rattle.rules.specs.Views.{View}
+use Rattle.rules.specs.Listing.{listingAnswer, listingOf, listing}
 use Rattle.rules.specs.Path.{pathAnswer, pathOf, pathCall}
 use Rattle.rules.proofs.DeliverLaws.{admitted, required, accepted-same}
 use Rattle.rules.proofs.IssueLaws.{allowed}
@@ -42,6 +44,15 @@ path-fits f n out h =
     (λ m e.
     let c = required _ _ _ m (required _ _ _ m (required _ _ _ m e .1) .1) in
     let room : length (pathOf (logOf width f) n) ≤ length out = leb-true _ _ (c .0) in
+    omega (arith, room, accepted-same _ m (c .1)))
+
+pub listing-fits : (f : List ℕ) (v : View) (out : List ℕ) → length out ≤ 9223372036854775807 → fits (listing width f v out .answer)
+unfolding listing listingAnswer
+listing-fits f v out h =
+    fits-if (listingAnswer width f v (length out))
+    (λ m e.
+    let c = required _ _ _ m (required _ _ _ m e .1) in
+    let room : length (listingOf v (logOf width f)) ≤ length out = leb-true _ _ (c .0) in
     omega (arith, room, accepted-same _ m (c .1)))
 
 -- an answer that fits and accepts a value

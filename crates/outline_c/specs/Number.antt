@@ -1,5 +1,7 @@
--- One number for each answer, for callers in other languages. Assumes nothing.
+-- One number for each answer, and a bool for each view, for callers in other languages. Assumes nothing.
 use Prim.Native.Nat.{ℕ, _+_, _≤_}
+use mathlib.Core.Bool.{Bool, true, false}
+use Rattle.rules.specs.Views.{View, keeping, skipping}
 use Rattle.rules.specs.Answer.{Answer, refused, hadIt, done, accepted}
 
 -- a refusal by the paper's number, 1 to 10; 16 had it; 17 done; from 256 on, 256 and the value
@@ -15,3 +17,8 @@ fits (refused n) = Unit {0}
 fits hadIt = Unit {0}
 fits done = Unit {0}
 fits (accepted n) = n ≤ 9223372036854775807
+
+-- the view that a caller asks for
+unfoldable pub viewFor : Bool → View
+viewFor true = skipping
+viewFor false = keeping

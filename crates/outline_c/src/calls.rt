@@ -9,15 +9,19 @@ use replica::issue_move;
 use replica::issue_remove;
 use replica::judge;
 use replica::make;
+use view::View;
+use view::listing;
 use view::path;
 ghost use mathlib.Core.Path.{_≡_};
 ghost use Rattle.rules.specs.Deliver as delivering;
 ghost use Rattle.rules.specs.Issue as issuing;
 ghost use Rattle.rules.specs.Issue.{add, remove, move};
 ghost use Rattle.rules.specs.Judge as judging;
+ghost use Rattle.rules.specs.Listing as listings;
 ghost use Rattle.rules.specs.Log.{width};
 ghost use Rattle.rules.specs.Path.{pathCall};
-ghost use Rattle.outline_c.specs.Number.{number};
+ghost use Rattle.view.specs.Answers.{viewOf};
+ghost use Rattle.outline_c.specs.Number.{number, viewFor};
 
 // Makes an empty log in a buffer.
 #[no_mangle]
@@ -89,4 +93,21 @@ pub extern "C" fn outline_path(file: &[u8], node: u16, out: &mut [u16]) -> usize
     ensures { λ r. ⌜ (r ≡ number (pathCall width (now (file .entry)) node (now (out .entry)) .answer)) × (now (out .exit) ≡ pathCall width (now (file .entry)) node (now (out .entry)) .out) ⌝ }
 {
     listed_number(path(file, node, out))
+}
+
+fn view_for(skipping: bool) -> View
+    ensures { λ r. ⌜ viewOf r ≡ viewFor skipping ⌝ }
+{
+    if skipping {
+        return View::Skipping;
+    }
+    View::Keeping
+}
+
+// Writes the listing of a view into lent bytes.
+#[no_mangle]
+pub extern "C" fn outline_listing(file: &[u8], skipping: bool, out: &mut [u8]) -> usize
+    ensures { λ r. ⌜ (r ≡ number (listings.listing width (now (file .entry)) (viewFor skipping) (now (out .entry)) .answer)) × (now (out .exit) ≡ listings.listing width (now (file .entry)) (viewFor skipping) (now (out .entry)) .out) ⌝ }
+{
+    listed_number(listing(file, view_for(skipping), out))
 }

@@ -8,5 +8,6 @@ pub use calls::outline_issue_add;
 pub use calls::outline_issue_move;
 pub use calls::outline_issue_remove;
 pub use calls::outline_judge;
+pub use calls::outline_listing;
 pub use calls::outline_make;
 pub use calls::outline_path;

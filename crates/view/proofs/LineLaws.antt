@@ -33,7 +33,7 @@ pub lines-fit : (marks es : List ℕ) (i count : ℕ) → i < count → count �
 lines-fit marks es i count h u =
     let e : count ≡ i + 1 + (count - (i + 1)) = omega arith in
     let a : linesOf marks (take count es) ≡ linesOf marks (take (i + 1) es) ++ linesOf marks (take (count - (i + 1)) (drop (i + 1) es)) =
-        ap (λ (n : ℕ). linesOf marks (take n es)) e ∙ rw (take-add (i + 1) (count - (i + 1)) es) (lines-append marks (take (i + 1) es) (take (count - (i + 1)) (drop (i + 1) es))) in
+    ap (λ (n : ℕ). linesOf marks (take n es)) e ∙ rw (take-add (i + 1) (count - (i + 1)) es) (lines-append marks (take (i + 1) es) (take (count - (i + 1)) (drop (i + 1) es))) in
     let b : length (linesOf marks (take (i + 1) es)) ≡ length (linesOf marks (take i es)) + length (lineFor marks (getD es i 0)) = ap length (lines-turn marks es i (omega arith)) ∙ length-append (linesOf marks (take i es)) (lineFor marks (getD es i 0)) in
     let c : length (linesOf marks (take count es)) ≡ length (linesOf marks (take (i + 1) es)) + length (linesOf marks (take (count - (i + 1)) (drop (i + 1) es))) = ap length a ∙ length-append (linesOf marks (take (i + 1) es)) _ in
     omega arith

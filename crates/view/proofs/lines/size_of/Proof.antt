@@ -6,7 +6,6 @@ use mathlib.Core.List.{List}
 use mathlib.Core.Path.{sym, ap, _≡_}
 use native.Mathlib.Omega.{arith}
 use Rattle.order.proofs.TourLaws.{line-size}
-use Rattle.rules.specs.Exchange.{left}
 use Rattle.view.proofs.LineLaws.{size-turn, lines-none}
 use Rattle.view.proofs.TourLaws.{pre}
 use Rattle.view.proofs.lines.size_of.Statement.{statement}

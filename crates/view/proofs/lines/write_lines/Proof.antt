@@ -9,7 +9,6 @@ use mathlib.Core.Path.{refl, ap, sym, _∙_, _≡_}
 use native.Mathlib.Omega.{arith}
 use Rattle.oplog.proofs.FieldLaws.{spot-of}
 use Rattle.rules.proofs.OfferLaws.{taken}
-use Rattle.rules.specs.Exchange.{left}
 use Rattle.rules.specs.Listing.{lineOf}
 use Rattle.view.proofs.LineLaws.{lines-fit, line-for, lines-none, write-turn}
 use Rattle.view.proofs.TourLaws.{pre}

@@ -8,7 +8,6 @@ use mathlib.Core.Path.{ap, refl, sym, _∙_, _≡_}
 use native.Mathlib.Omega.{arith}
 use Rattle.rules.proofs.OfferLaws.{taken}
 use Rattle.rules.specs.Answer.{accepted}
-use Rattle.rules.specs.Exchange.{arrange, left}
 use Rattle.rules.specs.Listing.{listing, listingOf}
 use Rattle.rules.specs.Log.{logOf, width}
 use Rattle.rules.specs.Sound.{sound}
