@@ -1,3 +1,9 @@
+pub mod SeqLaws
+pub mod TreePathLaws
+pub mod TombstoneLaws
+pub mod ChunkLaws
+pub mod ViewLaws
+pub mod ViewTheorems
 pub mod PathLaws
 pub mod PathCases
 pub mod SlotLaws
@@ -7,11 +13,10 @@ pub mod LinkLaws
 pub mod TourLaws
 pub mod OrderLaws
 pub mod PruneLaws
-pub mod ViewLaws
 pub mod RevealLaws
 pub mod ListingLaws
-pub mod ViewTheorems
 pub mod BodyLaws
 pub mod TurnLaws
 pub mod LineLaws
 pub mod ListingCases
+pub mod OutlineCases

@@ -2,14 +2,14 @@
 use Prim.Native.Nat.{_+_, _-_, _<_, ℕ, _≤_}
 use lib.Dec.{eqb}
 use lib.ListN.{drop, getD, length, length-append, take}
-use lib.Seq.{drop-append-add, drop-drop, take-add, take-suc, take-append-seam}
+use lib.Seq.{drop-append-add, drop-drop, take-add, take-append-seam, take-suc}
 use mathlib.Core.Bool.{Bool, not}
 use mathlib.Core.List.{_++_, List, [], append-assoc, append-nil, map, map-append, _∷_}
 use mathlib.Core.Path.{ap, refl, sym, _∙_, _≡_}
 use native.Mathlib.Numerals.{add-one}
 use native.Mathlib.Omega.{arith}
 use Rattle.rules.proofs.ListLaws.{concat-append}
-use Rattle.rules.specs.Bytes.{concat}
+use Rattle.rules.specs.Bytes.{all, concat}
 use Rattle.rules.specs.Listing.{lineOf}
 use Rattle.view.specs.Tables.{depthIn, lineFor, linesOf, nodeIn, spot}
 

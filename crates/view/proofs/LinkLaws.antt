@@ -2,21 +2,21 @@
 use Prim.Native.Nat.{_+_, _-_, _<_, suc, zero, ℕ, _≤_}
 use borrow.Author.Tests.{eq-eqb, ne-eqb}
 use lib.Dec.{eqb, lit≤}
-use lib.ListN.{getD, length, length-set, set, getD-replicate, length-replicate, replicate}
+use lib.ListN.{getD, getD-replicate, length, length-replicate, length-set, replicate, set}
 use lib.Seq.{getD-set-other, getD-set-same}
 use mathlib.Core.Bool.{_&&_, Bool, cond, false, true}
-use mathlib.Core.List.{List, [], map, _∷_, foldl}
+use mathlib.Core.List.{List, [], foldl, map, _∷_}
 use mathlib.Core.Logic.{_⊎_, ⊎-elim}
 use mathlib.Core.Path.{refl, sym, _∙_, _≡_}
 use native.Mathlib.Decide.{ℕ-discrete}
 use native.Mathlib.Omega.{arith}
 use Rattle.rules.proofs.BoolLaws.{and-false}
 use Rattle.rules.proofs.TreeLaws.{Valid, slot-injective}
-use Rattle.rules.specs.Bytes.{filter, upFrom, downFrom}
+use Rattle.rules.specs.Bytes.{downFrom, filter, upFrom}
 use Rattle.rules.specs.Tree.{noParent, slots}
 use Rattle.view.proofs.NodesLaws.{valid-parent}
-use Rattle.view.proofs.SlotLaws.{spot-node, node-nonzero, spot-below, spot-valid}
-use Rattle.view.specs.Tables.{Links, entry, linkSlot, links, nodeAt, spot, linksOf, noLinks}
+use Rattle.view.proofs.SlotLaws.{node-nonzero, spot-below, spot-node, spot-valid}
+use Rattle.view.specs.Tables.{Links, entry, linkSlot, links, linksOf, noLinks, nodeAt, spot}
 
 -- from x on, next passes these nodes and ends
 abbrev pub Chain : List ℕ → ℕ → List ℕ → Type 0

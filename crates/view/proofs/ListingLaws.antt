@@ -1,11 +1,11 @@
 -- The tables of a log give its listing. Assumes nothing.
-use Prim.Native.Nat.{_-_, suc, ℕ, _≤_, _%_, _*_, _+_, _/_}
+use Prim.Native.Nat.{_%_, _*_, _+_, _-_, _/_, suc, ℕ, _≤_}
 use lib.Dec.{eqb}
 use lib.ListN.{getD, length, length-map}
-use mathlib.Core.Bool.{_&&_, Bool, cond, false, not, true}
-use mathlib.Core.List.{List, [], map, map-append, _∷_}
+use mathlib.Core.Bool.{_&&_, Bool, not}
+use mathlib.Core.List.{List, map, _∷_}
 use mathlib.Core.Logic.{inl}
-use mathlib.Core.Path.{refl, sym, _∙_, _≡_, ap}
+use mathlib.Core.Path.{ap, refl, sym, _∙_, _≡_}
 use native.Mathlib.Nat.{le-trans}
 use native.Mathlib.Omega.{arith}
 use Rattle.order.proofs.DepthLaws.{climb-length}
@@ -19,48 +19,23 @@ use Rattle.rules.specs.Listing.{children, line, listingIn, listingOf, preorder}
 use Rattle.rules.specs.Log.{Log, countsOf}
 use Rattle.rules.specs.Replay.{parentsOf}
 use Rattle.rules.specs.Tree.{climb, depth, path, slots}
-use Rattle.rules.specs.Views.{View, shown, tombstone, keeping, skipping}
-use Rattle.view.proofs.LinkLaws.{kids, Chain, Linked, links-right}
+use Rattle.rules.specs.Views.{View, keeping, shown, skipping, tombstone}
+use Rattle.view.proofs.LinkLaws.{Chain, Linked, kids, links-right}
 use Rattle.view.proofs.MarkLaws.{mark-tombstone}
-use Rattle.view.proofs.NodesLaws.{children-slots, filter-map-filter, slot-entry}
-use Rattle.view.proofs.OrderLaws.{all-map, length-filter, pre-nodes}
+use Rattle.view.proofs.NodesLaws.{children-slots, slot-entry}
+use Rattle.view.proofs.OrderLaws.{pre-nodes}
 use Rattle.view.proofs.PruneLaws.{pruned}
-use Rattle.view.proofs.RevealLaws.{not-not, keeping-hidden}
+use Rattle.view.proofs.RevealLaws.{keeping-hidden}
+use Rattle.view.proofs.SeqLaws.{All, all-kept, all-map, filter-map-filter, length-filter, map-all, map-concat, map-map, not-not, under-and}
 use Rattle.view.proofs.SlotLaws.{spot-node, spot-valid}
-use Rattle.view.proofs.TourLaws.{All, pre, tour-root}
-use Rattle.view.proofs.ViewLaws.{Under, children-under, root-shown, skipping-child, keeping-child}
-use Rattle.view.specs.Tables.{Links, entry, entryOf, hiddenOf, lineFor, linesOf, linksOf, marksOf, nodeAt, tourOf, orderOf}
-
-all-kept : (P : ℕ → Type 0) (g : ℕ → Bool) (xs : List ℕ) → All P xs → All P (filter g xs)
-unfolding filter
-all-kept P g [] a = tt
-all-kept P g (x ∷ xs) a = go (g x) (all-kept P g xs (a .1))
-  where
-    go : (b : Bool) → All P (filter g xs) → All P (cond b (x ∷ filter g xs) (filter g xs))
-    go true ih = (a .0, ih)
-    go false ih = ih
-
-pub map-concat : {A : Type 0} (f : ℕ → A) (F : ℕ → List ℕ) (cs : List ℕ) → map f (concat (map F cs)) ≡ concat (map (λ c. map f (F c)) cs)
-unfolding concat
-map-concat f F [] = refl
-map-concat f F (c ∷ cs) = rw (map-append, map-concat f F cs)
-
-map-map : {A : Type 0} (f : ℕ → A) (g : ℕ → ℕ) (xs : List ℕ) → map f (map g xs) ≡ map (λ x. f (g x)) xs
-map-map f g [] = refl
-map-map f g (x ∷ xs) = ap (λ ys. f (g x) ∷ ys) (map-map f g xs)
-
-map-all : {A : Type 0} (P : ℕ → Type 0) (f g : ℕ → A) (xs : List ℕ) → ((x : ℕ) → P x → f x ≡ g x) → All P xs → map f xs ≡ map g xs
-map-all P f g [] h a = refl
-map-all P f g (x ∷ xs) h a = rw (h x (a .0), map-all P f g xs h (a .1))
+use Rattle.view.proofs.TourLaws.{pre, tour-root}
+use Rattle.view.proofs.TreePathLaws.{Under, children-under}
+use Rattle.view.proofs.ViewLaws.{keeping-child, root-shown, skipping-child}
+use Rattle.view.specs.Tables.{Links, entry, entryOf, hiddenOf, lineFor, linesOf, linksOf, marksOf, nodeAt, orderOf, tourOf}
 
 pre-turn : (kids : ℕ → List ℕ) (k n : ℕ) → pre kids (suc k) n ≡ n ∷ concat (map (pre kids k) (kids n))
 unfolding pre
 pre-turn kids k n = refl
-
-under-and : (a b : Bool) → (b ≡ true → a ≡ true) → b ≡ (a && b)
-under-and true b h = refl
-under-and false true h = sym (h refl)
-under-and false false h = refl
 
 module _ (log : Log) (good : GoodLog log) where
   abbrev P : List ℕ

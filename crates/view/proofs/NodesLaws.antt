@@ -1,40 +1,34 @@
 -- The added nodes are those of the slots in rising order; each slot has an added node with a parent, or no parent. Assumes nothing.
-use Prim.Native.Nat.{_*_, _+_, _-_, _<_, suc, zero, ℕ, _≤_, _%_, _/_}
+use Prim.Native.Nat.{_%_, _*_, _+_, _-_, _/_, _<_, suc, zero, ℕ, _≤_}
 use borrow.Author.Tests.{eqb-true, ne-eqb}
 use lib.Dec.{eqb}
 use lib.ListN.{getD, length, take}
 use lib.Seq.{take-all}
-use mathlib.Core.Bool.{Bool, cond, false, true, _&&_}
-use mathlib.Core.List.{List, [], map, map-append, _∷_}
+use mathlib.Core.Bool.{_&&_, Bool, cond, false, true}
+use mathlib.Core.List.{List, [], map, _∷_}
 use mathlib.Core.Logic.{inl, inr, _⊎_}
-use mathlib.Core.Path.{refl, _≡_, ap, sym, _∙_}
-use native.Mathlib.Nat.{add-zero, le-of-suc-le-suc, not-suc-le-zero, le-refl}
+use mathlib.Core.Path.{ap, refl, sym, _∙_, _≡_}
+use native.Mathlib.Nat.{add-zero, le-of-suc-le-suc, not-suc-le-zero}
 use native.Mathlib.Omega.{arith}
-use Rattle.order.proofs.GrowLaws.{Named, known-of, known-reads, names-add, named-valid}
+use Rattle.order.proofs.GrowLaws.{Named, known-of, known-reads, named-valid, names-add}
 use Rattle.order.proofs.NodeLaws.{added-is}
 use Rattle.order.proofs.TreeTheorem.{is-tree}
 use Rattle.replay.proofs.ClimbLaws.{parent-read}
 use Rattle.rules.proofs.BoolLaws.{both-ways, fails, never}
-use Rattle.rules.proofs.ListLaws.{filter-append, map-upFrom, upFrom-add}
+use Rattle.rules.proofs.ListLaws.{map-upFrom}
 use Rattle.rules.proofs.StructureLaws.{GoodLog, count-held, good-ops}
 use Rattle.rules.proofs.TreeLaws.{Valid}
 use Rattle.rules.specs.Bytes.{concat, filter, upFrom}
 use Rattle.rules.specs.Listing.{children}
-use Rattle.rules.specs.Log.{Log, countsOf, known, opsOf, opAt}
-use Rattle.rules.specs.Op.{Op, countIn, isAdd, nodeOf, nodeNumber, replicas}
+use Rattle.rules.specs.Log.{Log, countsOf, known, opAt, opsOf}
+use Rattle.rules.specs.Op.{Op, countIn, isAdd, nodeNumber, nodeOf, replicas}
 use Rattle.rules.specs.Replay.{addedIn, opsWithin, parentsOf}
 use Rattle.rules.specs.Tree.{noParent, parentIn}
 use Rattle.rules.specs.Views.{nodes}
-use Rattle.view.proofs.PathLaws.{whole, named-parent, table-size}
-use Rattle.view.proofs.SlotLaws.{seat-node, node-nonzero, node-slot, slot-node}
+use Rattle.view.proofs.SeqLaws.{blocks, filter-map-filter, map-filter-concat, none-from}
+use Rattle.view.proofs.SlotLaws.{node-nonzero, node-slot, seat-node, slot-node}
+use Rattle.view.proofs.TreePathLaws.{named-parent, table-size, whole}
 use Rattle.view.specs.Tables.{nodeAt}
-
-none-from : (p : ℕ → Bool) (n a : ℕ) → ((i : ℕ) → i < n → p (a + i) ≡ false) → filter p (upFrom a n) ≡ []
-unfolding filter upFrom
-none-from p zero a h = refl
-none-from p (suc n) a h =
-    let e : p a ≡ false = rw (← add-zero a) (h 0 (omega arith)) in
-    rw e (none-from p n (suc a) (λ i l. let q : suc a + i ≡ a + suc i = omega arith in rw q (h (suc i) (omega arith))))
 
 ops-nodes : (p : ℕ → Bool) (g : ℕ → ℕ) (rs : List Op) (n a : ℕ) → length rs ≤ n
     → ((i : ℕ) → i < length rs → (isAdd (getD rs i []) ≡ p (a + i)) × (isAdd (getD rs i []) ≡ true → nodeOf (getD rs i []) ≡ g (a + i)))
@@ -55,43 +49,9 @@ ops-nodes p g (r ∷ rs) (suc n) a l h o =
     go true q e m ih = rw (← e, q, m q, ih)
     go false q e m ih = rw (← e, q, ih)
 
-map-filter-concat : {A B : Type 0} (f : A → B) (p : A → Bool) (F : ℕ → List A) (ns : List ℕ) → map f (filter p (concat (map F ns))) ≡ concat (map (λ s. map f (filter p (F s))) ns)
-unfolding concat filter
-map-filter-concat f p F [] = refl
-map-filter-concat f p F (n ∷ ns) = rw (filter-append p (F n) (concat (map F ns)), map-append, map-filter-concat f p F ns)
-
-up-cons : (a n : ℕ) → upFrom a (suc n) ≡ a ∷ upFrom (suc a) n
-unfolding upFrom
-up-cons a n = refl
-
-up-none : (a : ℕ) → upFrom a 0 ≡ []
-unfolding upFrom
-up-none a = refl
-
-blocks : (n a : ℕ) → 1 ≤ a → concat (map (λ s. upFrom (255 * (s - 1) + 1) 255) (upFrom a n)) ≡ upFrom (255 * (a - 1) + 1) (255 * n)
-unfolding concat
-blocks zero a l = rw (up-none a) (sym (up-none (255 * (a - 1) + 1)))
-blocks (suc n) a l =
-    let e : 255 * suc n ≡ 255 + 255 * n = omega arith in
-    let q : 255 * (suc a - 1) + 1 ≡ 255 * (a - 1) + 1 + 255 = omega arith in
-    rw (up-cons a n, blocks n (suc a) (omega arith), e, q) (sym (upFrom-add (255 * (a - 1) + 1) 255 (255 * n)))
-
 pub valid-parent : (n : ℕ) → Valid n → n ≡ 65535 → ⊥
 valid-parent n (inl e) q = omega arith
 valid-parent n (inr v) q = omega arith
-
-pub filter-map-filter : {A : Type 0} (p : A → Bool) (f : ℕ → A) (q r : ℕ → Bool) (n a : ℕ) → ((k : ℕ) → a ≤ k → k < a + n → (q k && p (f k)) ≡ r k) → filter p (map f (filter q (upFrom a n))) ≡ map f (filter r (upFrom a n))
-unfolding filter upFrom
-filter-map-filter p f q r zero a h = refl
-filter-map-filter p f q r (suc n) a h = go (q a) (p (f a)) (r a) refl refl refl (h a (le-refl a) (omega arith)) (filter-map-filter p f q r n (suc a) (λ k l u. h k (omega arith) (omega arith)))
-  where
-    go : (x y z : Bool) → q a ≡ x → p (f a) ≡ y → r a ≡ z → (q a && p (f a)) ≡ r a → filter p (map f (filter q (upFrom (suc a) n))) ≡ map f (filter r (upFrom (suc a) n)) → filter p (map f (cond x (a ∷ filter q (upFrom (suc a) n)) (filter q (upFrom (suc a) n)))) ≡ map f (cond z (a ∷ filter r (upFrom (suc a) n)) (filter r (upFrom (suc a) n)))
-    go true true true e₁ e₂ e₃ e ih = rw (e₂, ih)
-    go true true false e₁ e₂ e₃ e ih = never (sym (rw (e₁, e₂, e₃) at e))
-    go true false true e₁ e₂ e₃ e ih = never (rw (e₁, e₂, e₃) at e)
-    go true false false e₁ e₂ e₃ e ih = rw (e₂, ih)
-    go false y true e₁ e₂ e₃ e ih = never (rw (e₁, e₃) at e)
-    go false y false e₁ e₂ e₃ e ih = ih
 
 module _ (log : Log) (good : GoodLog log) where
   abbrev held : ℕ → Bool

@@ -1,16 +1,15 @@
 -- The cases of the path call, as the code meets them. Assumes nothing.
-use Prim.Native.Nat.{ℕ, _≤_, _<_, _+_}
+use Prim.Native.Nat.{_+_, _<_, ℕ, _≤_}
 use borrow.Author.Tests.{le-leb, lt-leb}
 use lib.ListN.{length}
-use mathlib.Core.Bool.{true, false}
+use mathlib.Core.Bool.{false, true}
 use mathlib.Core.List.{List}
 use mathlib.Core.Path.{_≡_}
 use native.Mathlib.Omega.{arith}
-use Rattle.oplog.proofs.HeaderLaws.{long}
 use Rattle.order.proofs.GrowLaws.{parent-reads}
 use Rattle.rules.proofs.SoundLaws.{sound-good}
-use Rattle.rules.specs.Answer.{require, refused, accepted}
-use Rattle.rules.specs.Log.{width, knownParent, logOf, countsOf}
+use Rattle.rules.specs.Answer.{accepted, refused, require}
+use Rattle.rules.specs.Log.{countsOf, knownParent, logOf, width}
 use Rattle.rules.specs.Path.{pathAnswer, pathOf}
 use Rattle.rules.specs.Replay.{parentsOf}
 use Rattle.rules.specs.Sound.{sound}

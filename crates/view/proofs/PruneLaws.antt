@@ -2,18 +2,12 @@
 use Prim.Native.Nat.{suc, zero, ℕ}
 use mathlib.Core.Bool.{_&&_, Bool, cond, false, true}
 use mathlib.Core.List.{_++_, List, [], map, _∷_}
-use mathlib.Core.Path.{refl, _∙_, _≡_}
-use Rattle.rules.proofs.ListLaws.{filter-append}
+use mathlib.Core.Path.{_≡_, refl, _∙_}
 use Rattle.rules.specs.Bytes.{concat, filter}
 use Rattle.rules.specs.Listing.{children, preorder}
 use Rattle.rules.specs.Log.{Log}
-use Rattle.view.proofs.OrderLaws.{all-map}
-use Rattle.view.proofs.TourLaws.{All, pre}
-
-filter-concat : {A : Type 0} (p : A → Bool) (F : ℕ → List A) (ns : List ℕ) → filter p (concat (map F ns)) ≡ concat (map (λ n. filter p (F n)) ns)
-unfolding concat filter
-filter-concat p F [] = refl
-filter-concat p F (n ∷ ns) = rw (filter-append p (F n) (concat (map F ns)), filter-concat p F ns)
+use Rattle.view.proofs.SeqLaws.{All, all-map, filter-concat}
+use Rattle.view.proofs.TourLaws.{pre}
 
 kept-children : (g : ℕ → Bool) (b : Bool) (F G : ℕ → List ℕ) (cs : List ℕ) → All (λ c. F c ≡ cond (b && g c) (G c) []) cs → concat (map F cs) ≡ cond b (concat (map G (filter g cs))) []
 unfolding concat filter

@@ -1,41 +1,33 @@
 -- Revealing every unmarked node and what is above it leaves hidden what the keeping view hides. Assumes nothing.
-use Prim.Native.Nat.{_+_, _-_, _<_, suc, zero, ℕ, _≤_}
+use Prim.Native.Nat.{_+_, _<_, suc, zero, ℕ, _≤_}
 use borrow.Author.Tests.{eq-eqb, eqb-true, ne-eqb}
 use lib.Dec.{eqb, lit≤}
-use lib.ListN.{length, length-set, set, getD, getD-replicate, replicate, length-replicate}
+use lib.ListN.{length-set, getD, getD-replicate, length, length-replicate, replicate, set}
 use lib.Seq.{getD-set-other, getD-set-same}
-use mathlib.Core.Bool.{Bool, cond, false, or-false, or-true, true, _||_, or-assoc, _&&_, not}
-use mathlib.Core.List.{List, foldl, map, _∷_}
-use mathlib.Core.Logic.{⊎-elim, inl, inr}
+use mathlib.Core.Bool.{_&&_, Bool, cond, false, not, or-assoc, or-false, or-true, true, _||_}
+use mathlib.Core.List.{List, foldl}
+use mathlib.Core.Logic.{inl, inr, ⊎-elim}
 use mathlib.Core.Path.{ap, refl, sym, _∙_, _≡_}
 use native.Mathlib.Decide.{ℕ-discrete}
-use native.Mathlib.Nat.{le-of-suc-le-suc, not-suc-le-zero, le-refl}
+use native.Mathlib.Nat.{le-of-suc-le-suc, not-suc-le-zero}
 use native.Mathlib.Omega.{arith}
-use Rattle.order.proofs.FuelLaws.{Depth, depth-unique}
+use Rattle.order.proofs.FuelLaws.{Depth}
 use Rattle.order.proofs.GrowLaws.{Named, named-valid}
 use Rattle.replay.proofs.ClimbLaws.{parent-read}
-use Rattle.rules.proofs.BoolLaws.{or-cases, never, and-both, and-left, and-right}
+use Rattle.rules.proofs.BoolLaws.{and-both, and-left, and-right, never, or-cases}
 use Rattle.rules.proofs.StructureLaws.{GoodLog}
-use Rattle.rules.proofs.TreeLaws.{Valid, slot-below, slot-injective, up, up-add, slot-root, up-last}
-use Rattle.rules.specs.Bytes.{any, isIn, filter, upFrom}
+use Rattle.rules.proofs.TreeLaws.{Valid, slot-below, slot-injective, slot-root, up, up-last}
+use Rattle.rules.specs.Bytes.{any, isIn, upFrom}
 use Rattle.rules.specs.Log.{Log, countsOf, known}
 use Rattle.rules.specs.Replay.{parentsOf}
-use Rattle.rules.specs.Tree.{climb, parentIn, atOrBelow, noParent, path, slotOf, slots}
+use Rattle.rules.specs.Tree.{atOrBelow, climb, noParent, parentIn, path, slotOf, slots}
 use Rattle.rules.specs.Views.{keeping, shown, tombstone}
 use Rattle.view.proofs.MarkLaws.{mark-tombstone}
 use Rattle.view.proofs.NodesLaws.{held-parent, nodes-slots, unheld-parent, valid-parent}
-use Rattle.view.proofs.PathLaws.{root-way, table-size}
-use Rattle.view.proofs.SlotLaws.{spot-below, spot-valid, node-valid, slot-positive, spot-node}
-use Rattle.view.proofs.ViewLaws.{depth-parent, and-swap, path-closed}
-use Rattle.view.specs.Tables.{entry, reveal, spot, hiddenOf, marksOf, nodeAt, revealSlot, allHidden}
-
-depth-up : (parents : List ℕ) (j n i : ℕ) → Depth parents j n → i ≤ j → Depth parents (j - i) (up parents i n)
-depth-up parents j n i d h =
-    let e : i + (j - i) ≡ j = omega arith in
-    record {
-      root = sym (up-add parents i (j - i) n) ∙ ap (λ (k : ℕ). up parents k n) e ∙ d .root;
-      first = λ k l z. d .first (i + k) (omega arith) (up-add parents i k n ∙ z);
-    }
+use Rattle.view.proofs.SeqLaws.{and-swap, any-map-filter, not-not}
+use Rattle.view.proofs.SlotLaws.{node-valid, slot-positive, spot-below, spot-node, spot-valid}
+use Rattle.view.proofs.TreePathLaws.{depth-parent, no-cycle, path-closed, root-way, table-size}
+use Rattle.view.specs.Tables.{allHidden, entry, hiddenOf, marksOf, nodeAt, reveal, revealSlot, spot}
 
 module _ (parents : List ℕ) (size : length parents ≡ 2041) where
   abbrev shows : List ℕ → ℕ → Bool
@@ -80,13 +72,6 @@ module _ (parents : List ℕ) (size : length parents ≡ 2041) where
   abbrev Reveals : ℕ → Type 0
   Reveals k = (j : ℕ) (hidden : List ℕ) (n m : ℕ) → length hidden ≡ 2041 → Depth parents j n → ((i : ℕ) → i ≤ j → Valid (up parents i n)) → j < k → shows hidden 0 ≡ true → Closed hidden j n → Valid m → shows (reveal k parents hidden n) m ≡ (shows hidden m || isIn m (climb k parents n))
 
-  -- no node lies above itself
-  no-cycle : (j n i : ℕ) → Depth parents j n → i < j → up parents (suc i) n ≡ n → ⊥
-  no-cycle j n i d h e =
-      let d′ : Depth parents (j - suc i) n = rw e at (depth-up parents j n (suc i) d h) in
-      let z : j - suc i ≡ j = depth-unique parents (j - suc i) j n d′ d in
-      omega arith
-
   reveals-above : (k : ℕ) → Reveals k → (j : ℕ) (hidden : List ℕ) (n m : ℕ) → length hidden ≡ 2041 → Depth parents j n → ((i : ℕ) → i ≤ j → Valid (up parents i n)) → j < suc k → shows hidden 0 ≡ true → Closed hidden j n → Valid m → shows hidden n ≡ false → shows (reveal k parents (set hidden (spot n) 0) (entry parents n)) m ≡ (shows hidden m || isIn m (climb (suc k) parents n))
   unfolding climb isIn any up
   reveals-above k ih j hidden n m l d v h r c vm e =
@@ -101,7 +86,7 @@ module _ (parents : List ℕ) (size : length parents ≡ 2041) where
       step : (t : ℕ) → t < j → shows (set hidden (spot n) 0) (up parents (suc t) n) ≡ true → shows hidden (up parents (suc t) n) ≡ true
       step t b s =
           let s′ : (shows hidden (up parents (suc t) n) || eqb (up parents (suc t) n) n) ≡ true = sym (show-one hidden n (up parents (suc t) n) l (v 0 (omega arith)) (v (suc t) b)) ∙ s in
-          let s″ : (shows hidden (up parents (suc t) n) || false) ≡ true = rw (ne-eqb (up parents (suc t) n) n (no-cycle j n t d b)) at s′ in
+          let s″ : (shows hidden (up parents (suc t) n) || false) ≡ true = rw (ne-eqb (up parents (suc t) n) n (no-cycle parents j n t d b)) at s′ in
           sym (or-false (shows hidden (up parents (suc t) n))) ∙ s″
 
   reveals : (k : ℕ) → Reveals k
@@ -119,19 +104,6 @@ module _ (parents : List ℕ) (size : length parents ≡ 2041) where
       go false e ih = reveals-above k ih j hidden n m l d v h r c vm e
 
 ---- all slots
-
-any-map-filter : (p : ℕ → Bool) (f : ℕ → ℕ) (q r : ℕ → Bool) (n a : ℕ) → ((k : ℕ) → a ≤ k → k < a + n → (q k && p (f k)) ≡ r k) → any p (map f (filter q (upFrom a n))) ≡ any r (upFrom a n)
-unfolding any filter upFrom
-any-map-filter p f q r zero a h = refl
-any-map-filter p f q r (suc n) a h = rw (← h a (le-refl a) (omega arith), ← any-map-filter p f q r n (suc a) (λ k l u. h k (omega arith) (omega arith))) (go (q a))
-  where
-    go : (b : Bool) → any p (map f (cond b (a ∷ filter q (upFrom (suc a) n)) (filter q (upFrom (suc a) n)))) ≡ ((b && p (f a)) || any p (map f (filter q (upFrom (suc a) n))))
-    go true = refl
-    go false = refl
-
-pub not-not : (b : Bool) → not (not b) ≡ b
-not-not true = refl
-not-not false = refl
 
 turned : (h i z : Bool) → (h && (i && z)) ≡ ((h && z) && i)
 turned false i z = refl

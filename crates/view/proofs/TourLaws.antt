@@ -2,18 +2,15 @@
 use Prim.Native.Nat.{_%_, _*_, _+_, _/_, _<_, suc, zero, ℕ, _≤_}
 use borrow.Author.Tests.{eq-eqb, ne-eqb}
 use lib.ListN.{length}
-use mathlib.Core.List.{_++_, List, [], map, _∷_, append-assoc, append-nil}
-use mathlib.Core.Path.{refl, _≡_, ap, sym, _∙_}
-use native.Mathlib.Nat.{not-suc-le-zero, le-of-suc-le-suc}
+use mathlib.Core.List.{_++_, List, [], append-assoc, append-nil, map, _∷_}
+use mathlib.Core.Path.{ap, refl, sym, _∙_, _≡_}
+use native.Mathlib.Nat.{le-of-suc-le-suc, not-suc-le-zero}
 use native.Mathlib.Omega.{arith}
 use Rattle.rules.specs.Bytes.{concat}
 use Rattle.rules.specs.Tree.{slots}
-use Rattle.view.proofs.LinkLaws.{Chain}
+use Rattle.view.proofs.LinkLaws.{Chain, kids}
+use Rattle.view.proofs.SeqLaws.{All}
 use Rattle.view.specs.Tables.{Links, entry, entryOf, push, tour, tourOf}
-
-abbrev pub All : (ℕ → Type 0) → List ℕ → Type 0
-All P [] = Unit {0}
-All P (x ∷ xs) = P x × All P xs
 
 ---- trees given by their children
 

@@ -1,15 +1,15 @@
 -- Turns of the loops that fill the tables. Assumes nothing.
-use Prim.Native.Nat.{_+_, _-_, _<_, suc, ℕ, _≤_, _%_, _*_, zero}
+use Prim.Native.Nat.{_%_, _*_, _+_, _-_, _<_, suc, zero, ℕ, _≤_}
 use borrow.Author.Tests.{eq-eqb, ne-eqb}
-use lib.ListN.{getD, set, drop, drop-of-length-le, length, length-set, replicate, take, take-append-drop}
-use lib.Seq.{append-snoc, drop-cons, drop-set-lt, getD-set-same, length-take-le, take-suc-set, drop-drop}
-use mathlib.Core.List.{List, foldl, _++_, [], append-nil, _∷_}
-use mathlib.Core.Path.{ap, _∙_, _≡_, refl, sym}
+use lib.ListN.{drop, drop-of-length-le, getD, length, length-set, replicate, set, take, take-append-drop}
+use lib.Seq.{append-snoc, drop-cons, drop-drop, drop-set-lt, getD-set-same, length-take-le, take-suc-set}
+use mathlib.Core.List.{_++_, List, [], append-nil, foldl, _∷_}
+use mathlib.Core.Path.{ap, refl, sym, _∙_, _≡_}
 use native.Mathlib.Numerals.{add-one}
 use native.Mathlib.Omega.{arith}
 use Rattle.rules.specs.Bytes.{downFrom, upFrom}
 use Rattle.rules.specs.Tree.{noParent, slots}
-use Rattle.view.specs.Tables.{Links, entry, linkSlot, links, nodeAt, reveal, revealSlot, spot, depthIn, nodeIn, push, tour, tourOf}
+use Rattle.view.specs.Tables.{Links, depthIn, entry, linkSlot, links, nodeAt, nodeIn, push, reveal, revealSlot, spot, tour, tourOf}
 
 ---- revealing
 
@@ -48,13 +48,16 @@ up-end f x k h = let e : 2041 - k ≡ 0 = omega arith in rw e
 
 ---- linking
 
-pub down-turn : {A : Type 0} (f : A → ℕ → A) (x : A) (k : ℕ) → 0 < k → foldl f x (downFrom k) ≡ foldl f (f x k) (downFrom (k - 1))
+-- what is left of a fold over the slots downwards, with i of them passed
+pub down-turn : {A : Type 0} (f : A → ℕ → A) (x : A) (i : ℕ) → i < 2040 → foldl f x (downFrom (2040 - i)) ≡ foldl f (f x (2040 - i)) (downFrom (2040 - (i + 1)))
 unfolding downFrom
-down-turn f x k h = let e : k ≡ suc (k - 1) = omega arith in ap (λ (n : ℕ). foldl f x (downFrom n)) e ∙ rw (← e)
+down-turn f x i h =
+    let e : 2040 - i ≡ suc (2040 - (i + 1)) = omega arith in
+    ap (λ (n : ℕ). foldl f x (downFrom n)) e ∙ rw (← e)
 
-pub down-end : {A : Type 0} (f : A → ℕ → A) (x : A) (k : ℕ) → k ≤ 0 → foldl f x (downFrom k) ≡ x
+pub down-end : {A : Type 0} (f : A → ℕ → A) (x : A) (i : ℕ) → 2040 ≤ i → foldl f x (downFrom (2040 - i)) ≡ x
 unfolding downFrom
-down-end f x k h = let e : k ≡ 0 = omega arith in rw e
+down-end f x i h = let e : 2040 - i ≡ 0 = omega arith in rw e
 
 pub link-bare : (parents hidden : List ℕ) (l : Links) (k : ℕ) → getD parents k 0 ≡ noParent → linkSlot parents hidden l k ≡ l
 unfolding linkSlot

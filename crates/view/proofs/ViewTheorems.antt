@@ -1,36 +1,23 @@
 -- The claims about the two views hold. Assumes nothing.
 use Prim.Native.Nat.{ℕ}
-use borrow.Author.Tests.{eq-eqb, eqb-true, not-true}
+use borrow.Author.Tests.{eq-eqb, not-true}
 use lib.Dec.{eqb}
-use mathlib.Core.Bool.{_&&_, Bool, false, not, or-true, true}
-use mathlib.Core.List.{List, [], _∷_}
-use mathlib.Core.Logic.{inl, inr, ⊎-elim}
+use mathlib.Core.Bool.{_&&_, false, not, or-true, true}
+use mathlib.Core.List.{List, []}
+use mathlib.Core.Logic.{inl, inr}
 use mathlib.Core.Path.{refl, sym, _∙_, _≡_}
 use Rattle.order.proofs.GrowLaws.{Named, parent-reads}
-use Rattle.rules.proofs.BoolLaws.{and-both, and-left, and-right, never, or-cases}
+use Rattle.rules.proofs.BoolLaws.{and-left, and-right}
 use Rattle.rules.proofs.StructureLaws.{GoodLog, structural-good}
-use Rattle.rules.specs.Bytes.{all, any, isIn}
+use Rattle.rules.specs.Bytes.{any, isIn}
 use Rattle.rules.specs.Log.{Log, countsOf, known, logOf}
 use Rattle.rules.specs.Replay.{parentsOf, removedIn}
 use Rattle.rules.specs.Tree.{atOrBelow, parentIn, path}
 use Rattle.rules.specs.Views.{View, keeping, nodes, shown, skipping, tombstone}
-use Rattle.view.proofs.PathLaws.{named-parent}
-use Rattle.view.proofs.ViewLaws.{Under, keeping-child, known-nonzero, nodes-known, path-child, root-shown, skipping-child}
+use Rattle.view.proofs.SeqLaws.{all-true, any-in}
+use Rattle.view.proofs.TreePathLaws.{Under, known-nonzero, named-parent, nodes-known, path-child}
+use Rattle.view.proofs.ViewLaws.{keeping-child, root-shown, skipping-child}
 use Rattle.view.specs.Claims.{AllShown, ParentsShown, SkippingWithin}
-
-any-in : (p : ℕ → Bool) (xs : List ℕ) (x : ℕ) → isIn x xs ≡ true → p x ≡ true → any p xs ≡ true
-unfolding isIn any
-any-in p [] x i e = never i
-any-in p (y ∷ xs) x i e =
-    ⊎-elim
-    (λ (q : eqb x y ≡ true). rw (← eqb-true x y q, e))
-    (λ (q : any (eqb x) xs ≡ true). rw (any-in p xs x q e) (or-true (p y)))
-    (or-cases (eqb x y) _ i)
-
-all-true : (p : ℕ → Bool) (xs : List ℕ) → ((x : ℕ) → p x ≡ true) → all p xs ≡ true
-unfolding all
-all-true p [] h = refl
-all-true p (x ∷ xs) h = and-both (h x) (all-true p xs h)
 
 module _ (log : Log) (good : GoodLog log) where
   abbrev P : List ℕ

@@ -1,12 +1,14 @@
--- What the two views of a sound log show. Assumes nothing.
-use Prim.Native.Nat.{ℕ}
+-- What the two views of a sound log show, and how long the program's output can be. Assumes nothing.
+use Prim.Native.Nat.{ℕ, _≤_}
 use mathlib.Core.Path.{_≡_}
 use mathlib.Core.Bool.{true}
 use mathlib.Core.List.{List, []}
-use Rattle.rules.specs.Log.{Log, countsOf, logOf, known, knownParent, structural}
+use lib.ListN.{length}
+use Rattle.rules.specs.Log.{Log, width, countsOf, logOf, known, knownParent, structural}
 use Rattle.rules.specs.Replay.{parentsOf, removedIn}
 use Rattle.rules.specs.Tree.{parentIn}
 use Rattle.rules.specs.Views.{View, keeping, skipping, shown}
+use Rattle.rules.specs.Listing.{outline}
 
 -- a view of a log shows the node
 abbrev pub Shows : View → Log → ℕ → Type 0
@@ -31,3 +33,7 @@ SkippingWithin =
     (w : ℕ) (f : List ℕ) → structural w f ≡ true
     → (n : ℕ) → knownParent (logOf w f) (countsOf (logOf w f)) n ≡ true
     → Shows skipping (logOf w f) n → Shows keeping (logOf w f) n
+
+-- no output has more than 24,492 bytes: 2,041 lines of 12
+abbrev pub OutlineFits : Type 0
+OutlineFits = (f : List ℕ) → length (outline width f) ≤ 24492

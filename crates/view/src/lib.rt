@@ -7,6 +7,7 @@ mod linking;
 mod listings;
 mod marking;
 mod paths;
+mod printing;
 mod slots;
 mod touring;
 
@@ -14,3 +15,4 @@ pub use answer::Listed;
 pub use answer::View;
 pub use listings::listing;
 pub use paths::path;
+pub use printing::outline;

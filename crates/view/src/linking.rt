@@ -5,7 +5,6 @@ use crate::slots::spot_of;
 ghost use mathlib.Core.Path.{_≡_};
 ghost use mathlib.Core.List.{foldl};
 ghost use Prim.Native.Nat.{_<_};
-ghost use lib.ListN.{length};
 ghost use Rattle.rules.specs.Bytes.{downFrom};
 ghost use Rattle.view.specs.Answers.{viewOf, Sized};
 ghost use Rattle.view.specs.Tables.{links, linkSlot, hiddenOf};
@@ -33,10 +32,8 @@ fn link(parents: &[u16], hidden: &[u8], first: &mut [u16], next: &mut [u16])
     requires { ⌜ Sized (now parents) (now hidden) (now first) (now next) ⌝ }
     ensures { λ _. ⌜ links (now (first .exit)) (now (next .exit)) ≡ foldl (linkSlot (now (parents .entry)) (now (hidden .entry))) (links (now (first .entry)) (now (next .entry))) (downFrom 2040) ⌝ }
 {
-    let mut slot: usize = 2040;
-    while 0 < slot {
-        link_slot(parents, hidden, slot, first, next);
-        slot -= 1;
+    for i in 0..2040usize {
+        link_slot(parents, hidden, 2040 - i, first, next);
     }
 }
 

@@ -1,15 +1,12 @@
 -- `view::hiding::reveal` meets its contract. Assumes nothing.
 use Prim.Native.Nat.{_+_, _-_, _≤_}
 use denote.Ref.{now}
-use lib.ListN.{length-set, length}
-use mathlib.Core.Path.{sym, refl, _∙_, _≡_}
+use lib.ListN.{length, length-set}
+use mathlib.Core.Path.{refl, sym, _∙_, _≡_}
 use native.Mathlib.Omega.{arith}
-use Rattle.oplog.proofs.FieldLaws.{spot-of}
 use Rattle.replay.specs.Tables.{tables}
-use Rattle.rules.proofs.OfferLaws.{taken}
 use Rattle.rules.specs.Tree.{slots}
-use Rattle.view.proofs.TourLaws.{pre}
-use Rattle.view.proofs.TurnLaws.{reveal-stop, reveal-turn, reveal-end}
+use Rattle.view.proofs.TurnLaws.{reveal-end, reveal-stop, reveal-turn}
 use Rattle.view.proofs.hiding.reveal.Statement.{statement}
 use Rattle.view.specs.Tables.{entry, reveal}
 use Rattle.view.specs.Tables as tables

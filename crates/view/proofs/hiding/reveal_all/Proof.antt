@@ -5,10 +5,8 @@ use lib.ListN.{length}
 use mathlib.Core.List.{foldl}
 use mathlib.Core.Path.{refl, sym, _∙_, _≡_}
 use native.Mathlib.Omega.{arith}
-use Rattle.rules.proofs.OfferLaws.{taken}
 use Rattle.rules.specs.Bytes.{upFrom}
-use Rattle.view.proofs.TourLaws.{pre}
-use Rattle.view.proofs.TurnLaws.{up-turn, up-end}
+use Rattle.view.proofs.TurnLaws.{up-end, up-turn}
 use Rattle.view.proofs.hiding.reveal_all.Statement.{statement}
 use Rattle.view.specs.Tables.{revealSlot}
 use Rattle.view.proofs.hiding.reveal_all.Tie as tie

@@ -3,12 +3,8 @@ use borrow.Author.Needs.{needs}
 use denote.Ref.{now}
 use mathlib.Core.Path.{sym, _∙_}
 use native.Mathlib.Omega.{arith}
-use Rattle.rules.proofs.OfferLaws.{taken}
-use Rattle.rules.specs.Tree.{slot}
-use Rattle.view.proofs.TourLaws.{pre}
-use Rattle.view.proofs.TurnLaws.{slot-marked, slot-shown, slot-bare}
+use Rattle.view.proofs.TurnLaws.{slot-bare, slot-marked, slot-shown}
 use Rattle.view.proofs.hiding.reveal_slot.Statement.{statement}
-use Rattle.view.specs.Tables.{reveal}
 use Rattle.view.proofs.hiding.reveal_slot.Tie as tie
 
 shared-slice-read-if1 : tie.Need-shared-slice-read-if1

@@ -3,11 +3,9 @@ use Prim.Native.Nat.{_*_, _-_, ℕ, _≤_}
 use denote.Ref.{now}
 use lib.ListN.{length, take}
 use mathlib.Core.List.{List}
-use mathlib.Core.Path.{sym, ap, _≡_}
+use mathlib.Core.Path.{ap, sym, _≡_}
 use native.Mathlib.Omega.{arith}
-use Rattle.order.proofs.TourLaws.{line-size}
-use Rattle.view.proofs.LineLaws.{size-turn, lines-none}
-use Rattle.view.proofs.TourLaws.{pre}
+use Rattle.view.proofs.LineLaws.{lines-none, size-turn}
 use Rattle.view.proofs.lines.size_of.Statement.{statement}
 use Rattle.view.specs.Tables.{linesOf}
 use Rattle.view.proofs.lines.size_of.Tie as tie

@@ -2,16 +2,13 @@
 use Prim.Native.Nat.{_-_, _≤_}
 use denote.Ref.{now}
 use lib.Dec.{eqb}
-use lib.ListN.{take, getD, drop, length}
+use lib.ListN.{drop, getD, length, take}
 use mathlib.Core.Bool.{not}
 use mathlib.Core.List.{_++_}
-use mathlib.Core.Path.{refl, ap, sym, _∙_, _≡_}
+use mathlib.Core.Path.{ap, refl, sym, _∙_, _≡_}
 use native.Mathlib.Omega.{arith}
-use Rattle.oplog.proofs.FieldLaws.{spot-of}
-use Rattle.rules.proofs.OfferLaws.{taken}
 use Rattle.rules.specs.Listing.{lineOf}
-use Rattle.view.proofs.LineLaws.{lines-fit, line-for, lines-none, write-turn}
-use Rattle.view.proofs.TourLaws.{pre}
+use Rattle.view.proofs.LineLaws.{line-for, lines-fit, lines-none, write-turn}
 use Rattle.view.proofs.lines.write_lines.Statement.{statement}
 use Rattle.view.specs.Tables.{lineFor, linesOf}
 use Rattle.view.proofs.lines.write_lines.Tie as tie

@@ -4,12 +4,7 @@ use denote.Ref.{now}
 use lib.ListN.{length-set}
 use mathlib.Core.Path.{sym}
 use native.Mathlib.Omega.{arith}
-use Rattle.oplog.proofs.FieldLaws.{spot-of}
-use Rattle.rules.proofs.OfferLaws.{taken}
-use Rattle.rules.specs.Tree.{slot}
-use Rattle.view.proofs.MarkLaws.{marks-size}
-use Rattle.view.proofs.TourLaws.{pre}
-use Rattle.view.proofs.TurnLaws.{link-bare, link-shown, link-hidden}
+use Rattle.view.proofs.TurnLaws.{link-bare, link-hidden, link-shown}
 use Rattle.view.proofs.linking.link_slot.Statement.{statement}
 use Rattle.view.proofs.linking.link_slot.Tie as tie
 

@@ -1,8 +1,6 @@
 -- `view::linking::link_view` meets its contract. Assumes nothing.
 use mathlib.Core.Path.{refl, _∙_}
 use native.Mathlib.Omega.{arith}
-use Rattle.view.proofs.MarkLaws.{marks-size}
-use Rattle.view.proofs.TourLaws.{pre}
 use Rattle.view.proofs.linking.link_view.Statement.{statement}
 use Rattle.view.specs.Tables.{allHidden, hiddenOf}
 use Rattle.view.proofs.linking.link_view.Tie as tie

@@ -5,12 +5,10 @@ use native.Mathlib.Omega.{arith}
 use Rattle.rules.proofs.SoundLaws.{sound-structural}
 use Rattle.rules.proofs.StructureLaws.{structural-laid}
 use Rattle.rules.specs.Log.{logOf, width}
-use Rattle.view.proofs.ListingCases.{no-marks-size, front-is, links-empty, marks-made, order-made}
-use Rattle.view.proofs.MarkLaws.{marks-size}
-use Rattle.view.proofs.TourLaws.{pre}
+use Rattle.view.proofs.ListingCases.{front-is, links-empty, marks-made, no-marks-size, order-made}
 use Rattle.view.proofs.listings.arrange.Statement.{statement}
 use Rattle.view.specs.Answers.{viewOf}
-use Rattle.view.specs.Tables.{links, marksOf, tour, tourOf}
+use Rattle.view.specs.Tables.{links, marksOf, tourOf}
 use Rattle.view.proofs.listings.arrange.Tie as tie
 
 replay-all-requires : tie.Need-replay-all-requires

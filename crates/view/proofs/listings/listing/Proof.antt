@@ -1,20 +1,19 @@
 -- `view::listings::listing` meets its contract. Assumes nothing.
 use borrow.Author.Needs.{needs}
-use borrow.Author.Tests.{not-true, not-false}
+use borrow.Author.Tests.{not-false, not-true}
 use denote.Ref.{now}
 use lib.ListN.{length}
 use mathlib.Core.Bool.{true}
 use mathlib.Core.Path.{ap, refl, sym, _∙_, _≡_}
 use native.Mathlib.Omega.{arith}
-use Rattle.rules.proofs.OfferLaws.{taken}
 use Rattle.rules.specs.Answer.{accepted}
 use Rattle.rules.specs.Listing.{listing, listingOf}
 use Rattle.rules.specs.Log.{logOf, width}
 use Rattle.rules.specs.Sound.{sound}
-use Rattle.view.proofs.ListingCases.{listing-short, lines-are, listing-done, listing-unsound}
+use Rattle.view.proofs.ListingCases.{lines-are, listing-done, listing-short, listing-unsound}
 use Rattle.view.proofs.listings.listing.Statement.{statement}
 use Rattle.view.specs.Answers.{viewOf}
-use Rattle.view.specs.Tables.{noMarks, marksOf}
+use Rattle.view.specs.Tables.{marksOf, noMarks}
 use Rattle.view.proofs.listings.listing.Tie as tie
 
 good : (c : tie.Else1) → sound width (now (c .before .before .before .before .args .file)) ≡ true

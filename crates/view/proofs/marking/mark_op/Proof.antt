@@ -2,8 +2,6 @@
 use borrow.Author.Needs.{needs}
 use denote.Ref.{now}
 use mathlib.Core.Path.{sym}
-use Rattle.oplog.proofs.FieldLaws.{spot-of}
-use Rattle.rules.proofs.OfferLaws.{taken}
 use Rattle.view.proofs.BodyLaws.{mark-does, mark-not}
 use Rattle.view.proofs.marking.mark_op.Statement.{statement}
 use Rattle.view.proofs.marking.mark_op.Tie as tie

@@ -3,15 +3,14 @@ use Prim.Native.Nat.{_*_, _+_, _-_, _/_, _≤_}
 use denote.Ref.{now}
 use lib.ListN.{length}
 use mathlib.Core.List.{foldl}
-use mathlib.Core.Path.{sym, ap, _∙_, _≡_}
+use mathlib.Core.Path.{ap, sym, _∙_, _≡_}
 use native.Mathlib.Omega.{arith}
 use Rattle.oplog.proofs.HeaderLaws.{laid-header}
-use Rattle.rules.proofs.OfferLaws.{taken}
 use Rattle.rules.proofs.StructureLaws.{laid-reads}
 use Rattle.rules.specs.Bytes.{concat, sum}
 use Rattle.rules.specs.Log.{headerCounts, logOf, width}
-use Rattle.view.proofs.BodyLaws.{bodies-fit, start-least, bodies-all, bodies-end, total-is, bodies-turn, bodiesFrom}
-use Rattle.view.proofs.TourLaws.{pre}
+use Rattle.view.proofs.BodyLaws.{bodies-all, bodies-end, bodies-turn, bodiesFrom}
+use Rattle.view.proofs.ChunkLaws.{bodies-fit, start-least, total-is}
 use Rattle.view.proofs.marking.mark_ops.Statement.{statement}
 use Rattle.view.specs.Tables.{mark}
 use Rattle.view.proofs.marking.mark_ops.Tie as tie

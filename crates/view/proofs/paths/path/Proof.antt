@@ -3,20 +3,19 @@ use borrow.Author.Needs.{needs}
 use borrow.Author.Tests.{not-false, not-true}
 use denote.Ref.{now}
 use mathlib.Core.Bool.{true}
-use mathlib.Core.Path.{sym, refl, _∙_, _≡_}
+use mathlib.Core.Path.{refl, sym, _∙_, _≡_}
 use native.Mathlib.Omega.{arith}
 use Rattle.oplog.proofs.FieldLaws.{counted-of}
-use Rattle.oplog.proofs.HeaderLaws.{laid-header, long}
+use Rattle.oplog.proofs.HeaderLaws.{laid-header}
 use Rattle.rules.proofs.FileLaws.{counts-logOf}
-use Rattle.rules.proofs.OfferLaws.{taken}
 use Rattle.rules.proofs.SoundLaws.{sound-structural}
-use Rattle.rules.proofs.StructureLaws.{laid-reads, structural-laid, counts-covered}
+use Rattle.rules.proofs.StructureLaws.{counts-covered, laid-reads, structural-laid}
 use Rattle.rules.specs.Log.{countsOf, covered, knownParent, laid, logOf, width}
 use Rattle.rules.specs.Path.{pathCall, pathOf}
 use Rattle.rules.specs.Replay.{parentsOf}
 use Rattle.rules.specs.Sound.{sound}
 use Rattle.rules.specs.Tree.{depth}
-use Rattle.view.proofs.PathCases.{path-done, path-short, known-way, path-unsound, path-unknown}
+use Rattle.view.proofs.PathCases.{known-way, path-done, path-short, path-unknown, path-unsound}
 use Rattle.view.proofs.paths.path.Statement.{statement}
 use Rattle.view.proofs.paths.path.Tie as tie
 

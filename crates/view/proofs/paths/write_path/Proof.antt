@@ -1,16 +1,14 @@
 -- `view::paths::write_path` meets its contract. Assumes nothing.
-use Prim.Native.Nat.{_-_, _<_, _≤_, ℕ}
+use Prim.Native.Nat.{_-_, _<_, ℕ, _≤_}
 use denote.Ref.{now}
-use lib.ListN.{length, getD, length-set, set}
+use lib.ListN.{getD, length, length-set, set}
 use mathlib.Core.List.{List}
-use mathlib.Core.Path.{refl, sym, ap, _∙_, _≡_}
+use mathlib.Core.Path.{ap, refl, sym, _∙_, _≡_}
 use native.Mathlib.Omega.{arith}
-use Rattle.oplog.proofs.HeaderLaws.{long}
-use Rattle.oplog.proofs.InsertLaws.{front-step, front}
+use Rattle.oplog.proofs.InsertLaws.{front, front-step}
 use Rattle.replay.proofs.ClimbLaws.{parent-read}
 use Rattle.rules.specs.Tree.{parentIn, path, slotOf}
 use Rattle.view.proofs.PathLaws.{written-all}
-use Rattle.view.proofs.TourLaws.{pre}
 use Rattle.view.proofs.paths.write_path.Statement.{statement}
 use Rattle.view.specs.Answers.{Way}
 use Rattle.view.proofs.paths.write_path.Tie as tie

@@ -1,8 +1,6 @@
 -- `view::slots::node_at` meets its contract. Assumes nothing.
 use borrow.Author.Needs.{needs}
 use borrow.Author.Tests.{eq-eqb, ne-eqb}
-use Rattle.rules.proofs.OfferLaws.{taken}
-use Rattle.rules.specs.Tree.{slot}
 use Rattle.view.proofs.slots.node_at.Statement.{statement}
 use Rattle.view.specs.Tables.{nodeAt}
 use Rattle.view.proofs.slots.node_at.Tie as tie

@@ -3,7 +3,6 @@ use borrow.Author.Needs.{needs}
 use borrow.Author.Tests.{le-ltb, lt-ltb}
 use mathlib.Core.Path.{_∙_}
 use native.Mathlib.Omega.{arith}
-use Rattle.rules.proofs.OfferLaws.{taken}
 use Rattle.rules.specs.Tree.{slotOf, slots}
 use Rattle.view.proofs.slots.spot_of.Statement.{statement}
 use Rattle.view.specs.Tables.{spot}

@@ -4,10 +4,7 @@ use borrow.Author.Needs.{needs}
 use denote.Ref.{now}
 use lib.ListN.{length-set}
 use native.Mathlib.Omega.{arith}
-use Rattle.rules.proofs.OfferLaws.{taken}
-use Rattle.rules.specs.Tree.{depth}
-use Rattle.view.proofs.TourLaws.{pre}
-use Rattle.view.proofs.TurnLaws.{push-on, push-none}
+use Rattle.view.proofs.TurnLaws.{push-none, push-on}
 use Rattle.view.proofs.touring.push.Statement.{statement}
 use Rattle.view.proofs.touring.push.Tie as tie
 

@@ -1,16 +1,13 @@
 -- `view::touring::tour` meets its contract. Assumes nothing.
 use Prim.Native.Nat.{_%_, _+_, _-_, _≤_}
 use denote.Ref.{now}
-use lib.ListN.{drop, length-set, take, getD, length}
+use lib.ListN.{drop, getD, length, length-set, take}
 use lib.Seq.{drop-set-lt}
 use mathlib.Core.List.{_++_}
 use mathlib.Core.Path.{refl, sym, _∙_, _≡_}
 use native.Mathlib.Omega.{arith}
-use Rattle.oplog.proofs.FieldLaws.{spot-of}
 use Rattle.replay.specs.Tables.{tables}
-use Rattle.rules.proofs.OfferLaws.{taken}
-use Rattle.view.proofs.TourLaws.{pre}
-use Rattle.view.proofs.TurnLaws.{tour-end, tour-stop, tour-full, tour-done, tour-start, drop-more, tour-turn}
+use Rattle.view.proofs.TurnLaws.{drop-more, tour-done, tour-end, tour-full, tour-start, tour-stop, tour-turn}
 use Rattle.view.proofs.touring.tour.Statement.{statement}
 use Rattle.view.specs.Tables.{depthIn, entry, links, nodeIn, push, tour, tourOf}
 use Rattle.view.specs.Tables as tables

@@ -1,0 +1,46 @@
+use crate::answer::Listed;
+use crate::answer::View;
+use crate::listings::listing;
+use codec::Refusal;
+use oplog::end_of;
+use replica::WIDTH;
+use replica::is_sound;
+ghost use mathlib.Core.Path.{_≡_};
+ghost use Rattle.rules.specs.Log.{width};
+ghost use Rattle.rules.specs.Listing as rules;
+ghost use Rattle.rules.specs.Listing.{refusedLine};
+ghost use Rattle.view.specs.Answers.{listedAnswer, putText};
+
+// Writes the line of a refused input.
+fn refuse(out: &mut [u8]) -> Listed
+    ensures { λ r. ⌜ (listedAnswer r ≡ putText refusedLine (now (out .entry)) .answer) × (now (out .exit) ≡ putText refusedLine (now (out .entry)) .out) ⌝ }
+{
+    if out.len() < 10 {
+        return Listed::Refused(Refusal::NoRoom);
+    }
+    out[0] = b'r';
+    out[1] = b'e';
+    out[2] = b'f';
+    out[3] = b'u';
+    out[4] = b's';
+    out[5] = b'e';
+    out[6] = b'd';
+    out[7] = b' ';
+    out[8] = b'1';
+    out[9] = b'\n';
+    Listed::Accepted(10)
+}
+
+// Writes what the program prints for an input: the keeping view of its log, or that it is
+// refused. No output has more than 24,492 bytes.
+pub fn outline(input: &[u8], out: &mut [u8]) -> Listed
+    ensures { λ r. ⌜ (listedAnswer r ≡ putText (rules.outline width (now (input .entry))) (now (out .entry)) .answer) × (now (out .exit) ≡ putText (rules.outline width (now (input .entry))) (now (out .entry)) .out) ⌝ }
+{
+    if !is_sound(input) {
+        return refuse(out);
+    }
+    if end_of(input, 8, WIDTH) != input.len() {
+        return refuse(out);
+    }
+    listing(input, View::Keeping, out)
+}
