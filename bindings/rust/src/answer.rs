@@ -94,34 +94,24 @@ pub enum Delivery {
     HadIt,
 }
 
-/// The one number that a call of the library answers, taken apart.
-pub(crate) enum Answer {
-    Value(usize),
-    HadIt,
-    Done,
-}
-
-pub(crate) fn read(number: usize) -> Result<Answer, Refusal> {
-    match number {
-        16 => Ok(Answer::HadIt),
-        17 => Ok(Answer::Done),
-        256.. => Ok(Answer::Value(number - 256)),
-        _ => Err(u8::try_from(number)
-            .ok()
-            .and_then(Refusal::from_number)
-            .unwrap_or_else(|| stray(number))),
-    }
-}
+/// The number that says that a delivered op was there already.
+pub(crate) const HAD_IT: usize = 16;
+/// The number that says that judging is done.
+pub(crate) const DONE: usize = 17;
+/// Every value is answered with this added.
+const VALUE: usize = 256;
 
 /// The answer of a call that answers a value or refuses.
 pub(crate) fn value(number: usize) -> Result<usize, Refusal> {
-    match read(number)? {
-        Answer::Value(value) => Ok(value),
-        _ => stray(number),
-    }
+    number.checked_sub(VALUE).ok_or_else(|| refusal(number))
 }
 
-/// By the contracts no call answers this number.
-pub(crate) fn stray(number: usize) -> ! {
-    panic!("the library answered {number}")
+/// The refusal that a number stands for. By the contracts a call answers no
+/// number without a meaning.
+#[cold]
+pub(crate) fn refusal(number: usize) -> Refusal {
+    u8::try_from(number)
+        .ok()
+        .and_then(Refusal::from_number)
+        .unwrap_or_else(|| panic!("the library answered {number}"))
 }

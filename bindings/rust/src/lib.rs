@@ -46,7 +46,7 @@
 mod answer;
 mod ffi;
 
-use answer::{read, stray, value, Answer};
+use answer::{refusal, value, DONE, HAD_IT};
 pub use answer::{Delivery, Refusal};
 
 /// Bytes of an empty log.
@@ -132,11 +132,10 @@ pub fn deliver(buf: &mut [u8], op: &[u8]) -> Result<Delivery, Refusal> {
     // SAFETY: pointers and lengths are those of slices, which do not overlap.
     let number =
         unsafe { ffi::outline_deliver(buf.as_mut_ptr(), buf.len(), op.as_ptr(), op.len()) };
-    match read(number)? {
-        Answer::Value(end) => Ok(Delivery::Accepted(end)),
-        Answer::HadIt => Ok(Delivery::HadIt),
-        Answer::Done => stray(number),
+    if number == HAD_IT {
+        return Ok(Delivery::HadIt);
     }
+    value(number).map(Delivery::Accepted)
 }
 
 /// Issues an add of a new node under a parent, the root or a node of the log.
@@ -278,10 +277,10 @@ pub fn judge(file: &[u8], parents: &mut [u16], outcomes: &mut [u8]) -> Result<()
             outcomes.len(),
         )
     };
-    match read(number)? {
-        Answer::Done => Ok(()),
-        _ => stray(number),
+    if number == DONE {
+        return Ok(());
     }
+    Err(refusal(number))
 }
 
 /// Puts the path of a node into `out`: its number, its parent's, and so on to

@@ -100,9 +100,7 @@ pub enum Side {
 
 /// One call with its arguments and the memory that it is lent.
 pub struct Work {
-    pub call: Call,
-    pub shape: Shape,
-    pub size: usize,
+    call: Call,
     file: Vec<u8>,
     buffer: Vec<u8>,
     op: Vec<u8>,
@@ -121,9 +119,7 @@ impl Work {
         // What a delivery brings: an op that no other counts.
         let op = ops[last].bytes().to_vec();
         // A call that adds fills a log of the greatest size.
-        if size == 0 || (call.adds() && ops.len() == MAX_OPS) {
-            ops.remove(last);
-        } else if call == Call::Deliver {
+        if size == 0 || call == Call::Deliver || (call.adds() && ops.len() == MAX_OPS) {
             ops.remove(last);
         }
         let log = examples::log_of(&ops);
@@ -134,8 +130,6 @@ impl Work {
         let (node, parent) = names(&log);
         Work {
             call,
-            shape,
-            size,
             buffer: file.clone(),
             file,
             op,

@@ -13,7 +13,7 @@ use std::time::Instant;
 
 const USAGE: &str = "fuzz [--calls N] [--seed N] [--exact] [--without NAME]
 
-  --calls N       how many calls to make at least (1000000)
+  --calls N       how many calls to make at least (3000000)
   --seed N        where the input starts (1)
   --exact         no guards: for a memory checker, which sees every access beside lent memory
   --without NAME  leave a call out";
@@ -27,7 +27,7 @@ struct Options {
 
 fn options() -> Result<Options, String> {
     let mut options = Options {
-        calls: 1_000_000,
+        calls: 3_000_000,
         seed: 1,
         exact: false,
         without: None,
