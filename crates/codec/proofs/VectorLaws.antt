@@ -1,7 +1,7 @@
--- Turns of the loops over the eight counts of a vector. Assumes nothing.
+-- Turns of the loops over the eight counts of a vector, and their comparison. Assumes nothing.
 use lib.Seq.{take-suc, take-suc-set}
 use mathlib.Core.Path.{_≡_, refl, sym, _∙_}
-use mathlib.Core.Bool.{Bool, true, _&&_}
+use mathlib.Core.Bool.{Bool, true, false, _&&_}
 use mathlib.Core.List.{List, map}
 use Prim.Native.Nat.{ℕ, _+_, _-_, _≤_, _<_}
 use native.Mathlib.Omega.{arith}
@@ -10,9 +10,8 @@ use lib.Dec.{leb}
 use native.Mathlib.Numerals.{add-one}
 use Rattle.rules.specs.Op.{Vector, countIn, replicas}
 use Rattle.rules.specs.Log.{within}
-use Rattle.rules.specs.Bytes.{upFrom}
+use Rattle.rules.specs.Bytes.{upFrom, all}
 use Rattle.rules.proofs.FileLaws.{count-map}
-use Rattle.rules.proofs.BoolLaws.{pass-all, pass-end, pass-turn, passFrom}
 
 -- a turn of a loop that copies s to the front of v
 pub copy-step : (v s : List ℕ) (i x : ℕ) → take i v ≡ take i s → i < length v → i < length s → x ≡ getD s i 0 → take (i + 1) (set v i x) ≡ take (i + 1) s
@@ -31,18 +30,26 @@ pub build-step : (F : ℕ → ℕ) (v : List ℕ) (i x : ℕ) → take i v ≡ t
 build-step F v i x e h l ex =
     copy-step v (map F replicas) i x e (omega arith) (omega (arith, length-eight F)) (ex ∙ sym (count-map F (i + 1) (omega arith) (omega arith)) ∙ count-of (map F replicas) i)
 
--- a comparison of two vectors, from place i on
-unfoldable pub withinFrom : Vector → Vector → ℕ → Bool
-withinFrom v u i = passFrom (λ s. leb (countIn v s) (countIn u s)) i
+-- a comparison of two vectors, by the replicas with odd and those with even numbers
+and-no : (x : Bool) → (x && false) ≡ false
+and-no true = refl
+and-no false = refl
 
-pub within-all : (v u : Vector) → within v u ≡ withinFrom v u 0
-unfolding within withinFrom
-within-all v u = pass-all (λ s. leb (countIn v s) (countIn u s))
+regroup : (a b c d e f g h : Bool) → (a && (b && (c && (d && (e && (f && (g && (h && true)))))))) ≡ ((a && (c && (e && g))) && (b && (d && (f && h))))
+regroup false b c d e f g h = refl
+regroup true false c d e f g h = sym (and-no (c && (e && g)))
+regroup true true false d e f g h = refl
+regroup true true true false e f g h = sym (and-no (e && g))
+regroup true true true true false f g h = refl
+regroup true true true true true false g h = sym (and-no g)
+regroup true true true true true true false h = refl
+regroup true true true true true true true false = refl
+regroup true true true true true true true true = refl
 
-pub within-turn : (v u : Vector) (i : ℕ) → i < 8 → withinFrom v u i ≡ (leb (getD v i 0) (getD u i 0) && withinFrom v u (i + 1))
-unfolding withinFrom
-within-turn v u i h = pass-turn _ i h ∙ rw (count-of v i, count-of u i)
+module _ (v u : Vector) where
+  abbrev at : ℕ → Bool
+  at i = leb (getD v i 0) (getD u i 0)
 
-pub within-end : (v u : Vector) (i : ℕ) → 8 ≤ i → withinFrom v u i ≡ true
-unfolding withinFrom
-within-end v u i h = pass-end _ i h
+  pub within-halves : within v u ≡ ((at 0 && (at 2 && (at 4 && at 6))) && (at 1 && (at 3 && (at 5 && at 7))))
+  unfolding within all replicas upFrom countIn
+  within-halves = regroup (at 0) (at 1) (at 2) (at 3) (at 4) (at 5) (at 6) (at 7)

@@ -1,5 +1,6 @@
 // Bytes to numbers and back: two-byte words, version vectors by value, and the reader and writer
 // of an op (the paper's record).
+mod lanes;
 mod op;
 mod vector;
 mod word;

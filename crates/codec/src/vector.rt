@@ -1,3 +1,4 @@
+use crate::lanes::four_within;
 ghost use mathlib.Core.Path.{_≡_};
 ghost use Prim.Native.Nat.{_+_, _≤_};
 ghost use lib.ListN.{length, take, drop};
@@ -19,10 +20,8 @@ pub fn vector_at(bytes: &[u8], at: usize) -> [u8; 8]
 pub fn within(v: [u8; 8], u: [u8; 8]) -> bool
     ensures { λ r. ⌜ r ≡ log.within v u ⌝ }
 {
-    for i in 0..8 {
-        if u[i] < v[i] {
-            return false;
-        }
+    if !four_within(v[0], v[2], v[4], v[6], u[0], u[2], u[4], u[6]) {
+        return false;
     }
-    true
+    four_within(v[1], v[3], v[5], v[7], u[1], u[3], u[5], u[7])
 }
