@@ -4,10 +4,11 @@ use mathlib.Core.Bool.{Bool, true, false, cond}
 use mathlib.Core.List.{List, [], _∷_, map, foldl, foldl-append}
 use Prim.Native.Nat.{ℕ, zero, suc, _+_, _-_, _≤_, _<_}
 use native.Mathlib.Omega.{arith}
-use lib.ListN.{length}
+use lib.ListN.{length, getD}
 use borrow.Author.Tests.{lt-ltb, le-ltb, eq-eqb, ne-eqb}
 use native.Mathlib.Numerals.{add-one}
 use native.Mathlib.Decide.{decLt}
+use native.Mathlib.Nat.{le-refl}
 use Rattle.rules.specs.Op.{countIn, kindOf, vectorOf, Vector}
 use Rattle.rules.specs.Replay.{Stamped, State, step}
 use Rattle.rules.specs.Log.{opAt, Log, logOf, within}
@@ -18,7 +19,7 @@ use Rattle.rules.proofs.ListLaws.{concat-nothing, concat-none}
 use Rattle.rules.proofs.BoolLaws.{map-replicas}
 use Rattle.order.proofs.LevelLaws.{count-nothing}
 use Rattle.rules.proofs.CausalLaws.{within-le}
-use Rattle.replay.specs.Tables.{stampedAt, Held}
+use Rattle.replay.specs.Tables.{stampedAt, Held, Span}
 
 module _ (log : Log) (cut done : Vector) (s : ℕ) where
   pub next-none : countIn cut s ≤ countIn done s → nextAt log cut done s ≡ 0
@@ -47,19 +48,32 @@ module _ (log : Log) (t : ℕ) (next : Vector) (k : ℕ) where
   unfoldable pub kindFrom : ℕ → List Stamped
   kindFrom i = concat (map (entry log t next k) (downFrom (8 - i)))
 
-  pub kind-all : levelKind log t next k ≡ kindFrom 0
-  unfolding levelKind kindFrom
-  kind-all = refl
+  -- replicas above the span have no entry, and none below
+  skip : (F : ℕ → List Stamped) (n m : ℕ) → n ≤ m → ((s : ℕ) → n < s → s ≤ m → F s ≡ []) → concat (map F (downFrom m)) ≡ concat (map F (downFrom n))
+  unfolding downFrom concat
+  skip F n zero h e = let z : n ≡ 0 = omega arith in rw z
+  skip F n (suc m) h e = elim (decLt n (suc m)) [
+    | yes l ↦ rw (e (suc m) l (le-refl _)) (skip F n m (omega arith) (λ s a b. e s a (omega arith)))
+    | no l ↦ let z : n ≡ suc m = omega (arith, l) in rw z
+  ]
+
+  module _ (high low : ℕ) (h : Span next high low) where
+    pub kind-all : levelKind log t next k ≡ kindFrom (8 - high)
+    unfolding levelKind kindFrom
+    kind-all =
+        let e : 8 - (8 - high) ≡ high = omega (arith, h .top) in
+        rw e (skip (entry log t next k) high 8 (h .top) (λ s l u. entry-zero s (h .above s l u)))
+
+    pub kind-end : (st : State) (i : ℕ) → 9 - low ≤ i → foldl step st (kindFrom i) ≡ st
+    unfolding kindFrom
+    kind-end st i u =
+        rw (concat-none (entry log t next k) (8 - i) (λ s l v. entry-zero s (h .below s l (omega (arith, h .bottom, h .end)))))
 
   pub kind-turn : (st : State) (i : ℕ) → i < 8 → foldl step st (kindFrom i) ≡ foldl step (foldl step st (entry log t next k (8 - i))) (kindFrom (i + 1))
   unfolding kindFrom downFrom concat
   kind-turn st i h =
       let e : 8 - i ≡ suc (8 - (i + 1)) = omega arith in
       rw e (foldl-append step st (entry log t next k (suc (8 - (i + 1)))) (kindFrom (i + 1)))
-
-  pub kind-end : (st : State) (i : ℕ) → 8 ≤ i → foldl step st (kindFrom i) ≡ st
-  unfolding kindFrom downFrom concat
-  kind-end st i h = let e : 8 - i ≡ 0 = omega arith in rw e
 
 module _ (log : Log) (t : ℕ) (next : Vector) where
   -- the kinds from k on
@@ -98,6 +112,22 @@ module _ (log : Log) (cut : Vector) where
   pub levels-end : (st : State) (t : ℕ) (done : Vector) → 2042 ≤ t → foldl step st (levelsFrom t done) ≡ st
   unfolding levelsFrom levels
   levels-end st t done h = let e : 2042 - t ≡ 0 = omega arith in rw e
+
+---- the span of the replicas that are ready, from above and from below
+
+pub idle-down : (next : Vector) (i : ℕ) → i < 8 → getD next (7 - i) 0 ≡ 0 → ((s : ℕ) → 8 - i < s → s ≤ 8 → countIn next s ≡ 0) → (s : ℕ) → 8 - (i + 1) < s → s ≤ 8 → countIn next s ≡ 0
+unfolding countIn
+idle-down next i h z inv s l u = elim (decLt (8 - i) s) [
+  | yes a ↦ inv s a u
+  | no a ↦ let e : s - 1 ≡ 7 - i = omega (arith, a) in rw e z
+]
+
+pub idle-up : (next : Vector) (i : ℕ) → getD next i 0 ≡ 0 → ((s : ℕ) → 1 ≤ s → s ≤ i → countIn next s ≡ 0) → (s : ℕ) → 1 ≤ s → s ≤ i + 1 → countIn next s ≡ 0
+unfolding countIn
+idle-up next i z inv s l u = elim (decLt i s) [
+  | yes a ↦ let e : s - 1 ≡ i = omega arith in rw e z
+  | no a ↦ inv s l (omega (arith, a))
+]
 
 ---- a level where nothing is ready
 

@@ -1,5 +1,5 @@
 -- What the contracts of the replay say of the lent tables and of the file. Assumes nothing.
-use Prim.Native.Nat.{ℕ, _≤_}
+use Prim.Native.Nat.{ℕ, _≤_, _<_}
 use mathlib.Core.Path.{_≡_}
 use mathlib.Core.Bool.{Bool, true, cond, _||_, not}
 use mathlib.Core.List.{List}
@@ -37,6 +37,14 @@ pub record Held (w : ℕ) (f : List ℕ) (v : Vector) : Type 0 where
   pub wide : 14 ≤ w
   pub is-structural : structural w f ≡ true
   pub each : (s : ℕ) → 1 ≤ s → s ≤ 8 → countIn v s ≤ countAt f s
+
+-- no op is ready of a replica above high or below low
+pub record Span (next : Vector) (high low : ℕ) : Type 0 where
+  pub top : high ≤ 8
+  pub bottom : 1 ≤ low
+  pub end : low ≤ 9
+  pub above : (s : ℕ) → high < s → s ≤ 8 → countIn next s ≡ 0
+  pub below : (s : ℕ) → 1 ≤ s → s < low → countIn next s ≡ 0
 
 -- the effects by the fields of an op
 abbrev pub moves : ℕ → Bool

@@ -6,11 +6,12 @@ use codec::within;
 use oplog::place;
 ghost use mathlib.Core.Path.{_≡_};
 ghost use mathlib.Core.List.{foldl};
-ghost use Prim.Native.Nat.{_≤_};
+ghost use Prim.Native.Nat.{ℕ, _≤_, _<_};
 ghost use Rattle.rules.specs.Log.{logOf};
+ghost use Rattle.rules.specs.Op.{countIn};
 ghost use Rattle.rules.specs.Replay.{step};
 ghost use Rattle.order.specs.Levels.{entry, levelKind, level, levels, nothing};
-ghost use Rattle.replay.specs.Tables.{tables, Sized, Held};
+ghost use Rattle.replay.specs.Tables.{tables, Sized, Held, Span};
 
 // Applies the op of a replica that is ready, if it is of this kind.
 fn replay_entry(
@@ -38,10 +39,36 @@ fn replay_entry(
     apply_op(file, s, q, time, parents, outcomes, placed, width);
 }
 
-// The ops of a level and a kind, the higher replica first.
+// The highest replica that is ready, or 0.
+fn highest(next: [u8; 8]) -> usize
+    ensures { λ r. ⌜ (r ≤ 8) × ((s : ℕ) → r < s → s ≤ 8 → countIn next s ≡ 0) ⌝ }
+{
+    for i in 0..8usize {
+        if next[7 - i] != 0 {
+            return 8 - i;
+        }
+    }
+    0
+}
+
+// The lowest replica that is ready, or 9.
+fn lowest(next: [u8; 8]) -> usize
+    ensures { λ r. ⌜ (1 ≤ r) × (r ≤ 9) × ((s : ℕ) → 1 ≤ s → s < r → countIn next s ≡ 0) ⌝ }
+{
+    for i in 0..8usize {
+        if next[i] != 0 {
+            return i + 1;
+        }
+    }
+    9
+}
+
+// The ops of a level and a kind, the higher replica first. None is ready above high or below low.
 fn replay_kind(
     file: &[u8],
     next: [u8; 8],
+    high: usize,
+    low: usize,
     time: u16,
     kind: u8,
     parents: &mut [u16],
@@ -49,10 +76,12 @@ fn replay_kind(
     placed: &mut [u16],
     width: usize,
 )
-    requires { ⌜ Held width (now file) next × Sized (now parents) (now outcomes) (now placed) ⌝ }
+    requires { ⌜ Held width (now file) next × Sized (now parents) (now outcomes) (now placed) × Span next high low ⌝ }
     ensures { λ _. ⌜ tables (now (parents .exit)) (now (outcomes .exit)) (now (placed .exit)) ≡ foldl step (tables (now (parents .entry)) (now (outcomes .entry)) (now (placed .entry))) (levelKind (logOf width (now (file .entry))) time next kind) ⌝ }
 {
-    for i in 0..8usize {
+    let from = 8 - high;
+    let to = 9 - low;
+    for i in from..to {
         let s = 8 - i;
         replay_entry(file, next, time, kind, s, parents, outcomes, placed, width);
     }
@@ -71,8 +100,21 @@ fn replay_level(
     requires { ⌜ Held width (now file) next × Sized (now parents) (now outcomes) (now placed) ⌝ }
     ensures { λ _. ⌜ tables (now (parents .exit)) (now (outcomes .exit)) (now (placed .exit)) ≡ foldl step (tables (now (parents .entry)) (now (outcomes .entry)) (now (placed .entry))) (level (logOf width (now (file .entry))) time next) ⌝ }
 {
+    let high = highest(next);
+    let low = lowest(next);
     for kind in 1..5u8 {
-        replay_kind(file, next, time, kind, parents, outcomes, placed, width);
+        replay_kind(
+            file,
+            next,
+            high,
+            low,
+            time,
+            kind,
+            parents,
+            outcomes,
+            placed,
+            width,
+        );
     }
 }
 

@@ -1,7 +1,7 @@
 -- `replay::level::replay_kind` meets its contract. Assumes nothing.
 use mathlib.Core.Path.{_≡_, sym, ap, _∙_}
 use mathlib.Core.List.{foldl}
-use Prim.Native.Nat.{_+_, _-_, _≤_}
+use Prim.Native.Nat.{_+_, _-_}
 use native.Mathlib.Omega.{arith}
 use denote.Ref.{now}
 use Rattle.rules.specs.Log.{logOf}
@@ -13,16 +13,22 @@ use Rattle.replay.proofs.TurnLaws.{kind-all, kindFrom, kind-turn, kind-
 use Rattle.replay.proofs.level.replay_kind.Tie as tie
 
 abbrev Inv-loop : tie.InvT-loop
-Inv-loop file next time kind parents₀ outcomes₀ placed₀ width i₀ parents outcomes placed i = (i ≤ 8) × Sized parents outcomes placed × (foldl step (tables parents₀ outcomes₀ placed₀) (levelKind (logOf width file) time next kind) ≡ foldl step (tables parents outcomes placed) (kindFrom (logOf width file) time next kind i))
+Inv-loop file next high low time kind parents₀ outcomes₀ placed₀ width from to i₀ parents outcomes placed i = Sized parents outcomes placed × (foldl step (tables parents₀ outcomes₀ placed₀) (levelKind (logOf width file) time next kind) ≡ foldl step (tables parents outcomes placed) (kindFrom (logOf width file) time next kind i))
 
 abbrev μ-loop : tie.MeasureT-loop
-μ-loop file next time kind parents₀ outcomes₀ placed₀ width i₀ parents outcomes placed i = 8 - i
+μ-loop file next high low time kind parents₀ outcomes₀ placed₀ width from to i₀ parents outcomes placed i = to - i
 
 loop-holds : tie.Need-loop-holds Inv-loop μ-loop
-loop-holds c = (omega arith, c .before .before .before .before .pre .1, rw kind-all)
+loop-holds c = let p = c .before .before .before .before .pre in (p .1, rw (kind-all _ _ _ _ _ _ (p .2)))
+
+sub-from : tie.Need-sub-from Inv-loop μ-loop
+sub-from c = omega (arith, c .before .before .before .before .pre .2 .top)
+
+sub-to : tie.Need-sub-to Inv-loop μ-loop
+sub-to c = omega (arith, c .before .before .before .before .pre .2 .end)
 
 replay-entry-requires : tie.Need-replay-entry-requires Inv-loop μ-loop
-replay-entry-requires c κs = (c .before .before .before .before .before .before .before .before .before .pre .0, omega arith, omega arith, c .before .before .before .before .loop .inv .1)
+replay-entry-requires c κs = let p = c .before .before .before .before .before .before .before .before .before .pre in (p .0, omega (arith, p .2 .bottom), omega arith, c .before .before .before .before .loop .inv .0)
 
 loop-again : tie.Need-loop-again Inv-loop μ-loop
 loop-again c =
@@ -30,25 +36,24 @@ loop-again c =
     let log = logOf (s .width) (now (s .file)) in
     let l = c .before .before .before .before .before .before .before .before .before .before .before .loop in
     let j = c .before .before .before .before .before .before .replay-entry in (
-      omega arith,
       record { parents = omega (arith, j .kept .1 .1 .1 .1 .1 .0); outcomes = omega (arith, j .kept .1 .1 .1 .1 .1 .1 .0); placed = omega (arith, j .kept .1 .1 .1 .1 .1 .1 .1 .0) },
-      l .inv .2 ∙ kind-turn log (s .time) (s .next) (s .kind) (tables (l .parents) (l .outcomes) (l .placed)) (l .i) (omega arith) ∙ ap (λ st. foldl step st (kindFrom log (s .time) (s .next) (s .kind) (l .i + 1))) (sym (j .ensures)),
+      l .inv .1 ∙ kind-turn log (s .time) (s .next) (s .kind) (tables (l .parents) (l .outcomes) (l .placed)) (l .i) (omega (arith, c .before .before .before .before .before .before .before .before .before .before .before .before .before .before .before .before .pre .2 .bottom)) ∙ ap (λ st. foldl step st (kindFrom log (s .time) (s .next) (s .kind) (l .i + 1))) (sym (j .ensures)),
     )
 
 same-length : tie.Need-same-length Inv-loop μ-loop
-same-length c = c .before .loop .inv .1 .parents ∙ sym (c .before .before .before .before .before .before .pre .1 .parents)
+same-length c = c .before .loop .inv .0 .parents ∙ sym (c .before .before .before .before .before .before .pre .1 .parents)
 
 same-length-2 : tie.Need-same-length-2 Inv-loop μ-loop
-same-length-2 c = c .before .loop .inv .1 .outcomes ∙ sym (c .before .before .before .before .before .before .pre .1 .outcomes)
+same-length-2 c = c .before .loop .inv .0 .outcomes ∙ sym (c .before .before .before .before .before .before .pre .1 .outcomes)
 
 same-length-3 : tie.Need-same-length-3 Inv-loop μ-loop
-same-length-3 c = c .before .loop .inv .1 .placed ∙ sym (c .before .before .before .before .before .before .pre .1 .placed)
+same-length-3 c = c .before .loop .inv .0 .placed ∙ sym (c .before .before .before .before .before .before .pre .1 .placed)
 
 returns : tie.Need-returns Inv-loop μ-loop
 returns c =
     let s = c .before .before .before .before .before .before .args in
     let l = c .before .loop in
-    sym (l .inv .2 ∙ kind-end (logOf (s .width) (now (s .file))) (s .time) (s .next) (s .kind) (tables (l .parents) (l .outcomes) (l .placed)) (l .i) (omega arith))
+    sym (l .inv .1 ∙ kind-end (logOf (s .width) (now (s .file))) (s .time) (s .next) (s .kind) (s .high) (s .low) (c .before .before .before .before .before .before .pre .2) (tables (l .parents) (l .outcomes) (l .placed)) (l .i) (omega arith))
 
 pub replay-kind-spec : {M : Type 1} → statement M
 replay-kind-spec =
@@ -56,8 +61,10 @@ replay-kind-spec =
     (tie.spec
     Inv-loop
     μ-loop
+    sub-from
+    sub-to
     loop-holds
-    (λ c. omega arith)
+    (λ c. omega (arith, c .before .before .before .before .before .before .pre .2 .bottom))
     replay-entry-requires
     (λ c. omega arith)
     (λ c. omega arith)

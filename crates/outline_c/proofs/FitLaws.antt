@@ -1,0 +1,61 @@
+-- What a call accepts leaves room for the 256 above it: a file end is at most the length of its buffer. Assumes nothing.
+use Prim.Native.Nat.{ℕ, _≤_}
+use lib.ListN.{length}
+use mathlib.Core.List.{List}
+use mathlib.Core.Path.{_≡_, refl, transport, ap}
+use native.Mathlib.Omega.{arith}
+use Rattle.outline_c.specs.Number.{fits}
+use Rattle.rules.specs.Views.{View}
+use Rattle.rules.specs.Listing.{listingAnswer, listingOf, listing}
+use Rattle.rules.specs.Path.{pathAnswer, pathOf, pathCall}
+use Rattle.rules.proofs.DeliverLaws.{admitted, required, accepted-same}
+use Rattle.rules.proofs.IssueLaws.{allowed}
+use Rattle.rules.specs.Answer.{Answer, refused, hadIt, done, accepted}
+use Rattle.rules.specs.Deliver.{makeAnswer, deliverAnswer}
+use Rattle.rules.specs.Issue.{Request, issueAnswer}
+use borrow.Author.Tests.{leb-true}
+use Rattle.rules.specs.Log.{width, logOf}
+
+-- an answer fits if what it accepts does
+pub fits-if : (a : Answer) → ((n : ℕ) → a ≡ accepted n → n ≤ 9223372036854775807) → fits a
+unfolding fits
+fits-if (refused n) h = tt
+fits-if hadIt h = tt
+fits-if done h = tt
+fits-if (accepted n) h = h n refl
+
+pub make-fits : (f : List ℕ) → fits (makeAnswer f)
+unfolding makeAnswer
+make-fits f = fits-if (makeAnswer f) (λ n e. omega (arith, accepted-same 32 n (required _ _ _ n e .1)))
+
+pub deliver-fits : (f r : List ℕ) → length f ≤ 9223372036854775807 → fits (deliverAnswer width f r)
+deliver-fits f r h =
+    fits-if (deliverAnswer width f r) (λ n e. omega (arith, admitted width f r n e .room, admitted width f r n e .end))
+
+pub issue-fits : (f : List ℕ) (room s : ℕ) (q : Request) → length f ≤ 9223372036854775807 → fits (issueAnswer width f room s q)
+issue-fits f room s q h =
+    fits-if (issueAnswer width f room s q)
+    (λ n e. omega (arith, allowed width f room s q n e .room-left, allowed width f room s q n e .end))
+
+pub path-fits : (f : List ℕ) (n : ℕ) (out : List ℕ) → length out ≤ 9223372036854775807 → fits (pathCall width f n out .answer)
+unfolding pathCall pathAnswer
+path-fits f n out h =
+    fits-if (pathAnswer width f (length out) n)
+    (λ m e.
+    let c = required _ _ _ m (required _ _ _ m (required _ _ _ m e .1) .1) in
+    let room : length (pathOf (logOf width f) n) ≤ length out = leb-true _ _ (c .0) in
+    omega (arith, room, accepted-same _ m (c .1)))
+
+pub listing-fits : (f : List ℕ) (v : View) (out : List ℕ) → length out ≤ 9223372036854775807 → fits (listing width f v out .answer)
+unfolding listing listingAnswer
+listing-fits f v out h =
+    fits-if (listingAnswer width f v (length out))
+    (λ m e.
+    let c = required _ _ _ m (required _ _ _ m e .1) in
+    let room : length (listingOf v (logOf width f)) ≤ length out = leb-true _ _ (c .0) in
+    omega (arith, room, accepted-same _ m (c .1)))
+
+-- an answer that fits and accepts a value
+pub value-fits : (a : Answer) (n : ℕ) → a ≡ accepted n → fits a → n ≤ 9223372036854775807
+unfolding fits
+value-fits a n e h = transport (ap fits e) h

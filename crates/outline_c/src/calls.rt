@@ -1,0 +1,113 @@
+use crate::answer::delivery_number;
+use crate::answer::issue_number;
+use crate::answer::judged_number;
+use crate::answer::listed_number;
+use crate::answer::made_number;
+use replica::deliver;
+use replica::issue_add;
+use replica::issue_move;
+use replica::issue_remove;
+use replica::judge;
+use replica::make;
+use view::View;
+use view::listing;
+use view::path;
+ghost use mathlib.Core.Path.{_≡_};
+ghost use Rattle.rules.specs.Deliver as delivering;
+ghost use Rattle.rules.specs.Issue as issuing;
+ghost use Rattle.rules.specs.Issue.{add, remove, move};
+ghost use Rattle.rules.specs.Judge as judging;
+ghost use Rattle.rules.specs.Listing as listings;
+ghost use Rattle.rules.specs.Log.{width};
+ghost use Rattle.rules.specs.Path.{pathCall};
+ghost use Rattle.view.specs.Answers.{viewOf};
+ghost use Rattle.outline_c.specs.Number.{number, viewFor};
+
+// Makes an empty log in a buffer.
+#[no_mangle]
+pub extern "C" fn outline_make(buf: &mut [u8]) -> usize
+    ensures { λ r. ⌜ (r ≡ number (delivering.make width (now (buf .entry)) .answer)) × (now (buf .exit) ≡ delivering.make width (now (buf .entry)) .buffer) ⌝ }
+{
+    made_number(make(buf))
+}
+
+// Delivers an op to the log in a buffer.
+#[no_mangle]
+pub extern "C" fn outline_deliver(buf: &mut [u8], op: &[u8]) -> usize
+    ensures { λ r. ⌜ (r ≡ number (delivering.deliver width (now (buf .entry)) (now (op .entry)) .answer)) × (now (buf .exit) ≡ delivering.deliver width (now (buf .entry)) (now (op .entry)) .buffer) ⌝ }
+{
+    delivery_number(deliver(buf, op))
+}
+
+// Issues an add of a new node under a parent.
+#[no_mangle]
+pub extern "C" fn outline_issue_add(
+    buf: &mut [u8],
+    replica: u8,
+    parent: u16,
+    out: &mut [u8],
+) -> usize
+    ensures { λ r. ⌜ (r ≡ number (issuing.issue width (now (buf .entry)) (now (out .entry)) replica (add parent) .answer)) × (now (buf .exit) ≡ issuing.issue width (now (buf .entry)) (now (out .entry)) replica (add parent) .buffer) × (now (out .exit) ≡ issuing.issue width (now (buf .entry)) (now (out .entry)) replica (add parent) .out) ⌝ }
+{
+    issue_number(issue_add(buf, replica, parent, out))
+}
+
+// Issues a remove of a node.
+#[no_mangle]
+pub extern "C" fn outline_issue_remove(
+    buf: &mut [u8],
+    replica: u8,
+    node: u16,
+    out: &mut [u8],
+) -> usize
+    ensures { λ r. ⌜ (r ≡ number (issuing.issue width (now (buf .entry)) (now (out .entry)) replica (remove node) .answer)) × (now (buf .exit) ≡ issuing.issue width (now (buf .entry)) (now (out .entry)) replica (remove node) .buffer) × (now (out .exit) ≡ issuing.issue width (now (buf .entry)) (now (out .entry)) replica (remove node) .out) ⌝ }
+{
+    issue_number(issue_remove(buf, replica, node, out))
+}
+
+// Issues a move of a node under a new parent.
+#[no_mangle]
+pub extern "C" fn outline_issue_move(
+    buf: &mut [u8],
+    replica: u8,
+    node: u16,
+    parent: u16,
+    out: &mut [u8],
+) -> usize
+    ensures { λ r. ⌜ (r ≡ number (issuing.issue width (now (buf .entry)) (now (out .entry)) replica (move node parent) .answer)) × (now (buf .exit) ≡ issuing.issue width (now (buf .entry)) (now (out .entry)) replica (move node parent) .buffer) × (now (out .exit) ≡ issuing.issue width (now (buf .entry)) (now (out .entry)) replica (move node parent) .out) ⌝ }
+{
+    issue_number(issue_move(buf, replica, node, parent, out))
+}
+
+// Replays a log into two lent tables.
+#[no_mangle]
+pub extern "C" fn outline_judge(file: &[u8], parents: &mut [u16], outcomes: &mut [u8]) -> usize
+    ensures { λ r. ⌜ (r ≡ number (judging.judge width (now (file .entry)) (now (parents .entry)) (now (outcomes .entry)) .answer)) × (now (parents .exit) ≡ judging.judge width (now (file .entry)) (now (parents .entry)) (now (outcomes .entry)) .parents) × (now (outcomes .exit) ≡ judging.judge width (now (file .entry)) (now (parents .entry)) (now (outcomes .entry)) .outcomes) ⌝ }
+{
+    judged_number(judge(file, parents, outcomes))
+}
+
+// Puts the path of a node into lent entries.
+#[no_mangle]
+pub extern "C" fn outline_path(file: &[u8], node: u16, out: &mut [u16]) -> usize
+    ensures { λ r. ⌜ (r ≡ number (pathCall width (now (file .entry)) node (now (out .entry)) .answer)) × (now (out .exit) ≡ pathCall width (now (file .entry)) node (now (out .entry)) .out) ⌝ }
+{
+    listed_number(path(file, node, out))
+}
+
+fn view_for(skipping: bool) -> View
+    ensures { λ r. ⌜ viewOf r ≡ viewFor skipping ⌝ }
+{
+    if skipping {
+        return View::Skipping;
+    }
+    View::Keeping
+}
+
+// Writes the listing of a view into lent bytes.
+#[no_mangle]
+pub extern "C" fn outline_listing(file: &[u8], skipping: bool, out: &mut [u8]) -> usize
+    ensures { λ r. ⌜ (r ≡ number (listings.listing width (now (file .entry)) (viewFor skipping) (now (out .entry)) .answer)) × (now (out .exit) ≡ listings.listing width (now (file .entry)) (viewFor skipping) (now (out .entry)) .out) ⌝ }
+{
+    listed_number(listing(file, view_for(skipping), out))
+}

@@ -1,0 +1,13 @@
+// The calls of the library for programs in other languages: each answers one number, and lent
+// memory is a pointer and a length. include/outline.h declares them for C.
+mod answer;
+mod calls;
+
+pub use calls::outline_deliver;
+pub use calls::outline_issue_add;
+pub use calls::outline_issue_move;
+pub use calls::outline_issue_remove;
+pub use calls::outline_judge;
+pub use calls::outline_listing;
+pub use calls::outline_make;
+pub use calls::outline_path;

@@ -1,0 +1,126 @@
+/*
+ * Two machines, each with a log of its own. One makes two headings and the
+ * other gets them; then, apart, each moves a heading below the other's. They
+ * meet, hand each other their ops, and hold the same file and the same tree.
+ */
+#include "outline.h"
+
+#include <inttypes.h>
+#include <stdio.h>
+#include <stdlib.h>
+#include <string.h>
+
+struct machine {
+    uint8_t replica;
+    uint8_t log[OUTLINE_LARGEST];
+    size_t end;
+};
+
+static const char *name_of(size_t answer) {
+    static const char *const names[] = {
+        "?", "unsound", "length", "malformed", "conflict", "early", "not closed", "unknown",
+        "no room", "exhausted", "cycle",
+    };
+    if (outline_refused(answer)) return answer < 11 ? names[answer] : "?";
+    if (answer == OUTLINE_HAD_IT) return "had it";
+    return answer == OUTLINE_DONE ? "done" : "accepted";
+}
+
+/* Ends the program where something is refused that cannot be. */
+static size_t value_of(size_t answer) {
+    if (outline_refused(answer)) {
+        fprintf(stderr, "refused %zu: %s\n", answer, name_of(answer));
+        exit(1);
+    }
+    return outline_value(answer);
+}
+
+static void start(struct machine *m, uint8_t replica) {
+    m->replica = replica;
+    m->end = value_of(outline_make(m->log, sizeof m->log));
+}
+
+static uint16_t add(struct machine *m, uint16_t parent) {
+    uint8_t op[OUTLINE_OP];
+    m->end = value_of(outline_issue_add(m->log, sizeof m->log, m->replica, parent, op, sizeof op));
+    uint16_t node = (uint16_t)(256 * op[2] + op[3]);
+    printf("machine %d adds node %d under %d\n", m->replica, node, parent);
+    return node;
+}
+
+static void move(struct machine *m, uint16_t node, uint16_t parent) {
+    uint8_t op[OUTLINE_OP];
+    size_t answer = outline_issue_move(m->log, sizeof m->log, m->replica, node, parent, op, sizeof op);
+    printf("machine %d moves node %d under %d: %s\n", m->replica, node, parent, name_of(answer));
+    if (!outline_refused(answer)) m->end = outline_value(answer);
+}
+
+/* Hands every op of one log to another, again and again while some are early. */
+static void hand_over(const struct machine *from, struct machine *to) {
+    bool early = true;
+    while (early) {
+        early = false;
+        for (size_t at = OUTLINE_HEADER; at < from->end; at += OUTLINE_OP) {
+            size_t answer = outline_deliver(to->log, sizeof to->log, from->log + at, OUTLINE_OP);
+            printf("machine %d gets the op at %zu of machine %d: %s\n", to->replica, at, from->replica,
+                   name_of(answer));
+            if (answer == OUTLINE_EARLY) early = true;
+            else if (answer != OUTLINE_HAD_IT) to->end = value_of(answer);
+        }
+    }
+}
+
+static void show(const struct machine *m) {
+    static uint8_t text[OUTLINE_LONGEST_LISTING];
+    size_t length = value_of(outline_listing(m->log, m->end, false, text, sizeof text));
+    printf("machine %d (depth, node, k kept or r removed):\n", m->replica);
+    fwrite(text, 1, length, stdout);
+}
+
+/* The outcome of every move. */
+static void judge(const struct machine *m) {
+    static uint16_t parents[OUTLINE_TABLE];
+    static uint8_t outcomes[OUTLINE_TABLE];
+    static const char *const said[] = {"no op", "applied", "lost to another move of the node",
+                                       "would have closed a circle"};
+    value_of(outline_judge(m->log, m->end, parents, OUTLINE_TABLE, outcomes, OUTLINE_TABLE));
+    for (uint8_t s = 1; s <= 8; s++)
+        for (int q = 1; q <= 255; q++) {
+            uint8_t outcome = outcomes[outline_slot(outline_node(s, (uint8_t)q))];
+            if (outcome != OUTLINE_NO_OP)
+                printf("op %d of machine %d: %s\n", q, s, said[outcome]);
+        }
+}
+
+static void show_path(const struct machine *m, uint16_t node) {
+    uint16_t path[OUTLINE_LONGEST_PATH];
+    size_t steps = value_of(outline_path(m->log, m->end, node, path, OUTLINE_LONGEST_PATH));
+    printf("path of %d:", node);
+    for (size_t i = 0; i < steps; i++) printf(" %" PRIu16, path[i]);
+    printf("\n");
+}
+
+int main(void) {
+    static struct machine one, two;
+    start(&one, 1);
+    start(&two, 2);
+
+    uint16_t a = add(&one, OUTLINE_ROOT);
+    uint16_t b = add(&one, OUTLINE_ROOT);
+    hand_over(&one, &two);
+
+    move(&one, b, a);
+    move(&two, a, b);
+    show(&one);
+    show(&two);
+
+    hand_over(&one, &two);
+    hand_over(&two, &one);
+    bool same = one.end == two.end && memcmp(one.log, two.log, one.end) == 0;
+    printf("the files are %s: %zu bytes\n", same ? "the same" : "different", one.end);
+    show(&one);
+    judge(&one);
+    show_path(&one, a);
+    move(&one, b, a);
+    return same ? 0 : 1;
+}

@@ -1,0 +1,142 @@
+//! Making, delivering, issuing and judging.
+
+use super::log::{Layout, Log, Op, ADD, DOWN, HEADER, OP, REMOVE, REPLICAS, UP};
+use super::replay::{depth, is_below, replay, NO_PARENT, SLOTS};
+use outline_model::{refusal, Answer};
+
+pub fn answer(result: Result<Answer, u8>) -> Answer {
+    result.unwrap_or_else(Answer::Refused)
+}
+
+#[inline(never)]
+pub fn make(buffer: &mut [u8]) -> Answer {
+    let Some(header) = buffer.get_mut(..HEADER) else {
+        return Answer::Refused(refusal::ROOM);
+    };
+    for entry in header.chunks_exact_mut(4) {
+        entry.copy_from_slice(&[0, 0, 0, HEADER as u8]);
+    }
+    Answer::Accepted(HEADER)
+}
+
+#[inline(never)]
+pub fn deliver(buffer: &mut [u8], op: &[u8]) -> Answer {
+    answer(try_deliver(buffer, op))
+}
+
+fn try_deliver(buffer: &mut [u8], bytes: &[u8]) -> Result<Answer, u8> {
+    let log = Log::open(buffer).ok_or(refusal::UNSOUND)?;
+    let op = Op::read(bytes)?;
+    if op.sequence() <= usize::from(log.layout.counts[op.index()]) {
+        let held = log.op(op.index(), op.sequence());
+        return if held.0 == op.0 {
+            Ok(Answer::HadIt)
+        } else {
+            Err(refusal::CONFLICT)
+        };
+    }
+    log.test(op)?;
+    let layout = log.layout;
+    append(buffer, layout, op.index(), op.0)
+}
+
+/// Test 8, then the op is put in its place.
+fn append(buffer: &mut [u8], layout: Layout, index: usize, op: &[u8; OP]) -> Result<Answer, u8> {
+    if buffer.len() < layout.end + OP {
+        return Err(refusal::ROOM);
+    }
+    Ok(Answer::Accepted(layout.insert(buffer, index, op)))
+}
+
+#[inline(never)]
+pub fn issue_add(buffer: &mut [u8], replica: u8, parent: u16, out: &mut [u8]) -> Answer {
+    answer(issue(buffer, replica, out, |log, sequence| {
+        if !log.knows_parent(&log.layout.counts, parent) {
+            return Err(refusal::UNKNOWN);
+        }
+        Ok((ADD, u16::from_be_bytes([replica, sequence]), parent))
+    }))
+}
+
+#[inline(never)]
+pub fn issue_remove(buffer: &mut [u8], replica: u8, node: u16, out: &mut [u8]) -> Answer {
+    answer(issue(buffer, replica, out, |log, _| {
+        if !log.knows(&log.layout.counts, node) {
+            return Err(refusal::UNKNOWN);
+        }
+        Ok((REMOVE, node, 0))
+    }))
+}
+
+#[inline(never)]
+pub fn issue_move(
+    buffer: &mut [u8],
+    replica: u8,
+    node: u16,
+    parent: u16,
+    out: &mut [u8],
+) -> Answer {
+    answer(issue(buffer, replica, out, |log, _| {
+        let counts = &log.layout.counts;
+        if !log.knows(counts, node) || !log.knows_parent(counts, parent) || parent == node {
+            return Err(refusal::UNKNOWN);
+        }
+        let mut parents = [NO_PARENT; SLOTS];
+        let mut outcomes = [0; SLOTS];
+        replay(log, &mut parents, &mut outcomes);
+        if is_below(&parents, parent, node) {
+            return Err(refusal::BELOW_ITSELF);
+        }
+        let upward = depth(&parents, parent) < depth(&parents, node);
+        Ok((if upward { UP } else { DOWN }, node, parent))
+    }))
+}
+
+/// Tests 1, 2, 3 and 9; `draft` makes 7 and 10, and gives kind, node and parent.
+fn issue(
+    buffer: &mut [u8],
+    replica: u8,
+    out: &mut [u8],
+    draft: impl FnOnce(&Log, u8) -> Result<(u8, u16, u16), u8>,
+) -> Result<Answer, u8> {
+    let log = Log::open(buffer).ok_or(refusal::UNSOUND)?;
+    let out: &mut [u8; OP] = out
+        .get_mut(..OP)
+        .and_then(|out| out.try_into().ok())
+        .ok_or(refusal::LENGTH)?;
+    let index = usize::from(replica).wrapping_sub(1);
+    if index >= REPLICAS {
+        return Err(refusal::FORM);
+    }
+    let sequence = log.layout.counts[index]
+        .checked_add(1)
+        .ok_or(refusal::REPLICA_FULL)?;
+    let (kind, node, parent) = draft(&log, sequence)?;
+    let layout = log.layout;
+    let mut op = [0; OP];
+    op[0] = kind;
+    op[1] = replica;
+    op[2..4].copy_from_slice(&node.to_be_bytes());
+    op[4..6].copy_from_slice(&parent.to_be_bytes());
+    op[6..].copy_from_slice(&layout.counts);
+    let accepted = append(buffer, layout, index, &op)?;
+    *out = op;
+    Ok(accepted)
+}
+
+#[inline(never)]
+pub fn judge(file: &[u8], parents: &mut [u16], outcomes: &mut [u8]) -> Answer {
+    answer(try_judge(file, parents, outcomes))
+}
+
+fn try_judge(file: &[u8], parents: &mut [u16], outcomes: &mut [u8]) -> Result<Answer, u8> {
+    let log = Log::open(file).ok_or(refusal::UNSOUND)?;
+    let parents = parents.get_mut(..SLOTS).ok_or(refusal::LENGTH)?;
+    let outcomes = outcomes.get_mut(..SLOTS).ok_or(refusal::LENGTH)?;
+    replay(
+        &log,
+        parents.try_into().expect("2,041 entries"),
+        outcomes.try_into().expect("2,041 entries"),
+    );
+    Ok(Answer::Done)
+}

@@ -1,0 +1,206 @@
+//! A log in a lent buffer: its layout, its soundness, and adding an op.
+
+use outline_model::refusal;
+
+pub const REPLICAS: usize = 8;
+pub const HEADER: usize = 32;
+pub const OP: usize = 14;
+const MOST: usize = 255;
+
+pub type Vector = [u8; REPLICAS];
+
+pub const ADD: u8 = 1;
+pub const REMOVE: u8 = 2;
+pub const UP: u8 = 3;
+pub const DOWN: u8 = 4;
+
+/// The 14 bytes of an op.
+#[derive(Clone, Copy)]
+pub struct Op<'a>(pub &'a [u8; OP]);
+
+impl<'a> Op<'a> {
+    pub fn kind(self) -> u8 {
+        self.0[0]
+    }
+
+    pub fn replica(self) -> u8 {
+        self.0[1]
+    }
+
+    pub fn node(self) -> u16 {
+        u16::from_be_bytes([self.0[2], self.0[3]])
+    }
+
+    pub fn parent(self) -> u16 {
+        u16::from_be_bytes([self.0[4], self.0[5]])
+    }
+
+    pub fn vector(self) -> &'a Vector {
+        self.0[6..].try_into().expect("eight counts")
+    }
+
+    /// Where its replica stands in a vector.
+    pub fn index(self) -> usize {
+        usize::from(self.replica()) - 1
+    }
+
+    pub fn sequence(self) -> usize {
+        usize::from(self.vector()[self.index()]) + 1
+    }
+
+    /// Kind and parent, of an op whose replica is right.
+    fn fits(self) -> bool {
+        match self.kind() {
+            ADD | UP | DOWN => true,
+            REMOVE => self.parent() == 0,
+            _ => false,
+        }
+    }
+
+    /// Tests 2 and 3 of a delivered op.
+    pub fn read(bytes: &'a [u8]) -> Result<Op<'a>, u8> {
+        let op = Op(bytes.try_into().map_err(|_| refusal::LENGTH)?);
+        let replica = usize::from(op.replica());
+        if !(1..=REPLICAS).contains(&replica) || op.sequence() > MOST || !op.fits() {
+            return Err(refusal::FORM);
+        }
+        Ok(op)
+    }
+}
+
+/// Whether `a` is nowhere greater than `b`.
+pub fn at_most(a: &Vector, b: &Vector) -> bool {
+    a.iter().zip(b).all(|(x, y)| x <= y)
+}
+
+/// A buffer with a sound log, and its header.
+#[derive(Clone, Copy)]
+pub struct Log<'a> {
+    bytes: &'a [u8],
+    pub layout: Layout,
+}
+
+/// What the header says.
+#[derive(Clone, Copy)]
+pub struct Layout {
+    pub counts: Vector,
+    starts: [usize; REPLICAS],
+    pub end: usize,
+}
+
+impl Layout {
+    fn read(bytes: &[u8]) -> Option<Layout> {
+        let header = bytes.get(..HEADER)?;
+        let mut layout = Layout {
+            counts: [0; REPLICAS],
+            starts: [0; REPLICAS],
+            end: HEADER,
+        };
+        for (i, entry) in header.chunks_exact(4).enumerate() {
+            let count = u16::from_be_bytes([entry[0], entry[1]]);
+            let start = usize::from(u16::from_be_bytes([entry[2], entry[3]]));
+            if usize::from(count) > MOST || start != layout.end {
+                return None;
+            }
+            layout.counts[i] = count as u8;
+            layout.starts[i] = start;
+            layout.end += OP * usize::from(count);
+        }
+        (layout.end <= bytes.len()).then_some(layout)
+    }
+
+    /// Writes the op behind those of its replica; there is room for it.
+    pub fn insert(&self, buffer: &mut [u8], index: usize, op: &[u8; OP]) -> usize {
+        let place = self.starts[index] + OP * usize::from(self.counts[index]);
+        buffer.copy_within(place..self.end, place + OP);
+        buffer[place..place + OP].copy_from_slice(op);
+        let count = u16::from(self.counts[index]) + 1;
+        buffer[4 * index..4 * index + 2].copy_from_slice(&count.to_be_bytes());
+        for later in index + 1..REPLICAS {
+            let start = (self.starts[later] + OP) as u16;
+            buffer[4 * later + 2..4 * later + 4].copy_from_slice(&start.to_be_bytes());
+        }
+        self.end + OP
+    }
+}
+
+impl<'a> Log<'a> {
+    /// The log, if it is sound.
+    pub fn open(bytes: &'a [u8]) -> Option<Log<'a>> {
+        let layout = Layout::read(bytes)?;
+        let log = Log { bytes, layout };
+        log.is_sound().then_some(log)
+    }
+
+    fn is_sound(&self) -> bool {
+        (0..REPLICAS).all(|index| {
+            (1..=usize::from(self.layout.counts[index])).all(|q| self.op_sound(index, q))
+        })
+    }
+
+    fn op_sound(&self, index: usize, sequence: usize) -> bool {
+        let op = self.op(index, sequence);
+        usize::from(op.replica()) == index + 1
+            && usize::from(op.vector()[index]) == sequence - 1
+            && op.fits()
+            && self.test(op).is_ok()
+    }
+
+    /// Op number `sequence`, from 1, of a replica.
+    pub fn op(&self, index: usize, sequence: usize) -> Op<'a> {
+        let at = self.layout.starts[index] + OP * (sequence - 1);
+        Op(self.bytes[at..at + OP].try_into().expect("14 bytes"))
+    }
+
+    /// All ops in file order.
+    pub fn ops(&self) -> impl Iterator<Item = Op<'a>> {
+        let bodies = &self.bytes[HEADER..self.layout.end];
+        bodies
+            .chunks_exact(OP)
+            .map(|body| Op(body.try_into().expect("14 bytes")))
+    }
+
+    /// Tests 5, 6 and 7.
+    pub fn test(&self, op: Op) -> Result<(), u8> {
+        let vector = op.vector();
+        if !at_most(vector, &self.layout.counts) {
+            return Err(refusal::EARLY);
+        }
+        if !self.is_closed(vector) {
+            return Err(refusal::NOT_CLOSED);
+        }
+        let known = match op.kind() {
+            ADD => {
+                let own = u16::from_be_bytes([op.replica(), op.sequence() as u8]);
+                op.node() == own && self.knows_parent(vector, op.parent())
+            }
+            REMOVE => self.knows(vector, op.node()),
+            _ => {
+                self.knows(vector, op.node())
+                    && self.knows_parent(vector, op.parent())
+                    && op.parent() != op.node()
+            }
+        };
+        known.then_some(()).ok_or(refusal::UNKNOWN)
+    }
+
+    fn is_closed(&self, vector: &Vector) -> bool {
+        vector.iter().enumerate().all(|(index, &count)| {
+            count == 0 || at_most(self.op(index, usize::from(count)).vector(), vector)
+        })
+    }
+
+    /// Whether an add within the vector made the node.
+    pub fn knows(&self, vector: &Vector, node: u16) -> bool {
+        let [replica, sequence] = node.to_be_bytes();
+        let index = usize::from(replica).wrapping_sub(1);
+        index < REPLICAS
+            && sequence >= 1
+            && sequence <= vector[index]
+            && self.op(index, usize::from(sequence)).kind() == ADD
+    }
+
+    pub fn knows_parent(&self, vector: &Vector, node: u16) -> bool {
+        node == 0 || self.knows(vector, node)
+    }
+}

@@ -1,0 +1,11 @@
+//! The calls in safe Rust, written for speed with ordinary care: no allocation,
+//! one pass for soundness, replay level by level, a linear listing. These are
+//! the algorithms of the verified library, so that the two can be compared.
+
+mod calls;
+mod list;
+mod log;
+mod replay;
+
+pub use calls::{deliver, issue_add, issue_move, issue_remove, judge, make};
+pub use list::{listing, path};

@@ -1,0 +1,94 @@
+//! Replay, level by level: the ops whose timestamp is one more than before are
+//! those that count only what is done.
+
+use super::log::{at_most, Log, ADD, DOWN, REMOVE, REPLICAS, UP};
+
+pub const SLOTS: usize = 2041;
+pub const NO_PARENT: u16 = 65_535;
+
+const APPLIED: u8 = 1;
+const RIVAL_FIRST: u8 = 2;
+const BELOW_NODE: u8 = 3;
+
+pub fn slot_of(node: u16) -> usize {
+    let [replica, sequence] = node.to_be_bytes().map(usize::from);
+    match replica.checked_sub(1) {
+        Some(index) => 255 * index + sequence,
+        None => sequence,
+    }
+}
+
+/// Fills both tables.
+pub fn replay(log: &Log, parents: &mut [u16; SLOTS], outcomes: &mut [u8; SLOTS]) {
+    let mut placed = [0u16; SLOTS];
+    parents.fill(NO_PARENT);
+    parents[0] = 0;
+    outcomes.fill(0);
+    let counts = &log.layout.counts;
+    let mut done = [0u8; REPLICAS];
+    for time in 1.. {
+        // The ready ops, the higher replica first.
+        let mut ready = [0usize; REPLICAS];
+        let mut many = 0;
+        for index in (0..REPLICAS).rev() {
+            if done[index] < counts[index] {
+                let op = log.op(index, usize::from(done[index]) + 1);
+                if at_most(op.vector(), &done) {
+                    ready[many] = index;
+                    many += 1;
+                }
+            }
+        }
+        if many == 0 {
+            return;
+        }
+        for kind in [ADD, REMOVE, UP, DOWN] {
+            for &index in &ready[..many] {
+                let sequence = usize::from(done[index]) + 1;
+                let op = log.op(index, sequence);
+                if op.kind() != kind {
+                    continue;
+                }
+                let slot = slot_of(op.node());
+                let outcome = match kind {
+                    UP | DOWN if placed[slot] == time => RIVAL_FIRST,
+                    UP | DOWN if is_below(parents, op.parent(), op.node()) => BELOW_NODE,
+                    _ => APPLIED,
+                };
+                if outcome == APPLIED && kind != REMOVE {
+                    parents[slot] = op.parent();
+                    if kind != ADD {
+                        placed[slot] = time;
+                    }
+                }
+                outcomes[255 * index + sequence] = outcome;
+            }
+        }
+        for &index in &ready[..many] {
+            done[index] += 1;
+        }
+    }
+}
+
+/// Whether `from` is the node or lies below it.
+pub fn is_below(parents: &[u16; SLOTS], from: u16, node: u16) -> bool {
+    let mut at = from;
+    while at != node {
+        if at == 0 {
+            return false;
+        }
+        at = parents[slot_of(at)];
+    }
+    true
+}
+
+/// Steps to the root.
+pub fn depth(parents: &[u16; SLOTS], node: u16) -> usize {
+    let mut at = node;
+    let mut steps = 0;
+    while at != 0 {
+        at = parents[slot_of(at)];
+        steps += 1;
+    }
+    steps
+}

@@ -1,0 +1,3 @@
+//! What the verified library is measured against.
+
+pub mod careful;

@@ -1,0 +1,94 @@
+//! The page with what was found.
+
+use crate::work::{Call, CALLS, SHAPES, SIZES};
+use crate::Found;
+use std::fmt::Write;
+
+const HEAD: &str = "# Performance
+
+Made by `model/bench/run`; do not edit.
+
+Every call of the library is measured beside the same call in safe Rust, written with ordinary care for speed over the same algorithms
+(model/bench/src/careful; its tests compare it with the model): no allocation, one pass for soundness, replay level by level, a linear
+listing. Both are compiled by LLVM at the highest level for the same processor, the Rust with its bounds checks and without checks of
+overflow. One program calls both in turn, many times; the least time of each counts.
+
+Logs: **flat** has adds under the root, of all eight replicas, each by itself; **deep** is one chain, each node under the one before and each
+op counting all before; **random** has replicas that add, remove and move, and hear of each other now and then. The size is the number of
+ops. A delivery brings the last op of a log of that size, of the lowest replica that has one which no other op counts. Issuing at 2,040
+means at 2,039: a full log takes no more. Issuing a remove or a move at 0 is refused, for want of a node. Moves, paths: of the deepest node.
+";
+
+pub fn text(found: &[Found]) -> String {
+    let mut text = String::from(HEAD);
+    if let Some(name) = processor() {
+        let _ = writeln!(text, "\nProcessor: {name}.");
+    }
+    text.push_str("\n## Time\n\nOf a call of the library, and in brackets its ratio to the Rust: below 1 the library is faster.\n\n");
+    table(&mut text, found, |found| {
+        let ratio = found.times[0] / found.times[1];
+        Some(format!("{} ({ratio:.2})", duration(found.times[0])))
+    });
+    if found.iter().any(|found| found.counts.is_some()) {
+        text.push_str("\n## Instructions\n\nCounted by callgrind: of a call of the library, and in brackets the ratio to the Rust.\n\n");
+        table(&mut text, found, |found| {
+            let [library, rust] = found.counts?;
+            let ratio = library as f64 / rust as f64;
+            Some(format!("{} ({ratio:.2})", grouped(library)))
+        });
+    }
+    text
+}
+
+fn table(text: &mut String, found: &[Found], cell: impl Fn(&Found) -> Option<String>) {
+    text.push_str("| Call | Log | 0 | 100 | 1,000 | 2,040 |\n|---|---|---|---|---|---|\n");
+    for call in CALLS {
+        for shape in SHAPES {
+            let mut row = format!("| {} | {} |", call.name(), shape.name());
+            let mut some = false;
+            for size in SIZES {
+                let here = found
+                    .iter()
+                    .find(|f| f.call == call && f.shape == shape && f.size == size);
+                let here = here.and_then(&cell);
+                some |= here.is_some();
+                let _ = write!(row, " {} |", here.unwrap_or_default());
+            }
+            if call == Call::Make {
+                row = row.replacen("flat", "any", 1);
+            }
+            if some {
+                text.push_str(&row);
+                text.push('\n');
+            }
+        }
+    }
+}
+
+fn duration(nanoseconds: f64) -> String {
+    match nanoseconds {
+        n if n < 100.0 => format!("{n:.1} ns"),
+        n if n < 1000.0 => format!("{n:.0} ns"),
+        n if n < 100_000.0 => format!("{:.1} µs", n / 1000.0),
+        n => format!("{:.0} µs", n / 1000.0),
+    }
+}
+
+/// With a comma after every three digits.
+fn grouped(number: u64) -> String {
+    let digits = number.to_string();
+    let mut text = String::new();
+    for (i, digit) in digits.chars().enumerate() {
+        if i > 0 && (digits.len() - i) % 3 == 0 {
+            text.push(',');
+        }
+        text.push(digit);
+    }
+    text
+}
+
+fn processor() -> Option<String> {
+    let info = std::fs::read_to_string("/proc/cpuinfo").ok()?;
+    let line = info.lines().find(|line| line.starts_with("model name"))?;
+    Some(line.split(':').nth(1)?.trim().to_string())
+}

@@ -1,0 +1,273 @@
+//! What is measured: every call on logs of each shape and size.
+
+use crate::callgrind;
+use outline_bench::careful;
+use outline_model::cases::examples;
+use outline_model::cases::world::{Style, World};
+use outline_model::rng::Rng;
+use outline_model::{Answer, Log, Op, Tree, View, MAX_FILE, OP_LEN, SLOTS};
+use std::hint::black_box;
+
+pub const SIZES: [usize; 4] = [0, 100, 1000, 2040];
+
+#[derive(Clone, Copy, PartialEq, Eq)]
+pub enum Shape {
+    /// Adds under the root, of all eight replicas, each by itself.
+    Flat,
+    /// Each add under the one before, which it counts: one chain.
+    Deep,
+    /// Replicas that add, remove and move, and hear of each other now and then.
+    Random,
+}
+
+pub const SHAPES: [Shape; 3] = [Shape::Flat, Shape::Deep, Shape::Random];
+
+impl Shape {
+    pub fn name(self) -> &'static str {
+        match self {
+            Shape::Flat => "flat",
+            Shape::Deep => "deep",
+            Shape::Random => "random",
+        }
+    }
+
+    /// Ops in an order in which each comes after all it counts.
+    fn ops(self, size: usize) -> Vec<Op> {
+        match self {
+            Shape::Flat => {
+                let each = |replica: usize| (size + 8 - replica) / 8;
+                (1..=8)
+                    .flat_map(|replica| examples::adds(replica as u8, each(replica)))
+                    .collect()
+            }
+            Shape::Deep => examples::longest_chain()[..size].to_vec(),
+            Shape::Random => World::random(&mut Rng::new(7), Style::mixed(8, size)).ops,
+        }
+    }
+}
+
+#[derive(Clone, Copy, PartialEq, Eq)]
+pub enum Call {
+    Make,
+    Deliver,
+    Add,
+    Remove,
+    Move,
+    Judge,
+    Path,
+    Keeping,
+    Skipping,
+}
+
+pub const CALLS: [Call; 9] = [
+    Call::Make,
+    Call::Deliver,
+    Call::Add,
+    Call::Remove,
+    Call::Move,
+    Call::Judge,
+    Call::Path,
+    Call::Keeping,
+    Call::Skipping,
+];
+
+impl Call {
+    pub fn name(self) -> &'static str {
+        match self {
+            Call::Make => "make",
+            Call::Deliver => "deliver",
+            Call::Add => "issue_add",
+            Call::Remove => "issue_remove",
+            Call::Move => "issue_move",
+            Call::Judge => "judge",
+            Call::Path => "path",
+            Call::Keeping => "listing, keeping",
+            Call::Skipping => "listing, skipping",
+        }
+    }
+
+    /// Whether the call adds an op, so that a full log can take none.
+    fn adds(self) -> bool {
+        matches!(self, Call::Deliver | Call::Add | Call::Remove | Call::Move)
+    }
+}
+
+#[derive(Clone, Copy, PartialEq, Eq)]
+pub enum Side {
+    Library,
+    Rust,
+}
+
+/// One call with its arguments and the memory that it is lent.
+pub struct Work {
+    call: Call,
+    file: Vec<u8>,
+    buffer: Vec<u8>,
+    op: Vec<u8>,
+    replica: u8,
+    node: u16,
+    parent: u16,
+    out: Vec<u8>,
+    words: Vec<u16>,
+    bytes: Vec<u8>,
+}
+
+impl Work {
+    pub fn new(call: Call, shape: Shape, size: usize) -> Work {
+        let mut ops = shape.ops(size.max(1));
+        let last = last(&ops);
+        // What a delivery brings: an op that no other counts.
+        let op = ops[last].bytes().to_vec();
+        // A call that adds fills a log of the greatest size.
+        if size == 0 || call == Call::Deliver || (call.adds() && ops.len() == MAX_OPS) {
+            ops.remove(last);
+        }
+        let log = examples::log_of(&ops);
+        let mut file = log.bytes();
+        file.resize((file.len() + OP_LEN).min(MAX_FILE), 0);
+        let counts = log.held();
+        let replica = counts.iter().position(|&count| count < 255).unwrap_or(0);
+        let (node, parent) = names(&log);
+        Work {
+            call,
+            buffer: file.clone(),
+            file,
+            op,
+            replica: replica as u8 + 1,
+            node,
+            parent,
+            out: vec![0; OP_LEN],
+            words: vec![0; SLOTS],
+            bytes: vec![0; outline::LONGEST_LISTING],
+        }
+    }
+
+    /// Makes the call once, on the buffer as it was, and says whether it was
+    /// accepted.
+    #[inline]
+    pub fn once(&mut self, side: Side) -> bool {
+        if self.call.adds() {
+            self.buffer.copy_from_slice(&self.file);
+        }
+        let buffer = black_box(&mut self.buffer[..]);
+        match (self.call, side) {
+            (Call::Make, Side::Library) => callgrind::count(|| outline::make(buffer).is_ok()),
+            (Call::Make, Side::Rust) => accepted(|| careful::make(buffer)),
+            (Call::Deliver, Side::Library) => {
+                callgrind::count(|| outline::deliver(buffer, &self.op).is_ok())
+            }
+            (Call::Deliver, Side::Rust) => accepted(|| careful::deliver(buffer, &self.op)),
+            (Call::Add, Side::Library) => callgrind::count(|| {
+                outline::issue_add(buffer, self.replica, self.parent, &mut self.out).is_ok()
+            }),
+            (Call::Add, Side::Rust) => {
+                accepted(|| careful::issue_add(buffer, self.replica, self.parent, &mut self.out))
+            }
+            (Call::Remove, Side::Library) => callgrind::count(|| {
+                outline::issue_remove(buffer, self.replica, self.node, &mut self.out).is_ok()
+            }),
+            (Call::Remove, Side::Rust) => {
+                accepted(|| careful::issue_remove(buffer, self.replica, self.node, &mut self.out))
+            }
+            (Call::Move, Side::Library) => callgrind::count(|| {
+                let (replica, node, parent) = (self.replica, self.node, self.parent);
+                outline::issue_move(buffer, replica, node, parent, &mut self.out).is_ok()
+            }),
+            (Call::Move, Side::Rust) => accepted(|| {
+                let (replica, node, parent) = (self.replica, self.node, self.parent);
+                careful::issue_move(buffer, replica, node, parent, &mut self.out)
+            }),
+            (Call::Judge, Side::Library) => callgrind::count(|| {
+                outline::judge(buffer, &mut self.words, &mut self.bytes[..SLOTS]).is_ok()
+            }),
+            (Call::Judge, Side::Rust) => {
+                accepted(|| careful::judge(buffer, &mut self.words, &mut self.bytes[..SLOTS]))
+            }
+            (Call::Path, Side::Library) => {
+                callgrind::count(|| outline::path(buffer, self.node, &mut self.words).is_ok())
+            }
+            (Call::Path, Side::Rust) => {
+                accepted(|| careful::path(buffer, self.node, &mut self.words))
+            }
+            (Call::Keeping, Side::Library) => callgrind::count(|| {
+                outline::listing(buffer, outline::View::Keeping, &mut self.bytes).is_ok()
+            }),
+            (Call::Keeping, Side::Rust) => {
+                accepted(|| careful::listing(buffer, View::Keeping, &mut self.bytes))
+            }
+            (Call::Skipping, Side::Library) => callgrind::count(|| {
+                outline::listing(buffer, outline::View::Skipping, &mut self.bytes).is_ok()
+            }),
+            (Call::Skipping, Side::Rust) => {
+                accepted(|| careful::listing(buffer, View::Skipping, &mut self.bytes))
+            }
+        }
+    }
+
+    /// Both sides leave the same behind.
+    pub fn check(&mut self) {
+        let mut left = vec![];
+        for side in [Side::Library, Side::Rust] {
+            self.out.fill(1);
+            self.words.fill(1);
+            self.bytes.fill(1);
+            let accepted = self.once(side);
+            left.push((
+                accepted,
+                self.buffer.clone(),
+                self.out.clone(),
+                self.words.clone(),
+                self.bytes.clone(),
+            ));
+        }
+        let name = self.call.name();
+        assert!(left[0] == left[1], "{name}: the sides differ");
+    }
+}
+
+const MAX_OPS: usize = SLOTS - 1;
+
+#[inline]
+fn accepted(call: impl FnOnce() -> Answer) -> bool {
+    callgrind::count(|| !matches!(call(), Answer::Refused(_)))
+}
+
+/// The place of an op that no other counts, of the lowest replica that has one:
+/// most is moved up for it.
+fn last(ops: &[Op]) -> usize {
+    let free = |op: &Op| {
+        ops.iter()
+            .all(|other| usize::from(other.vector[op.index()]) < op.sequence())
+    };
+    (0..ops.len())
+        .filter(|&i| free(&ops[i]))
+        .min_by_key(|&i| ops[i].replica)
+        .expect("some op is the last")
+}
+
+/// The deepest node, and one to move it under; the root where there is none.
+fn names(log: &Log) -> (u16, u16) {
+    let tree = Tree::judge(log);
+    let Some(node) = tree.nodes().max_by_key(|&node| tree.depth(node)) else {
+        return (0, 0);
+    };
+    let free = |&other: &u16| tree.path(other).all(|above| above != node);
+    let parent = tree.nodes().find(free).unwrap_or(0);
+    (node, parent)
+}
+
+/// All that is measured. At size 0 the shapes are one.
+pub fn all() -> impl Iterator<Item = (Call, Shape, usize)> {
+    CALLS.into_iter().flat_map(|call| {
+        SHAPES.into_iter().flat_map(move |shape| {
+            let some = move |&size: &usize| match (call, shape) {
+                (Call::Make, _) => shape == Shape::Flat && size == 0,
+                _ => size > 0 || shape == Shape::Flat,
+            };
+            SIZES
+                .into_iter()
+                .filter(some)
+                .map(move |size| (call, shape, size))
+        })
+    })
+}

@@ -1,0 +1,131 @@
+//! The measured Rust answers and leaves behind what the model does.
+
+use outline_bench::careful;
+use outline_model::cases::world::{full, Style, World};
+use outline_model::cases::{damage, examples};
+use outline_model::rng::Rng;
+use outline_model::{Answer, Op, View, MAX_FILE, SLOTS};
+
+fn both<T: Clone + PartialEq + std::fmt::Debug, U: Clone + PartialEq + std::fmt::Debug>(
+    one: &[T],
+    two: &[U],
+    careful: impl FnOnce(&mut [T], &mut [U]) -> Answer,
+    model: impl FnOnce(&mut [T], &mut [U]) -> Answer,
+) -> (Vec<T>, Vec<U>) {
+    let (mut a, mut b) = (one.to_vec(), two.to_vec());
+    let (mut c, mut d) = (one.to_vec(), two.to_vec());
+    assert_eq!(careful(&mut a, &mut b), model(&mut c, &mut d));
+    assert!(a == c && b == d);
+    (a, b)
+}
+
+/// Every call on a buffer.
+fn all_calls(rng: &mut Rng, buffer: &[u8], ops: &[Op]) {
+    both(
+        buffer,
+        &[0u8; 0],
+        |b, _| careful::make(b),
+        |b, _| outline_model::make(b),
+    );
+    for _ in 0..12 {
+        let mut op = if ops.is_empty() {
+            vec![1; 14]
+        } else {
+            rng.pick(ops).bytes().to_vec()
+        };
+        if rng.one_in(3) {
+            op = damage::record(rng, &op);
+        }
+        both(
+            buffer,
+            &op,
+            |b, o| careful::deliver(b, o),
+            |b, o| outline_model::deliver(b, o),
+        );
+        let node = if ops.is_empty() || rng.one_in(5) {
+            0
+        } else {
+            rng.pick(ops).node
+        };
+        let parent = if ops.is_empty() || rng.one_in(5) {
+            0
+        } else {
+            rng.pick(ops).node
+        };
+        let replica = rng.below(10) as u8;
+        let room = vec![7u8; rng.pick(&[14, 14, 14, 20, 13])];
+        both(
+            buffer,
+            &room,
+            |b, o| careful::issue_add(b, replica, parent, o),
+            |b, o| outline_model::issue_add(b, replica, parent, o),
+        );
+        both(
+            buffer,
+            &room,
+            |b, o| careful::issue_remove(b, replica, node, o),
+            |b, o| outline_model::issue_remove(b, replica, node, o),
+        );
+        both(
+            buffer,
+            &room,
+            |b, o| careful::issue_move(b, replica, node, parent, o),
+            |b, o| outline_model::issue_move(b, replica, node, parent, o),
+        );
+        let entries = vec![7u16; rng.pick(&[SLOTS, SLOTS, 3, 1])];
+        both(
+            buffer,
+            &entries,
+            |b, o| careful::path(b, node, o),
+            |b, o| outline_model::path(b, node, o),
+        );
+    }
+    let length = rng.pick(&[SLOTS, SLOTS + 3, SLOTS - 1]);
+    both(
+        &vec![7u16; length],
+        &vec![7u8; SLOTS],
+        |p, o| careful::judge(buffer, p, o),
+        |p, o| outline_model::judge(buffer, p, o),
+    );
+    for view in [View::Keeping, View::Skipping] {
+        let text = vec![7u8; rng.pick(&[24_492, 100, 20, 0])];
+        both(
+            buffer,
+            &text,
+            |b, o| careful::listing(b, view, o),
+            |b, o| outline_model::listing(b, view, o),
+        );
+    }
+}
+
+#[test]
+fn short_logs() {
+    let mut rng = Rng::new(1);
+    for round in 0..600 {
+        let style = [Style::moves, Style::mixed][round % 2](1 + round % 8, rng.below(60));
+        let ops = World::random(&mut rng, style).ops;
+        let held = rng.below(ops.len() + 1);
+        let mut buffer = examples::file_of(&ops[..held]);
+        if round % 3 == 0 {
+            buffer = damage::random(&mut rng, &buffer);
+        }
+        buffer.resize(buffer.len() + rng.pick(&[0, 13, 14, 300]), 9);
+        all_calls(&mut rng, &buffer, &ops);
+    }
+}
+
+#[test]
+fn full_logs() {
+    let mut rng = Rng::new(2);
+    for ops in [
+        examples::longest_chain(),
+        full(&mut rng, Style::moves),
+        full(&mut rng, Style::mixed),
+    ] {
+        for held in [2040, 2039, 1500] {
+            let mut buffer = examples::file_of(&ops[..held]);
+            buffer.resize(MAX_FILE, 9);
+            all_calls(&mut rng, &buffer, &ops);
+        }
+    }
+}

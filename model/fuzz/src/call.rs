@@ -1,0 +1,279 @@
+//! The calls, and the two sides that answer them.
+
+use crate::lent::{Guards, Lent};
+use outline::{Delivery, Refusal};
+use outline_model::{Answer, View};
+
+#[derive(Clone, Debug)]
+pub enum Call {
+    Make,
+    Deliver(Vec<u8>),
+    Add {
+        replica: u8,
+        parent: u16,
+        room: usize,
+    },
+    Remove {
+        replica: u8,
+        node: u16,
+        room: usize,
+    },
+    Move {
+        replica: u8,
+        node: u16,
+        parent: u16,
+        room: usize,
+    },
+    Judge {
+        parents: usize,
+        outcomes: usize,
+    },
+    Path {
+        node: u16,
+        room: usize,
+    },
+    Listing {
+        view: View,
+        room: usize,
+    },
+}
+
+pub const NAMES: [&str; 8] = [
+    "make",
+    "deliver",
+    "issue_add",
+    "issue_remove",
+    "issue_move",
+    "judge",
+    "path",
+    "listing",
+];
+
+impl Call {
+    /// Its place in `NAMES`.
+    pub fn index(&self) -> usize {
+        match self {
+            Call::Make => 0,
+            Call::Deliver(_) => 1,
+            Call::Add { .. } => 2,
+            Call::Remove { .. } => 3,
+            Call::Move { .. } => 4,
+            Call::Judge { .. } => 5,
+            Call::Path { .. } => 6,
+            Call::Listing { .. } => 7,
+        }
+    }
+}
+
+/// What both sides answer, in one form.
+#[derive(Clone, Copy, PartialEq, Eq, Debug)]
+pub enum Outcome {
+    Refused(u8),
+    HadIt,
+    Done,
+    Value(usize),
+}
+
+/// The answer, and all memory that was lent besides the buffer.
+#[derive(PartialEq, Eq, Debug)]
+pub struct After {
+    pub outcome: Outcome,
+    pub bytes: Vec<Lent<u8>>,
+    pub words: Vec<Lent<u16>>,
+}
+
+/// One implementation of the calls.
+pub trait Side {
+    fn make(buf: &mut [u8]) -> Outcome;
+    fn deliver(buf: &mut [u8], op: &[u8]) -> Outcome;
+    fn issue_add(buf: &mut [u8], replica: u8, parent: u16, out: &mut [u8]) -> Outcome;
+    fn issue_remove(buf: &mut [u8], replica: u8, node: u16, out: &mut [u8]) -> Outcome;
+    fn issue_move(buf: &mut [u8], replica: u8, node: u16, parent: u16, out: &mut [u8]) -> Outcome;
+    fn judge(file: &[u8], parents: &mut [u16], outcomes: &mut [u8]) -> Outcome;
+    fn path(file: &[u8], node: u16, out: &mut [u16]) -> Outcome;
+    fn listing(file: &[u8], view: View, out: &mut [u8]) -> Outcome;
+}
+
+pub struct Library;
+pub struct Model;
+
+fn value(answer: Result<usize, Refusal>) -> Outcome {
+    answer.map_or_else(|why| Outcome::Refused(why.number()), Outcome::Value)
+}
+
+impl Side for Library {
+    fn make(buf: &mut [u8]) -> Outcome {
+        value(outline::make(buf))
+    }
+
+    fn deliver(buf: &mut [u8], op: &[u8]) -> Outcome {
+        match outline::deliver(buf, op) {
+            Ok(Delivery::Accepted(end)) => Outcome::Value(end),
+            Ok(Delivery::HadIt) => Outcome::HadIt,
+            Err(why) => Outcome::Refused(why.number()),
+        }
+    }
+
+    fn issue_add(buf: &mut [u8], replica: u8, parent: u16, out: &mut [u8]) -> Outcome {
+        value(outline::issue_add(buf, replica, parent, out))
+    }
+
+    fn issue_remove(buf: &mut [u8], replica: u8, node: u16, out: &mut [u8]) -> Outcome {
+        value(outline::issue_remove(buf, replica, node, out))
+    }
+
+    fn issue_move(buf: &mut [u8], replica: u8, node: u16, parent: u16, out: &mut [u8]) -> Outcome {
+        value(outline::issue_move(buf, replica, node, parent, out))
+    }
+
+    fn judge(file: &[u8], parents: &mut [u16], outcomes: &mut [u8]) -> Outcome {
+        match outline::judge(file, parents, outcomes) {
+            Ok(()) => Outcome::Done,
+            Err(why) => Outcome::Refused(why.number()),
+        }
+    }
+
+    fn path(file: &[u8], node: u16, out: &mut [u16]) -> Outcome {
+        value(outline::path(file, node, out))
+    }
+
+    fn listing(file: &[u8], view: View, out: &mut [u8]) -> Outcome {
+        let view = match view {
+            View::Keeping => outline::View::Keeping,
+            View::Skipping => outline::View::Skipping,
+        };
+        value(outline::listing(file, view, out))
+    }
+}
+
+impl From<Answer> for Outcome {
+    fn from(answer: Answer) -> Outcome {
+        match answer {
+            Answer::Accepted(value) | Answer::Count(value) => Outcome::Value(value),
+            Answer::HadIt => Outcome::HadIt,
+            Answer::Done => Outcome::Done,
+            Answer::Refused(number) => Outcome::Refused(number),
+        }
+    }
+}
+
+impl Side for Model {
+    fn make(buf: &mut [u8]) -> Outcome {
+        outline_model::make(buf).into()
+    }
+
+    fn deliver(buf: &mut [u8], op: &[u8]) -> Outcome {
+        outline_model::deliver(buf, op).into()
+    }
+
+    fn issue_add(buf: &mut [u8], replica: u8, parent: u16, out: &mut [u8]) -> Outcome {
+        outline_model::issue_add(buf, replica, parent, out).into()
+    }
+
+    fn issue_remove(buf: &mut [u8], replica: u8, node: u16, out: &mut [u8]) -> Outcome {
+        outline_model::issue_remove(buf, replica, node, out).into()
+    }
+
+    fn issue_move(buf: &mut [u8], replica: u8, node: u16, parent: u16, out: &mut [u8]) -> Outcome {
+        outline_model::issue_move(buf, replica, node, parent, out).into()
+    }
+
+    fn judge(file: &[u8], parents: &mut [u16], outcomes: &mut [u8]) -> Outcome {
+        outline_model::judge(file, parents, outcomes).into()
+    }
+
+    fn path(file: &[u8], node: u16, out: &mut [u16]) -> Outcome {
+        outline_model::path(file, node, out).into()
+    }
+
+    fn listing(file: &[u8], view: View, out: &mut [u8]) -> Outcome {
+        outline_model::listing(file, view, out).into()
+    }
+}
+
+/// Fresh lent memory of a length, with content and guards by place and salt.
+struct Lender {
+    guards: Guards,
+    salt: usize,
+}
+
+impl Lender {
+    fn byte(&self, place: usize) -> u8 {
+        (place.wrapping_mul(31) ^ self.salt) as u8
+    }
+
+    fn word(&self, place: usize) -> u16 {
+        (place.wrapping_mul(40_503) ^ self.salt) as u16
+    }
+
+    fn bytes(&self, length: usize) -> Lent<u8> {
+        let content: Vec<u8> = (0..length).map(|i| self.byte(!i)).collect();
+        self.copy(&content)
+    }
+
+    fn copy(&self, content: &[u8]) -> Lent<u8> {
+        Lent::new(content, self.guards, |i| self.byte(i))
+    }
+
+    fn words(&self, length: usize) -> Lent<u16> {
+        let content: Vec<u16> = (0..length).map(|i| self.word(!i)).collect();
+        Lent::new(&content, self.guards, |i| self.word(i))
+    }
+}
+
+/// Makes a call at one side.
+pub fn run<S: Side>(call: &Call, buffer: &mut Lent<u8>, guards: Guards, salt: usize) -> After {
+    let lender = Lender { guards, salt };
+    let (mut bytes, mut words) = (vec![], vec![]);
+    let buf = buffer.get_mut();
+    let outcome = match *call {
+        Call::Make => S::make(buf),
+        Call::Deliver(ref op) => {
+            bytes.push(lender.copy(op));
+            S::deliver(buf, bytes[0].get())
+        }
+        Call::Add {
+            replica,
+            parent,
+            room,
+        } => {
+            bytes.push(lender.bytes(room));
+            S::issue_add(buf, replica, parent, bytes[0].get_mut())
+        }
+        Call::Remove {
+            replica,
+            node,
+            room,
+        } => {
+            bytes.push(lender.bytes(room));
+            S::issue_remove(buf, replica, node, bytes[0].get_mut())
+        }
+        Call::Move {
+            replica,
+            node,
+            parent,
+            room,
+        } => {
+            bytes.push(lender.bytes(room));
+            S::issue_move(buf, replica, node, parent, bytes[0].get_mut())
+        }
+        Call::Judge { parents, outcomes } => {
+            words.push(lender.words(parents));
+            bytes.push(lender.bytes(outcomes));
+            S::judge(buf, words[0].get_mut(), bytes[0].get_mut())
+        }
+        Call::Path { node, room } => {
+            words.push(lender.words(room));
+            S::path(buf, node, words[0].get_mut())
+        }
+        Call::Listing { view, room } => {
+            bytes.push(lender.bytes(room));
+            S::listing(buf, view, bytes[0].get_mut())
+        }
+    };
+    After {
+        outcome,
+        bytes,
+        words,
+    }
+}

@@ -1,0 +1,255 @@
+//! What is called: files, sound and damaged, short and full, and calls on them.
+
+use crate::call::Call;
+use outline_model::cases::world::{full, Style, World};
+use outline_model::cases::{damage, examples};
+use outline_model::rng::Rng;
+use outline_model::{Kind, Op, View, MAX_FILE, SLOTS};
+
+/// A buffer with a log at its front, and ops to call it with.
+pub struct Input {
+    pub buffer: Vec<u8>,
+    /// Ops of the same world: held ones, and ones that are not held yet.
+    ops: Vec<Op>,
+    /// How many of them the log starts with.
+    pub held: usize,
+}
+
+/// Logs that take long to make, made once.
+pub struct Stock {
+    full: Vec<Vec<Op>>,
+}
+
+impl Stock {
+    pub fn new(rng: &mut Rng) -> Stock {
+        let mut logs = vec![examples::longest_chain(), flat()];
+        for _ in 0..4 {
+            logs.push(full(rng, Style::moves));
+            logs.push(full(rng, Style::mixed));
+        }
+        Stock { full: logs }
+    }
+}
+
+/// Every node there can be, under the root.
+fn flat() -> Vec<Op> {
+    (1..=8)
+        .flat_map(|replica| examples::adds(replica, 255))
+        .collect()
+}
+
+fn style(rng: &mut Rng, ops: usize) -> Style {
+    let replicas = 1 + rng.below(8);
+    let make = rng.pick(&[Style::moves as fn(usize, usize) -> Style, Style::mixed]);
+    make(replicas, ops)
+}
+
+/// Ops, of which the first `held` are in the log.
+fn ops(rng: &mut Rng, stock: &Stock) -> (Vec<Op>, usize) {
+    match rng.below(100) {
+        // Full size: 2,040 ops, or a few less.
+        0..=2 => {
+            let ops = stock.full[rng.below(stock.full.len())].clone();
+            let fewer = [0, 0, 1, 5, 40][rng.below(5)];
+            let held = ops.len() - fewer;
+            (ops, held)
+        }
+        3..=8 => {
+            let count = 100 + rng.below(700);
+            let style = style(rng, count);
+            let world = World::random(rng, style);
+            split(rng, world.ops)
+        }
+        9..=24 => {
+            let logs = examples::small_logs();
+            let ops = logs[rng.below(logs.len())].clone();
+            split(rng, ops)
+        }
+        25 => (examples::mutual(), 2),
+        _ => {
+            let count = rng.below(40);
+            let style = style(rng, count);
+            let world = World::random(rng, style);
+            split(rng, world.ops)
+        }
+    }
+}
+
+fn split(rng: &mut Rng, ops: Vec<Op>) -> (Vec<Op>, usize) {
+    let held = if rng.one_in(3) {
+        ops.len()
+    } else {
+        rng.below(ops.len() + 1)
+    };
+    (ops, held)
+}
+
+/// The length of the buffer for a file of this length.
+fn room(rng: &mut Rng, end: usize) -> usize {
+    match rng.below(8) {
+        0 => end,
+        1 => end + 13,
+        2 => end + 14,
+        3 => end + rng.below(60),
+        4 => end.saturating_sub(1 + rng.below(20)),
+        5 => MAX_FILE,
+        6 => MAX_FILE + rng.below(11_000),
+        _ => end + 300,
+    }
+}
+
+impl Input {
+    pub fn random(rng: &mut Rng, stock: &Stock) -> Input {
+        if rng.one_in(20) {
+            return Input::noise(rng);
+        }
+        let (ops, held) = ops(rng, stock);
+        let mut file = examples::file_of(&ops[..held]);
+        if rng.one_in(4) {
+            for _ in 0..1 + rng.below(3) {
+                file = damage::random(rng, &file);
+            }
+        }
+        let length = room(rng, file.len());
+        let mut buffer = file;
+        while buffer.len() < length {
+            buffer.push(rng.byte());
+        }
+        buffer.truncate(length);
+        Input { buffer, ops, held }
+    }
+
+    /// Bytes that are no file, or an empty file with a damaged header.
+    fn noise(rng: &mut Rng) -> Input {
+        let mut buffer: Vec<u8> = if rng.one_in(2) {
+            let length = rng.below(200);
+            (0..length).map(|_| rng.byte()).collect()
+        } else {
+            damage::random(rng, &examples::file_of(&[]))
+        };
+        if rng.one_in(2) {
+            buffer.resize(rng.below(120), 0);
+        }
+        Input {
+            buffer,
+            ops: examples::p1(),
+            held: 0,
+        }
+    }
+
+    fn is_large(&self) -> bool {
+        self.held > 60
+    }
+
+    /// How many calls are made on it.
+    pub fn calls(&self, rng: &mut Rng) -> usize {
+        20 + rng.below(60)
+    }
+
+    pub fn call(&self, rng: &mut Rng) -> Call {
+        match rng.below(100) {
+            0 => Call::Make,
+            1..=39 => Call::Deliver(self.record(rng)),
+            40..=49 => Call::Add {
+                replica: replica(rng),
+                parent: self.node(rng),
+                room: record_room(rng),
+            },
+            50..=56 => Call::Remove {
+                replica: replica(rng),
+                node: self.node(rng),
+                room: record_room(rng),
+            },
+            57..=72 => Call::Move {
+                replica: replica(rng),
+                node: self.node(rng),
+                parent: self.node(rng),
+                room: record_room(rng),
+            },
+            73..=81 => Call::Judge {
+                parents: table_room(rng),
+                outcomes: table_room(rng),
+            },
+            82..=90 => Call::Path {
+                node: self.node(rng),
+                room: if self.is_large() || rng.one_in(4) {
+                    rng.pick(&[2041, 2040, 400, 20])
+                } else {
+                    rng.below(9)
+                },
+            },
+            _ => Call::Listing {
+                view: rng.pick(&[View::Keeping, View::Skipping]),
+                room: if self.is_large() || rng.one_in(4) {
+                    rng.pick(&[24_492, 20_000, 2_000, 300])
+                } else {
+                    rng.below(120)
+                },
+            },
+        }
+    }
+
+    /// An op to deliver: one of the world, or with a change, or noise.
+    fn record(&self, rng: &mut Rng) -> Vec<u8> {
+        if self.ops.is_empty() || rng.one_in(25) {
+            return (0..rng.below(20)).map(|_| rng.byte()).collect();
+        }
+        // Often one of the next: an early one, or one that is accepted.
+        let mut op = if self.held < self.ops.len() && rng.one_in(2) {
+            let next = &self.ops[self.held..];
+            next[rng.below(next.len().min(12))]
+        } else {
+            rng.pick(&self.ops)
+        };
+        match rng.below(14) {
+            // Counts that are near.
+            0 => {
+                let at = rng.below(8);
+                op.vector[at] = op.vector[at].wrapping_add(rng.pick(&[1, 2, 254, 255]));
+            }
+            1 => op.kind = rng.pick(&[Kind::Add, Kind::Remove, Kind::Up, Kind::Down]),
+            2 => op.node = self.node(rng),
+            3 => op.parent = self.node(rng),
+            4 => return damage::record(rng, &op.bytes()),
+            _ => {}
+        }
+        op.bytes().to_vec()
+    }
+
+    /// A node number: mostly one of the world.
+    fn node(&self, rng: &mut Rng) -> u16 {
+        if rng.one_in(8) {
+            return 0;
+        }
+        if self.ops.is_empty() || rng.one_in(12) {
+            let odd = u16::from(rng.byte()) * 257;
+            return rng.pick(&[1, 255, 256, 257, 511, 512, 513, 2303, 2304, 65_535, odd]);
+        }
+        rng.pick(&self.ops).node
+    }
+}
+
+fn replica(rng: &mut Rng) -> u8 {
+    if rng.one_in(15) {
+        rng.pick(&[0, 9, 10, 128, 255])
+    } else {
+        1 + rng.below(8) as u8
+    }
+}
+
+fn record_room(rng: &mut Rng) -> usize {
+    if rng.one_in(15) {
+        rng.below(14)
+    } else {
+        14 + rng.below(6)
+    }
+}
+
+fn table_room(rng: &mut Rng) -> usize {
+    match rng.below(20) {
+        0 => SLOTS - 1,
+        1 => rng.below(100),
+        2 => SLOTS + rng.below(60),
+        _ => SLOTS,
+    }
+}

@@ -1,0 +1,162 @@
+//! Calls the linked library and the model with the same input, and compares the
+//! answer and every byte of lent memory, with the guards around it.
+
+mod call;
+mod input;
+mod lent;
+
+use call::{run, Call, Library, Model, Outcome, NAMES};
+use input::{Input, Stock};
+use lent::{Guards, Lent};
+use outline_model::rng::Rng;
+use std::time::Instant;
+
+const USAGE: &str = "fuzz [--calls N] [--seed N] [--exact] [--without NAME]
+
+  --calls N       how many calls to make at least (3000000)
+  --seed N        where the input starts (1)
+  --exact         no guards: for a memory checker, which sees every access beside lent memory
+  --without NAME  leave a call out";
+
+struct Options {
+    calls: u64,
+    seed: u64,
+    exact: bool,
+    without: Option<String>,
+}
+
+fn options() -> Result<Options, String> {
+    let mut options = Options {
+        calls: 3_000_000,
+        seed: 1,
+        exact: false,
+        without: None,
+    };
+    let mut words = std::env::args().skip(1);
+    while let Some(word) = words.next() {
+        let mut next = || words.next().ok_or(format!("{word}: a value is missing"));
+        match word.as_str() {
+            "--calls" => options.calls = number(&next()?)?,
+            "--seed" => options.seed = number(&next()?)?,
+            "--without" => options.without = Some(next()?),
+            "--exact" => options.exact = true,
+            _ => return Err(USAGE.to_string()),
+        }
+    }
+    Ok(options)
+}
+
+fn number(word: &str) -> Result<u64, String> {
+    word.parse().map_err(|_| format!("{word} is no number"))
+}
+
+/// How often each call gave each answer: refusals by number, had it, done, a value.
+#[derive(Default)]
+struct Tally {
+    counts: [[u64; 14]; 8],
+    full: u64,
+}
+
+impl Tally {
+    fn add(&mut self, call: &Call, outcome: Outcome) {
+        let column = match outcome {
+            Outcome::Refused(number) => usize::from(number),
+            Outcome::HadIt => 11,
+            Outcome::Done => 12,
+            Outcome::Value(_) => 13,
+        };
+        self.counts[call.index()][column] += 1;
+    }
+
+    fn calls(&self) -> u64 {
+        self.counts.iter().flatten().sum()
+    }
+
+    fn print(&self) {
+        print!("{:<14}", "call");
+        for column in 1..=10 {
+            print!("{:>8}", format!("ref {column}"));
+        }
+        println!("{:>8}{:>8}{:>8}", "had it", "done", "value");
+        for (name, counts) in NAMES.iter().zip(&self.counts) {
+            print!("{name:<14}");
+            for count in &counts[1..] {
+                print!("{count:>8}");
+            }
+            println!();
+        }
+    }
+}
+
+fn hex(bytes: &[u8]) -> String {
+    bytes.iter().map(|byte| format!("{byte:02x}")).collect()
+}
+
+fn main() {
+    let options = options().unwrap_or_else(|why| {
+        eprintln!("{why}");
+        std::process::exit(2);
+    });
+    let began = Instant::now();
+    let mut rng = Rng::new(options.seed);
+    let stock = Stock::new(&mut rng);
+    let mut tally = Tally::default();
+    let mut differences = 0;
+    while tally.calls() < options.calls && differences < 10 {
+        let input = Input::random(&mut rng, &stock);
+        let guards = if options.exact {
+            Guards { front: 0, back: 0 }
+        } else {
+            // Any alignment.
+            Guards {
+                front: 16 + rng.below(16),
+                back: 32,
+            }
+        };
+        let salt = rng.below(1 << 16);
+        let mut ours = Lent::new(&input.buffer, guards, |i| (i ^ salt) as u8);
+        let mut theirs = ours.clone();
+        for _ in 0..input.calls(&mut rng) {
+            let call = input.call(&mut rng);
+            if options.without.as_deref() == Some(NAMES[call.index()]) {
+                continue;
+            }
+            let before = ours.get().to_vec();
+            let library = run::<Library>(&call, &mut ours, guards, salt);
+            let model = run::<Model>(&call, &mut theirs, guards, salt);
+            tally.add(&call, model.outcome);
+            if input.held >= 2000 {
+                tally.full += 1;
+            }
+            if library != model || ours != theirs {
+                differences += 1;
+                println!(
+                    "DIFFERENCE at call {} of seed {}",
+                    tally.calls(),
+                    options.seed
+                );
+                println!("  call     {call:?}");
+                println!("  buffer   {}", hex(&before));
+                println!("  library  {:?}", library.outcome);
+                println!("  model    {:?}", model.outcome);
+                println!(
+                    "  buffers  {}",
+                    if ours == theirs { "same" } else { "differ" }
+                );
+                let same = library.bytes == model.bytes && library.words == model.words;
+                println!("  others   {}", if same { "same" } else { "differ" });
+                break;
+            }
+        }
+    }
+    tally.print();
+    println!(
+        "{} calls with seed {}, {} of them on logs of at least 2,000 ops, in {:.1} s: {} differences",
+        tally.calls(),
+        options.seed,
+        tally.full,
+        began.elapsed().as_secs_f64(),
+        differences
+    );
+    std::process::exit(i32::from(differences > 0));
+}
