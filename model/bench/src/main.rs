@@ -27,8 +27,8 @@ fn main() {
     let words: Vec<String> = std::env::args().skip(1).collect();
     match words.iter().map(String::as_str).collect::<Vec<_>>()[..] {
         ["count"] => count(),
-        [] => measure(30),
-        ["quick"] => measure(5),
+        [] => measure(40),
+        ["quick"] => measure(4),
         _ => {
             eprintln!("bench [quick]");
             std::process::exit(2);
@@ -48,27 +48,29 @@ fn count() {
     }
 }
 
-fn measure(rounds: usize) {
+fn measure(passes: usize) {
     let root = Path::new(env!("CARGO_MANIFEST_DIR")).join("../..");
-    let mut found: Vec<Found> = all()
-        .map(|(call, shape, size)| {
-            let mut work = Work::new(call, shape, size);
+    let mut works: Vec<Work> = all()
+        .map(|(call, shape, size)| Work::new(call, shape, size))
+        .collect();
+    let mut times = vec![[f64::MAX; 2]; works.len()];
+    // Pass after pass over all, so that no call has a busy moment of the
+    // machine to itself.
+    for pass in 1..=passes {
+        eprintln!("pass {pass} of {passes}");
+        for (work, times) in works.iter_mut().zip(&mut times) {
             work.check();
-            let times = time(&mut work, rounds);
-            let ratio = times[0] / times[1];
-            eprintln!(
-                "{:<18} {:<7} {size:>5}  {:>10.0} ns  {ratio:.2}",
-                call.name(),
-                shape.name(),
-                times[0]
-            );
-            Found {
-                call,
-                shape,
-                size,
-                times,
-                counts: None,
-            }
+            time(work, times);
+        }
+    }
+    let mut found: Vec<Found> = all()
+        .zip(times)
+        .map(|((call, shape, size), times)| Found {
+            call,
+            shape,
+            size,
+            times,
+            counts: None,
         })
         .collect();
     let folder = root.join("target/callgrind");
@@ -88,18 +90,17 @@ fn measure(rounds: usize) {
     std::fs::write(page, text).expect("docs/PERFORMANCE.md is written");
 }
 
-/// The least time of a call at each side, of many rounds in turn.
-fn time(work: &mut Work, rounds: usize) -> [f64; 2] {
+/// Keeps the least time of a call at each side, of some rounds in turn.
+fn time(work: &mut Work, least: &mut [f64; 2]) {
     let sides = [Side::Library, Side::Rust];
-    // So many calls take about a millisecond.
+    // So many calls take about half a millisecond.
     let began = Instant::now();
     let mut many = 0;
-    while began.elapsed().as_micros() < 1000 {
+    while began.elapsed().as_micros() < 500 {
         black_box(work.once(Side::Rust));
         many += 1;
     }
-    let mut least = [f64::MAX; 2];
-    for round in 0..rounds {
+    for round in 0..6 {
         for turn in 0..2 {
             let at = (round + turn) % 2;
             let began = Instant::now();
@@ -109,5 +110,4 @@ fn time(work: &mut Work, rounds: usize) -> [f64; 2] {
             least[at] = least[at].min(began.elapsed().as_nanos() as f64 / f64::from(many));
         }
     }
-    least
 }

@@ -10,8 +10,10 @@ Made by `model/bench/run`; do not edit.
 
 Every call of the library is measured beside the same call in safe Rust, written with ordinary care for speed over the same algorithms
 (model/bench/src/careful; its tests compare it with the model): no allocation, one pass for soundness, replay level by level, a linear
-listing. Both are compiled by LLVM at the highest level for the same processor, the Rust with its bounds checks and without checks of
-overflow. One program calls both in turn, many times; the least time of each counts.
+listing. In one thing they differ: the library compares version vectors four counts at a time, the Rust count by count. Both are compiled
+by LLVM at the highest level for the same processor, the Rust with its bounds checks and without checks of overflow. One program calls both
+in turn, many times; the least time of each counts. It calls the library through the Rust crate, which makes a `Result` of the number that
+the library answers: at `make`, of eight instructions, that is most of the time.
 
 Logs: **flat** has adds under the root, of all eight replicas, each by itself; **deep** is one chain, each node under the one before and each
 op counting all before; **random** has replicas that add, remove and move, and hear of each other now and then. The size is the number of
@@ -79,7 +81,7 @@ fn grouped(number: u64) -> String {
     let digits = number.to_string();
     let mut text = String::new();
     for (i, digit) in digits.chars().enumerate() {
-        if i > 0 && (digits.len() - i) % 3 == 0 {
+        if i > 0 && (digits.len() - i).is_multiple_of(3) {
             text.push(',');
         }
         text.push(digit);
