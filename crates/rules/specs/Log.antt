@@ -1,7 +1,7 @@
 -- The log (the paper's collection): the ops of each replica in sequence order; its layout in bytes; the tests of an op against a log
 -- (numbers 5, 6 and 7); and structural soundness. Assumes nothing.
 use Prim.Native.Nat.{ℕ, zero, suc, _+_, _*_, _-_, _/_, _%_}
-use mathlib.Core.Bool.{Bool, true, false, cond, _&&_, _||_, not}
+use mathlib.Core.Bool.{Bool, true, cond, _&&_, _||_, not}
 use mathlib.Core.List.{List, [], _∷_, _++_, map}
 use lib.ListN.{length, take, drop, getD, set, replicate}
 use lib.Dec.{leb, eqb}

@@ -1,7 +1,7 @@
 -- Replay (the paper's judging) of the ops within a cut, which is a version vector: timestamps, the order of the ops, and what each op does to
 -- the tree. Assumes nothing.
-use Prim.Native.Nat.{ℕ, zero, suc, _+_, _*_, _-_}
-use mathlib.Core.Bool.{Bool, true, false, cond, _&&_, _||_, not}
+use Prim.Native.Nat.{ℕ, zero, suc, _+_}
+use mathlib.Core.Bool.{cond, _&&_, _||_, not}
 use mathlib.Core.List.{List, [], _∷_, _++_, map, foldl}
 use lib.ListN.{length, take, getD, set, replicate}
 use lib.Dec.{leb, ltb, eqb}

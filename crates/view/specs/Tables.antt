@@ -1,6 +1,6 @@
 -- The tables from which a listing is made, as the code fills them. Assumes nothing.
 use Prim.Native.Nat.{ℕ, zero, suc, _+_, _*_, _-_, _/_, _%_}
-use mathlib.Core.Bool.{Bool, cond, not}
+use mathlib.Core.Bool.{cond, not}
 use mathlib.Core.List.{List, [], _∷_, map, foldl}
 use lib.ListN.{getD, set, replicate}
 use lib.Dec.{ltb, eqb}

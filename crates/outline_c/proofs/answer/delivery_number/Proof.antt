@@ -1,5 +1,5 @@
 -- `outline_c::answer::delivery_number` meets its contract. Assumes nothing.
-use mathlib.Core.Path.{_≡_, ap, sym, _∙_}
+use mathlib.Core.Path.{ap, sym, _∙_}
 use borrow.Author.Needs.{needs}
 use Rattle.outline_c.specs.Number.{number}
 use Rattle.replica.specs.Answers.{deliveryAnswer}

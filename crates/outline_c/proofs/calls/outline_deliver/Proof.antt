@@ -1,5 +1,5 @@
 -- `outline_c::calls::outline_deliver` meets its contract. Assumes nothing.
-use mathlib.Core.Path.{_≡_, ap, _∙_}
+use mathlib.Core.Path.{ap, _∙_}
 use borrow.Author.Needs.{needs}
 use Rattle.outline_c.specs.Number.{number}
 use Rattle.outline_c.proofs.FitLaws.{deliver-fits}

@@ -2,7 +2,6 @@
 use mathlib.Core.Path.{_≡_}
 use Prim.Native.Nat.{ℕ, _-_, _≤_, _<_}
 use native.Mathlib.Omega.{arith}
-use native.Mathlib.Decide.{decLt}
 use Rattle.rules.specs.Op.{countIn}
 use Rattle.replay.proofs.TurnLaws.{idle-down}
 use Rattle.replay.proofs.level.highest.Statement.{statement}

@@ -1,6 +1,6 @@
 -- `replay::level::lowest` meets its contract. Assumes nothing.
 use mathlib.Core.Path.{_≡_}
-use Prim.Native.Nat.{ℕ, _-_, _≤_, _<_}
+use Prim.Native.Nat.{ℕ, _-_, _≤_}
 use native.Mathlib.Omega.{arith}
 use Rattle.rules.specs.Op.{countIn}
 use Rattle.replay.proofs.TurnLaws.{idle-up}
