@@ -68,9 +68,15 @@ impl<'a> Op<'a> {
     }
 }
 
-/// Whether `a` is nowhere greater than `b`.
+/// Whether `a` is nowhere greater than `b`. Four counts at once: a count and
+/// what its partner lacks to 255 come to more than 255 where it is greater.
 pub fn at_most(a: &Vector, b: &Vector) -> bool {
-    a.iter().zip(b).all(|(x, y)| x <= y)
+    const BYTES: u64 = 0x00ff_00ff_00ff_00ff;
+    const ABOVE: u64 = 0x0100_0100_0100_0100;
+    let (a, b) = (u64::from_le_bytes(*a), !u64::from_le_bytes(*b));
+    let even = (a & BYTES) + (b & BYTES);
+    let odd = (a >> 8 & BYTES) + (b >> 8 & BYTES);
+    (even | odd) & ABOVE == 0
 }
 
 /// A buffer with a sound log, and its header.

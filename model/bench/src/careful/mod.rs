@@ -1,4 +1,4 @@
-//! The calls in safe Rust, written for speed with ordinary care: no allocation,
+//! The calls in safe Rust, written for speed with equal care: no allocation,
 //! one pass for soundness, replay level by level, a linear listing. These are
 //! the algorithms of the verified library, so that the two can be compared.
 
