@@ -1,16 +1,18 @@
 -- A meeting worked out: what the definitions of Exchange give for the paper's P1. Assumes nothing.
+use Prim.Native.Nat.{ℕ}
 use lib.ListN.{replicate}
 use mathlib.Core.Bool.{true}
 use mathlib.Core.List.{List, [], _∷_, _++_}
 use mathlib.Core.Path.{refl, _≡_}
+use Rattle.convergence.specs.Clash.{Move, circle, beats, request}
 use Rattle.convergence.specs.Converges.{expected}
 use Rattle.convergence.specs.Exchange.{Side, Round, left, Offer, Pair, Call, issue, deliver, run, right, make, missing, after, answers, acceptedBy, answer, answerTo, acceptances, isSide, arrange, inOrder, everything, other, perform, opNumbered, heldThen, has, onlyIn, bufferAfter, offered}
-use Rattle.rules.specs.Answer.{require}
+use Rattle.rules.specs.Answer.{require, accepted}
 use Rattle.rules.specs.Bytes.{wordAt, all, word, upFrom, downFrom, sum, concat, greatest, same, any, filter, isIn}
 use Rattle.rules.specs.Deliver.{makeAnswer, deliverBuffer, makeBuffer, deliverAnswer, heldAnswer, admitAnswer, held}
 use Rattle.rules.specs.Examples.{p1, adds, p1File, vector}
 use Rattle.rules.specs.Issue.{opBytes, add, move, requestKnown, issued, moveKind, issueAnswer, requestClear, issueBuffer, issueOut}
-use Rattle.rules.specs.Log.{emptyLog, opsOf, opAt, countsOf, append, countAt, startAt, headerCounts, startOf, endOf, fileEnd, chunks, chunksOf, logOf, headerEntry, headerOf, fileOf, within, covered, closedAt, closed, nodeWithin, known, knownParent, namesKnown, soundOp, soundOps, soundLog, soundHeader, laid, structural, appended}
+use Rattle.rules.specs.Log.{emptyLog, opsOf, opAt, countsOf, append, countAt, startAt, headerCounts, startOf, endOf, fileEnd, chunks, chunksOf, logOf, headerEntry, headerOf, fileOf, within, covered, closedAt, closed, nodeWithin, known, knownParent, namesKnown, soundOp, soundOps, soundLog, soundHeader, laid, structural, appended, width}
 use Rattle.rules.specs.Op.{Op, replicas, isReplica, countIn, kindOf, replicaOf, nodeOf, parentOf, vectorOf, ownCount, seqOf, nodeNumber, isAdd, isRemove, isMove, wellFormed}
 use Rattle.rules.specs.Replay.{ofTime, timestampIn, stamped, parentsOf, ofReplica, byTime, ofKind, start, outcomeSlot, outcomeOf, opsWithin, stamp, ordered, outcomesOf, replay, timestamp, step}
 use Rattle.rules.specs.Sound.{sound}
@@ -92,4 +94,32 @@ met = record {
   first-round = refl;
   last-round = refl;
   in-turn = refl;
+}
+
+-- P1's two moves as a clash: what `ClashDecided` asks holds of them, and replica 2's wins
+abbrev moved₁ : Move
+moved₁ = record { replica = 1; node = 258; parent = 257 }
+
+abbrev moved₂ : Move
+moved₂ = record { replica = 2; node = 257; parent = 258 }
+
+-- the two adds, with room for two ops more
+abbrev shared : List ℕ
+shared = run (replicate 88 7) (deliver a₁ ∷ deliver a₂ ∷ []) .buffer
+
+pub record Clashed : Type 0 where
+  pub first-issued : issueAnswer width shared 14 1 (request moved₁) ≡ accepted 74
+  pub second-issued : issueAnswer width shared 14 2 (request moved₂) ≡ accepted 74
+  pub both-held : deliverAnswer width (issueBuffer width shared 14 1 (request moved₁)) b₁ ≡ accepted 88
+  pub circle-closed : circle (parentsOf (logOf width shared)) moved₁ moved₂ ≡ true
+  pub second-beats : beats (parentsOf (logOf width shared)) moved₂ moved₁ ≡ true
+
+pub clashed : Clashed
+unfolding p1 p1File require wordAt word upFrom downFrom sum greatest same concat all any filter isIn replicas isReplica countIn kindOf replicaOf nodeOf parentOf vectorOf ownCount seqOf nodeNumber isAdd isRemove isMove wellFormed emptyLog opsOf opAt countsOf append countAt startAt headerCounts startOf endOf fileEnd chunks chunksOf logOf headerEntry headerOf fileOf within covered closedAt closed nodeWithin known knownParent namesKnown soundOp soundOps soundLog soundHeader laid structural sound makeAnswer held heldAnswer admitAnswer deliverAnswer slot slotOf parentIn climb path depth atOrBelow opsWithin timestampIn timestamp stamp stamped ofReplica ofKind ofTime byTime ordered start outcomeSlot outcomeOf step replay parentsOf outcomesOf opBytes moveKind issued requestKnown requestClear issueAnswer makeBuffer deliverBuffer appended issueBuffer issueOut answer bufferAfter heldThen perform run has opNumbered inOrder arrange other isSide onlyIn missing answerTo offered after answers acceptances acceptedBy expected everything circle beats
+clashed = record {
+  first-issued = refl;
+  second-issued = refl;
+  both-held = refl;
+  circle-closed = refl;
+  second-beats = refl;
 }

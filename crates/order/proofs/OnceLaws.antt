@@ -133,7 +133,7 @@ module _ (P : Stamped → Bool) (xs : List Stamped) (n : ℕ) (times : all (λ x
 
 ---- the ops of a cut
 
-all-greatest : {A : Type 0} (p : A → Bool) (xs : List A) → greatest (map (λ x. cond (p x) 0 1) xs) ≤ 0 → all p xs ≡ true
+pub all-greatest : {A : Type 0} (p : A → Bool) (xs : List A) → greatest (map (λ x. cond (p x) 0 1) xs) ≤ 0 → all p xs ≡ true
 unfolding all greatest
 all-greatest p [] h = refl
 all-greatest p (x ∷ xs) h = go (p x) refl (all-greatest p xs (omega arith))

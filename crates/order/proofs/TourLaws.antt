@@ -35,7 +35,7 @@ concat-length F b [] h = omega arith
 concat-length F b (x ∷ xs) h =
     rw (length-append, mul-step) (omega (arith, h x (isIn-here x xs), concat-length F b xs (λ y e. h y (isIn-there y x xs e))))
 
-filter-length : (p : ℕ → Bool) (xs : List ℕ) → length (filter p xs) ≤ length xs
+pub filter-length : (p : ℕ → Bool) (xs : List ℕ) → length (filter p xs) ≤ length xs
 unfolding filter
 filter-length p [] = omega arith
 filter-length p (x ∷ xs) = go (p x) (filter-length p xs)

@@ -11,7 +11,7 @@ ghost use Rattle.view.specs.Answers.{listedAnswer};
 ghost use Rattle.outline_c.specs.Number.{number, fits};
 
 // A refusal by the paper's number.
-pub fn refusal_number(why: Refusal) -> usize
+pub(crate) fn refusal_number(why: Refusal) -> usize
     ensures { λ r. ⌜ r ≡ numberOf why ⌝ }
 {
     match why {
@@ -28,7 +28,7 @@ pub fn refusal_number(why: Refusal) -> usize
     }
 }
 
-pub fn made_number(answer: Made) -> usize
+pub(crate) fn made_number(answer: Made) -> usize
     requires { ⌜ fits (madeAnswer answer) ⌝ }
     ensures { λ r. ⌜ r ≡ number (madeAnswer answer) ⌝ }
 {
@@ -38,7 +38,7 @@ pub fn made_number(answer: Made) -> usize
     }
 }
 
-pub fn delivery_number(answer: Delivery) -> usize
+pub(crate) fn delivery_number(answer: Delivery) -> usize
     requires { ⌜ fits (deliveryAnswer answer) ⌝ }
     ensures { λ r. ⌜ r ≡ number (deliveryAnswer answer) ⌝ }
 {
@@ -49,7 +49,7 @@ pub fn delivery_number(answer: Delivery) -> usize
     }
 }
 
-pub fn issue_number(answer: Issue) -> usize
+pub(crate) fn issue_number(answer: Issue) -> usize
     requires { ⌜ fits (issueAnswerOf answer) ⌝ }
     ensures { λ r. ⌜ r ≡ number (issueAnswerOf answer) ⌝ }
 {
@@ -59,7 +59,7 @@ pub fn issue_number(answer: Issue) -> usize
     }
 }
 
-pub fn judged_number(answer: Judged) -> usize
+pub(crate) fn judged_number(answer: Judged) -> usize
     ensures { λ r. ⌜ r ≡ number (judgedAnswer answer) ⌝ }
 {
     match answer {
@@ -68,7 +68,7 @@ pub fn judged_number(answer: Judged) -> usize
     }
 }
 
-pub fn listed_number(answer: Listed) -> usize
+pub(crate) fn listed_number(answer: Listed) -> usize
     requires { ⌜ fits (listedAnswer answer) ⌝ }
     ensures { λ r. ⌜ r ≡ number (listedAnswer answer) ⌝ }
 {

@@ -5,7 +5,7 @@ ghost use lib.ListN.{length, take, drop};
 ghost use Rattle.rules.specs.Listing.{decimal};
 
 // How many decimal digits a two-byte number has.
-pub fn digit_count(n: u16) -> usize
+pub(crate) fn digit_count(n: u16) -> usize
     ensures { λ r. ⌜ (r ≡ length (decimal n)) × (r ≤ 5) ⌝ }
 {
     if n < 10 {
@@ -31,7 +31,7 @@ fn last_digit(n: u16) -> u8
 }
 
 // Writes a number in decimal at a place, the last digit first, and answers the place after it.
-pub fn put_decimal(out: &mut [u8], at: usize, n: u16) -> usize
+pub(crate) fn put_decimal(out: &mut [u8], at: usize, n: u16) -> usize
     requires { ⌜ at + length (decimal n) ≤ length (now out) ⌝ }
     ensures { λ r. ⌜ (r ≡ at + length (decimal n)) × (now (out .exit) ≡ take at (now (out .entry)) ++ (decimal n ++ drop (at + length (decimal n)) (now (out .entry)))) ⌝ }
 {

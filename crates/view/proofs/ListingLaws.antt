@@ -11,7 +11,7 @@ use native.Mathlib.Omega.{arith}
 use Rattle.order.proofs.DepthLaws.{climb-length}
 use Rattle.order.proofs.FuelLaws.{Depth, depth-child, depth-unique, has-depth}
 use Rattle.order.proofs.GrowLaws.{Named, named-valid}
-use Rattle.order.proofs.TourLaws.{preorder-length}
+use Rattle.order.proofs.TourLaws.{preorder-length, filter-length}
 use Rattle.rules.proofs.StructureLaws.{GoodLog}
 use Rattle.rules.proofs.TreeLaws.{Valid, slot-root, up}
 use Rattle.rules.specs.Bytes.{concat, filter}
@@ -20,13 +20,14 @@ use Rattle.rules.specs.Log.{Log, countsOf}
 use Rattle.rules.specs.Replay.{parentsOf}
 use Rattle.rules.specs.Tree.{climb, depth, path, slots}
 use Rattle.rules.specs.Views.{View, keeping, shown, skipping, tombstone}
+use Rattle.order.proofs.AllLaws.{All, all-kept, all-map}
 use Rattle.view.proofs.LinkLaws.{Chain, Linked, kids, links-right}
 use Rattle.view.proofs.MarkLaws.{mark-tombstone}
 use Rattle.view.proofs.NodesLaws.{children-slots, slot-entry}
 use Rattle.view.proofs.OrderLaws.{pre-nodes}
 use Rattle.view.proofs.PruneLaws.{pruned}
 use Rattle.view.proofs.RevealLaws.{keeping-hidden}
-use Rattle.view.proofs.SeqLaws.{All, all-kept, all-map, filter-map-filter, length-filter, map-all, map-concat, map-map, not-not, under-and}
+use Rattle.view.proofs.SeqLaws.{filter-map-filter, map-all, map-concat, map-map, not-not, under-and}
 use Rattle.view.proofs.SlotLaws.{spot-node, spot-valid}
 use Rattle.view.proofs.TourLaws.{pre, tour-root}
 use Rattle.view.proofs.TreePathLaws.{Under, children-under}
@@ -87,7 +88,7 @@ module _ (log : Log) (good : GoodLog log) where
     kids-under n = all-kept _ unhidden (children log P n) (children-under log good n)
 
     pub order-short : length (pre kidsOf slots 0) ≤ 2041
-    order-short = rw (← shown-order) (le-trans (length-filter (shown view log P) (preorder slots log P 0)) (preorder-length log good slots))
+    order-short = rw (← shown-order) (le-trans (filter-length (shown view log P) (preorder slots log P 0)) (preorder-length log good slots))
 
     order-nodes : All Node (pre kidsOf slots 0)
     order-nodes = pre-nodes kidsOf Node (λ n w. all-map _ _ (kidsOf n) (λ c u. u .node) (kids-under n)) slots 0 (inl refl)

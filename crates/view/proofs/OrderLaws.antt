@@ -2,8 +2,9 @@
 use Prim.Native.Nat.{suc, zero, ℕ}
 use mathlib.Core.List.{List}
 use Rattle.view.proofs.LinkLaws.{kids}
-use Rattle.view.proofs.SeqLaws.{All, all-concat, all-map}
+use Rattle.view.proofs.SeqLaws.{all-concat}
 use Rattle.view.proofs.TourLaws.{pre}
+use Rattle.order.proofs.AllLaws.{All, all-map}
 
 -- a property that goes from a node to its children
 module _ (kids : ℕ → List ℕ) (Node : ℕ → Type 0) (node-kids : (n : ℕ) → Node n → All Node (kids n)) where

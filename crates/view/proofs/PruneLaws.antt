@@ -6,7 +6,8 @@ use mathlib.Core.Path.{_≡_, refl, _∙_}
 use Rattle.rules.specs.Bytes.{concat, filter}
 use Rattle.rules.specs.Listing.{children, preorder}
 use Rattle.rules.specs.Log.{Log}
-use Rattle.view.proofs.SeqLaws.{All, all-map, filter-concat}
+use Rattle.order.proofs.AllLaws.{All, all-map}
+use Rattle.view.proofs.SeqLaws.{filter-concat}
 use Rattle.view.proofs.TourLaws.{pre}
 
 kept-children : (g : ℕ → Bool) (b : Bool) (F G : ℕ → List ℕ) (cs : List ℕ) → All (λ c. F c ≡ cond (b && g c) (G c) []) cs → concat (map F cs) ≡ cond b (concat (map G (filter g cs))) []

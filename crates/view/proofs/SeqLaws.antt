@@ -4,42 +4,22 @@ use borrow.Author.Tests.{eq-eqb, eqb-true}
 use lib.Dec.{eqb}
 use lib.ListN.{getD, length}
 use mathlib.Core.Bool.{_&&_, Bool, cond, false, not, or-true, true, _||_}
-use mathlib.Core.List.{_++_, List, [], map, map-append, _∷_}
+use mathlib.Core.List.{List, [], map, map-append, _∷_}
 use mathlib.Core.Logic.{⊎-elim}
 use mathlib.Core.Path.{_≡_, ap, refl, sym, _∙_}
 use native.Mathlib.Nat.{add-zero, le-refl}
 use native.Mathlib.Omega.{arith}
 use Rattle.rules.proofs.BoolLaws.{and-both, never, or-cases}
 use Rattle.rules.proofs.ListLaws.{filter-append, map-upFrom, upFrom-add}
-use Rattle.rules.specs.Bytes.{all, any, concat, filter, greatest, isIn, upFrom}
+use Rattle.rules.specs.Bytes.{all, any, concat, filter, isIn, upFrom}
+use Rattle.order.proofs.AllLaws.{All, all-append}
 
 ---- a property of every element
-
-abbrev pub All : (ℕ → Type 0) → List ℕ → Type 0
-All P [] = Unit {0}
-All P (x ∷ xs) = P x × All P xs
-
-pub all-map : (P Q : ℕ → Type 0) (xs : List ℕ) → ((x : ℕ) → P x → Q x) → All P xs → All Q xs
-all-map P Q [] f a = tt
-all-map P Q (x ∷ xs) f a = (f x (a .0), all-map P Q xs f (a .1))
-
-pub all-append : (P : ℕ → Type 0) (xs ys : List ℕ) → All P xs → All P ys → All P (xs ++ ys)
-all-append P [] ys a b = b
-all-append P (x ∷ xs) ys a b = (a .0, all-append P xs ys (a .1) b)
 
 pub all-concat : (P : ℕ → Type 0) (F : ℕ → List ℕ) (cs : List ℕ) → All (λ c. All P (F c)) cs → All P (concat (map F cs))
 unfolding concat
 all-concat P F [] a = tt
 all-concat P F (c ∷ cs) a = all-append P (F c) (concat (map F cs)) (a .0) (all-concat P F cs (a .1))
-
-pub all-kept : (P : ℕ → Type 0) (g : ℕ → Bool) (xs : List ℕ) → All P xs → All P (filter g xs)
-unfolding filter
-all-kept P g [] a = tt
-all-kept P g (x ∷ xs) a = go (g x) (all-kept P g xs (a .1))
-  where
-    go : (b : Bool) → All P (filter g xs) → All P (cond b (x ∷ filter g xs) (filter g xs))
-    go true ih = (a .0, ih)
-    go false ih = ih
 
 pub all-filtered : (p : ℕ → Bool) (Q : ℕ → Type 0) (xs : List ℕ) → ((x : ℕ) → isIn x xs ≡ true → p x ≡ true → Q x) → All Q (filter p xs)
 unfolding filter isIn any
@@ -55,15 +35,6 @@ map-all P f g [] h a = refl
 map-all P f g (x ∷ xs) h a = rw (h x (a .0), map-all P f g xs h (a .1))
 
 ---- filters, maps and concatenations
-
-pub length-filter : (p : ℕ → Bool) (xs : List ℕ) → length (filter p xs) ≤ length xs
-unfolding filter
-length-filter p [] = omega arith
-length-filter p (x ∷ xs) = go (p x) (length-filter p xs)
-  where
-    go : (b : Bool) → length (filter p xs) ≤ length xs → length (cond b (x ∷ filter p xs) (filter p xs)) ≤ suc (length xs)
-    go true ih = omega arith
-    go false ih = omega arith
 
 pub filter-concat : {A : Type 0} (p : A → Bool) (F : ℕ → List A) (ns : List ℕ) → filter p (concat (map F ns)) ≡ concat (map (λ n. filter p (F n)) ns)
 unfolding concat filter
@@ -137,15 +108,6 @@ blocks (suc n) a l =
     rw (upFrom-cons a n, blocks n (suc a) (omega arith), e, q) (sym (upFrom-add (255 * (a - 1) + 1) 255 (255 * n)))
 
 ---- tests of the elements
-
-pub all-greatest : {A : Type 0} (p : A → Bool) (xs : List A) → greatest (map (λ x. cond (p x) 0 1) xs) ≤ 0 → all p xs ≡ true
-unfolding all greatest
-all-greatest p [] h = refl
-all-greatest p (x ∷ xs) h = go (p x) refl (all-greatest p xs (omega arith))
-  where
-    go : (b : Bool) → p x ≡ b → all p xs ≡ true → (b && all p xs) ≡ true
-    go true e ih = ih
-    go false e ih = let z : _≡_ {A = ℕ} (cond (p x) 0 1) 1 = rw e in absurd (omega arith)
 
 pub any-more : (p q : ℕ → Bool) (xs : List ℕ) → ((x : ℕ) → isIn x xs ≡ true → p x ≡ true → q x ≡ true) → any p xs ≡ true → any q xs ≡ true
 unfolding isIn any

@@ -19,7 +19,8 @@ use Rattle.rules.specs.Log.{Log, countsOf, known, opAt, opsOf}
 use Rattle.rules.specs.Op.{Op, countIn, isRemove, kindOf, nodeOf, replicas, vectorOf}
 use Rattle.rules.specs.Replay.{opsWithin, removedIn}
 use Rattle.rules.specs.Views.{tombstone}
-use Rattle.view.proofs.SeqLaws.{all-greatest, map-getD}
+use Rattle.order.proofs.OnceLaws.{all-greatest}
+use Rattle.view.proofs.SeqLaws.{map-getD}
 
 pub ops-all : (log : Log) → length log ≡ 8 → opsWithin log (countsOf log) ≡ concat log
 unfolding opsWithin replicas opsOf

@@ -23,7 +23,8 @@ use Rattle.rules.specs.Log.{Log, countsOf, known}
 use Rattle.rules.specs.Replay.{parentsOf}
 use Rattle.rules.specs.Tree.{climb, parentIn, path, slots}
 use Rattle.rules.specs.Views.{nodes}
-use Rattle.view.proofs.SeqLaws.{All, all-filtered}
+use Rattle.order.proofs.AllLaws.{All}
+use Rattle.view.proofs.SeqLaws.{all-filtered}
 
 pub up-none : (parents : List ℕ) (n : ℕ) → up parents 0 n ≡ n
 unfolding up

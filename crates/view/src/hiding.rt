@@ -41,7 +41,7 @@ fn reveal_slot(parents: &[u16], marks: &[u8], hidden: &mut [u8], slot: usize)
 
 // Shows every unmarked node and what is above it. No node is shown twice, so all climbs together
 // are linear.
-pub fn reveal_all(parents: &[u16], marks: &[u8], hidden: &mut [u8])
+pub(crate) fn reveal_all(parents: &[u16], marks: &[u8], hidden: &mut [u8])
     requires { ⌜ (length (now parents) ≡ 2041) × (length (now marks) ≡ 2041) × (length (now hidden) ≡ 2041) ⌝ }
     ensures { λ _. ⌜ now (hidden .exit) ≡ foldl (tables.revealSlot (now (parents .entry)) (now (marks .entry))) (now (hidden .entry)) (upFrom 1 2040) ⌝ }
 {

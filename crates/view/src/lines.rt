@@ -11,7 +11,7 @@ ghost use lib.ListN.{length, take, drop};
 ghost use Rattle.view.specs.Tables.{linesOf};
 
 // How many bytes the lines of a tour have, whatever the marks.
-pub fn size_of(order: &[u32], count: usize) -> usize
+pub(crate) fn size_of(order: &[u32], count: usize) -> usize
     requires { ⌜ (count ≤ length (now order)) × (count ≤ 2041) ⌝ }
     ensures { λ r. ⌜ ((marks : List ℕ) → r ≡ length (linesOf marks (take count (now (order .entry))))) ⌝ }
 {
@@ -24,7 +24,7 @@ pub fn size_of(order: &[u32], count: usize) -> usize
 }
 
 // Writes the lines of a tour.
-pub fn write_lines(order: &[u32], count: usize, marks: &[u8], out: &mut [u8])
+pub(crate) fn write_lines(order: &[u32], count: usize, marks: &[u8], out: &mut [u8])
     requires { ⌜ (count ≤ length (now order)) × (count ≤ 2041) × (length (now marks) ≡ 2041) × (length (linesOf (now marks) (take count (now order))) ≤ length (now out)) ⌝ }
     ensures { λ _. ⌜ now (out .exit) ≡ linesOf (now (marks .entry)) (take count (now (order .entry))) ++ drop (length (linesOf (now (marks .entry)) (take count (now (order .entry))))) (now (out .entry)) ⌝ }
 {

@@ -39,7 +39,13 @@ fn link(parents: &[u16], hidden: &[u8], first: &mut [u16], next: &mut [u16])
 
 // Links the nodes that a view shows. In the skipping view a marked node is hidden, and with it
 // all below, since the tour does not come there.
-pub fn link_view(parents: &[u16], marks: &[u8], view: View, first: &mut [u16], next: &mut [u16])
+pub(crate) fn link_view(
+    parents: &[u16],
+    marks: &[u8],
+    view: View,
+    first: &mut [u16],
+    next: &mut [u16],
+)
     requires { ⌜ Sized (now parents) (now marks) (now first) (now next) ⌝ }
     ensures { λ _. ⌜ links (now (first .exit)) (now (next .exit)) ≡ foldl (linkSlot (now (parents .entry)) (hiddenOf (now (parents .entry)) (now (marks .entry)) (viewOf view))) (links (now (first .entry)) (now (next .entry))) (downFrom 2040) ⌝ }
 {

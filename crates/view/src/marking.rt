@@ -24,7 +24,7 @@ fn mark_op(file: &[u8], at: usize, marks: &mut [u8])
 }
 
 // Marks every node that an op of the file removes.
-pub fn mark_ops(file: &[u8], marks: &mut [u8])
+pub(crate) fn mark_ops(file: &[u8], marks: &mut [u8])
     requires { ⌜ (laid width (now file) ≡ true) × (length (now marks) ≡ 2041) ⌝ }
     ensures { λ _. ⌜ now (marks .exit) ≡ foldl mark (now (marks .entry)) (concat (logOf width (now (file .entry)))) ⌝ }
 {

@@ -4,7 +4,7 @@ ghost use Prim.Native.Nat.{_<_};
 ghost use Rattle.view.specs.Tables.{spot, nodeAt};
 
 // The slot of a node, and 0 for a number without one: a slot that a table always has.
-pub fn spot_of(node: u16) -> usize
+pub(crate) fn spot_of(node: u16) -> usize
     ensures { λ r. ⌜ (r ≡ spot node) × (r < 2041) ⌝ }
 {
     let slot = slot_of(node);
@@ -15,7 +15,7 @@ pub fn spot_of(node: u16) -> usize
 }
 
 // The node of a slot.
-pub fn node_at(slot: usize) -> u16
+pub(crate) fn node_at(slot: usize) -> u16
     requires { ⌜ slot < 2041 ⌝ }
     ensures { λ r. ⌜ r ≡ nodeAt slot ⌝ }
 {

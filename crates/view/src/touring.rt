@@ -14,13 +14,13 @@ fn entry_of(node: u16, depth: u16) -> u32
     (node as u32) * 65536 + (depth as u32)
 }
 
-pub fn node_in(entry: u32) -> u16
+pub(crate) fn node_in(entry: u32) -> u16
     ensures { λ r. ⌜ r ≡ entry / 65536 ⌝ }
 {
     (entry / 65536) as u16
 }
 
-pub fn depth_in(entry: u32) -> u16
+pub(crate) fn depth_in(entry: u32) -> u16
     ensures { λ r. ⌜ r ≡ entry % 65536 ⌝ }
 {
     (entry % 65536) as u16
@@ -41,7 +41,7 @@ fn push(stack: &mut [u32], top: usize, node: u16, depth: u16) -> usize
 
 // The nodes from the root on in preorder, with their depths; answers how many there are. The
 // stack has the first of the siblings that are left, for each level that the tour is in.
-pub fn tour(first: &[u16], next: &[u16], order: &mut [u32]) -> usize
+pub(crate) fn tour(first: &[u16], next: &[u16], order: &mut [u32]) -> usize
     requires { ⌜ (length (now first) ≡ 2041) × (length (now next) ≡ 2041) × (length (now order) ≡ 2041) ⌝ }
     ensures { λ r. ⌜ (r ≡ length (tourOf (links (now (first .entry)) (now (next .entry))))) × (now (order .exit) ≡ tourOf (links (now (first .entry)) (now (next .entry))) ++ drop r (now (order .entry))) ⌝ }
 {
