@@ -29,8 +29,31 @@ pub enum Judged {
     Refused(Refusal),
 }
 
-// The tests that every issue makes first: all passed, or the first that failed.
+// Whether tests pass: all of them, or the first that failed.
 pub enum Gate {
     Open,
+    Refused(Refusal),
+}
+
+// What a caller asks to issue.
+pub enum Request {
+    // Under a parent.
+    Add(u16),
+    // A node.
+    Remove(u16),
+    // A node under a parent.
+    Move(u16, u16),
+}
+
+// An op to issue, but for its replica and its vector.
+pub struct Draft {
+    pub kind: u8,
+    pub node: u16,
+    pub parent: u16,
+}
+
+// What the tests say of a request: the op to issue, or the first test that failed.
+pub enum Asked {
+    Op(Draft),
     Refused(Refusal),
 }

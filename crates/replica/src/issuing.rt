@@ -1,14 +1,16 @@
-use crate::answer::Gate;
+use crate::answer::Asked;
+use crate::answer::Draft;
 use crate::answer::Issue;
+use crate::answer::Request;
 use crate::soundness::WIDTH;
+use crate::soundness::accept;
+use crate::soundness::has_room;
 use crate::soundness::is_sound;
 use codec::Refusal;
 use codec::small;
 use codec::widen;
 use codec::write_op;
-use oplog::append_op;
 use oplog::counts_of;
-use oplog::end_of;
 use oplog::known_in;
 use oplog::known_parent;
 use replay::below;
@@ -16,139 +18,203 @@ use replay::depth_of;
 use replay::replay_all;
 ghost use mathlib.Core.Path.{_≡_};
 ghost use mathlib.Core.Bool.{true};
-ghost use mathlib.Core.List.{List, _++_};
-ghost use Prim.Native.Nat.{ℕ, _+_, _≤_, _<_};
-ghost use lib.ListN.{length, drop};
-ghost use Rattle.rules.specs.Answer.{Answer, ifAccepted};
-ghost use Rattle.rules.specs.Log.{width, logOf, headerCounts, appended};
-ghost use Rattle.rules.specs.Issue.{opBytes, add, remove, move};
+ghost use Prim.Native.Nat.{_+_, _<_};
+ghost use lib.ListN.{length};
+ghost use lib.Dec.{ltb};
+ghost use Rattle.rules.specs.Log.{width, logOf, headerCounts};
+ghost use Rattle.rules.specs.Op.{isReplica, countIn, nodeNumber};
+ghost use Rattle.rules.specs.Issue.{add, remove, move, requestKnown};
 ghost use Rattle.rules.specs.Issue as rules;
+ghost use Rattle.rules.specs.Replay.{parentsOf};
 ghost use Rattle.rules.specs.Sound.{sound};
-ghost use Rattle.replica.specs.Answers.{issueAnswerOf, gateAnswer, firstTests, lastTest, kindOrCycle, Issuable};
+ghost use Rattle.replica.specs.Answers.{issueAnswerOf, handed, putOut, asked, askedMove, tested, requestOf, bytesOf, Issuable, Known};
 
-// The tests 1, 2, 3 and 9.
-fn first_tests(file: &[u8], replica: u8, room: usize) -> Gate
-    ensures { λ r. ⌜ ((next : Answer) → gateAnswer r next ≡ firstTests (now (file .entry)) room replica next) ⌝ }
+// Whether a number is a replica's.
+fn is_replica(s: u8) -> bool
+    ensures { λ r. ⌜ r ≡ isReplica s ⌝ }
+{
+    if s < 1 {
+        return false;
+    }
+    s <= 8
+}
+
+// Whether a replica has an op left to issue.
+fn has_left(counts: [u8; 8], replica: u8) -> bool
+    requires { ⌜ isReplica replica ≡ true ⌝ }
+    ensures { λ r. ⌜ r ≡ ltb (countIn counts replica) 255 ⌝ }
+{
+    counts[widen(replica) - 1] < 255
+}
+
+// The node that a replica's next op makes, if it is an add.
+fn next_node(counts: [u8; 8], replica: u8) -> u16
+    requires { ⌜ isReplica replica ≡ true ⌝ }
+    ensures { λ r. ⌜ r ≡ nodeNumber replica (countIn counts replica + 1) ⌝ }
+{
+    let s = widen(replica);
+    (256 * s + small(counts[s - 1]) + 1) as u16
+}
+
+// The tests of a request, from 7 on.
+
+fn ask_add(file: &[u8], counts: [u8; 8], replica: u8, parent: u16) -> Asked
+    requires { ⌜ Known (now file) counts × (isReplica replica ≡ true) ⌝ }
+    ensures { λ r. ⌜ r ≡ asked (logOf width (now (file .entry))) replica (add parent) ⌝ }
+{
+    if !known_parent(file, counts, parent, WIDTH) {
+        return Asked::Refused(Refusal::Unknown);
+    }
+    let node = next_node(counts, replica);
+    Asked::Op(Draft {
+        kind: 1,
+        node: node,
+        parent: parent,
+    })
+}
+
+fn ask_remove(file: &[u8], counts: [u8; 8], replica: u8, node: u16) -> Asked
+    requires { ⌜ Known (now file) counts ⌝ }
+    ensures { λ r. ⌜ r ≡ asked (logOf width (now (file .entry))) replica (remove node) ⌝ }
+{
+    if !known_in(file, counts, node, WIDTH) {
+        return Asked::Refused(Refusal::Unknown);
+    }
+    Asked::Op(Draft {
+        kind: 2,
+        node: node,
+        parent: 0,
+    })
+}
+
+fn knows_move(file: &[u8], counts: [u8; 8], node: u16, parent: u16) -> bool
+    requires { ⌜ Known (now file) counts ⌝ }
+    ensures { λ r. ⌜ r ≡ requestKnown (logOf width (now (file .entry))) (move node parent) ⌝ }
+{
+    if !known_in(file, counts, node, WIDTH) {
+        return false;
+    }
+    if !known_parent(file, counts, parent, WIDTH) {
+        return false;
+    }
+    parent != node
+}
+
+// Test 10, and the kind of the move, both by the tree.
+fn draft_move(parents: &[u16], node: u16, parent: u16) -> Asked
+    requires { ⌜ (length (now parents) ≡ 2041) × (node < 65535) ⌝ }
+    ensures { λ r. ⌜ r ≡ askedMove (now (parents .entry)) node parent ⌝ }
+{
+    if below(parents, parent, node) {
+        return Asked::Refused(Refusal::Cycle);
+    }
+    if depth_of(parents, parent) < depth_of(parents, node) {
+        return Asked::Op(Draft {
+            kind: 3,
+            node: node,
+            parent: parent,
+        });
+    }
+    Asked::Op(Draft {
+        kind: 4,
+        node: node,
+        parent: parent,
+    })
+}
+
+// The same, by the present tree.
+fn place_move(file: &[u8], node: u16, parent: u16) -> Asked
+    requires { ⌜ (sound width (now file) ≡ true) × (requestKnown (logOf width (now file)) (move node parent) ≡ true) ⌝ }
+    ensures { λ r. ⌜ r ≡ askedMove (parentsOf (logOf width (now (file .entry)))) node parent ⌝ }
+{
+    let mut parents = [0u16; 2041];
+    let mut outcomes = [0u8; 2041];
+    replay_all(file, &mut parents, &mut outcomes, WIDTH);
+    draft_move(&parents, node, parent)
+}
+
+fn ask_move(file: &[u8], counts: [u8; 8], replica: u8, node: u16, parent: u16) -> Asked
+    requires { ⌜ Known (now file) counts ⌝ }
+    ensures { λ r. ⌜ r ≡ asked (logOf width (now (file .entry))) replica (move node parent) ⌝ }
+{
+    if !knows_move(file, counts, node, parent) {
+        return Asked::Refused(Refusal::Unknown);
+    }
+    place_move(file, node, parent)
+}
+
+fn ask(file: &[u8], counts: [u8; 8], replica: u8, request: Request) -> Asked
+    requires { ⌜ Known (now file) counts × (isReplica replica ≡ true) ⌝ }
+    ensures { λ r. ⌜ r ≡ asked (logOf width (now (file .entry))) replica (requestOf request) ⌝ }
+{
+    match request {
+        Request::Add(parent) => ask_add(file, counts, replica, parent),
+        Request::Remove(node) => ask_remove(file, counts, replica, node),
+        Request::Move(node, parent) => ask_move(file, counts, replica, node, parent),
+    }
+}
+
+// Every test but the last.
+fn tests(file: &[u8], room: usize, replica: u8, request: Request) -> Asked
+    ensures { λ r. ⌜ r ≡ tested (now (file .entry)) room replica (requestOf request) ⌝ }
 {
     if !is_sound(file) {
-        return Gate::Refused(Refusal::Unsound);
+        return Asked::Refused(Refusal::Unsound);
     }
     if room < WIDTH {
-        return Gate::Refused(Refusal::Length);
+        return Asked::Refused(Refusal::Length);
     }
-    if replica < 1 {
-        return Gate::Refused(Refusal::Malformed);
-    }
-    if 8 < replica {
-        return Gate::Refused(Refusal::Malformed);
+    if !is_replica(replica) {
+        return Asked::Refused(Refusal::Malformed);
     }
     let counts = counts_of(file, WIDTH);
-    if 255 <= small(counts[widen(replica) - 1]) {
-        return Gate::Refused(Refusal::Exhausted);
+    if !has_left(counts, replica) {
+        return Asked::Refused(Refusal::Exhausted);
     }
-    Gate::Open
+    ask(file, counts, replica, request)
 }
 
 // The last test, 8, and then the op is put out and added.
-fn put_out(
-    buf: &mut [u8],
-    kind: u8,
-    replica: u8,
-    node: u16,
-    parent: u16,
-    counts: [u8; 8],
-    out: &mut [u8],
-) -> Issue
-    requires { ⌜ Issuable (now buf) replica counts × (width ≤ length (now out)) ⌝ }
-    ensures { λ r. ⌜ (issueAnswerOf r ≡ lastTest (now (buf .entry))) × (now (buf .exit) ≡ ifAccepted (lastTest (now (buf .entry))) (appended width (now (buf .entry)) (opBytes kind replica node parent counts)) (now (buf .entry))) × (now (out .exit) ≡ ifAccepted (lastTest (now (buf .entry))) (opBytes kind replica node parent counts ++ drop width (now (out .entry))) (now (out .entry))) ⌝ }
+fn put_out(buf: &mut [u8], replica: u8, draft: Draft, out: &mut [u8]) -> Issue
+    requires { ⌜ Issuable (now buf) (length (now out)) replica ⌝ }
+    ensures { λ r. ⌜ handed r (now (buf .exit)) (now (out .exit)) ≡ putOut (now (buf .entry)) (now (out .entry)) (bytesOf replica draft (headerCounts (now (buf .entry)))) ⌝ }
 {
-    if buf.len() < end_of(buf, 8, WIDTH) + WIDTH {
+    if !has_room(buf) {
         return Issue::Refused(Refusal::NoRoom);
     }
-    write_op(out, kind, replica, node, parent, counts);
+    let counts = counts_of(buf, WIDTH);
+    write_op(out, draft.kind, replica, draft.node, draft.parent, counts);
     let n = WIDTH;
-    Issue::Accepted(append_op(buf, widen(replica), &out[..n], WIDTH))
+    Issue::Accepted(accept(buf, replica, &out[..n]))
+}
+
+// Issues what is asked for.
+fn issue(buf: &mut [u8], replica: u8, request: Request, out: &mut [u8]) -> Issue
+    ensures { λ r. ⌜ handed r (now (buf .exit)) (now (out .exit)) ≡ rules.issue width (now (buf .entry)) (now (out .entry)) replica (requestOf request) ⌝ }
+{
+    match tests(buf, out.len(), replica, request) {
+        Asked::Op(draft) => put_out(buf, replica, draft, out),
+        Asked::Refused(why) => Issue::Refused(why),
+    }
 }
 
 // Issues an add of a new node under a parent.
 pub fn issue_add(buf: &mut [u8], replica: u8, parent: u16, out: &mut [u8]) -> Issue
     ensures { λ r. ⌜ (issueAnswerOf r ≡ rules.issue width (now (buf .entry)) (now (out .entry)) replica (add parent) .answer) × (now (buf .exit) ≡ rules.issue width (now (buf .entry)) (now (out .entry)) replica (add parent) .buffer) × (now (out .exit) ≡ rules.issue width (now (buf .entry)) (now (out .entry)) replica (add parent) .out) ⌝ }
 {
-    let gate = first_tests(buf, replica, out.len());
-    let Gate::Open = gate else {
-        let Gate::Refused(why) = gate else {
-            return Issue::Refused(Refusal::Malformed);
-        };
-        return Issue::Refused(why);
-    };
-    let counts = counts_of(buf, WIDTH);
-    if !known_parent(buf, counts, parent, WIDTH) {
-        return Issue::Refused(Refusal::Unknown);
-    }
-    let s = widen(replica);
-    let node = (256 * s + small(counts[s - 1]) + 1) as u16;
-    put_out(buf, 1, replica, node, parent, counts, out)
+    issue(buf, replica, Request::Add(parent), out)
 }
 
 // Issues a remove of a node.
 pub fn issue_remove(buf: &mut [u8], replica: u8, node: u16, out: &mut [u8]) -> Issue
     ensures { λ r. ⌜ (issueAnswerOf r ≡ rules.issue width (now (buf .entry)) (now (out .entry)) replica (remove node) .answer) × (now (buf .exit) ≡ rules.issue width (now (buf .entry)) (now (out .entry)) replica (remove node) .buffer) × (now (out .exit) ≡ rules.issue width (now (buf .entry)) (now (out .entry)) replica (remove node) .out) ⌝ }
 {
-    let gate = first_tests(buf, replica, out.len());
-    let Gate::Open = gate else {
-        let Gate::Refused(why) = gate else {
-            return Issue::Refused(Refusal::Malformed);
-        };
-        return Issue::Refused(why);
-    };
-    let counts = counts_of(buf, WIDTH);
-    if !known_in(buf, counts, node, WIDTH) {
-        return Issue::Refused(Refusal::Unknown);
-    }
-    put_out(buf, 2, replica, node, 0, counts, out)
-}
-
-// The kind of a move by the present tree, or 0 where the new parent lies below the node.
-fn move_kind(file: &[u8], node: u16, parent: u16) -> u8
-    requires { ⌜ (sound width (now file) ≡ true) × (node < 65535) ⌝ }
-    ensures { λ r. ⌜ r ≡ kindOrCycle (logOf width (now (file .entry))) node parent ⌝ }
-{
-    let mut parents = [0u16; 2041];
-    let mut outcomes = [0u8; 2041];
-    replay_all(file, &mut parents, &mut outcomes, WIDTH);
-    if below(&parents, parent, node) {
-        return 0;
-    }
-    if depth_of(&parents, parent) < depth_of(&parents, node) {
-        return 3;
-    }
-    4
+    issue(buf, replica, Request::Remove(node), out)
 }
 
 // Issues a move of a node under a new parent.
 pub fn issue_move(buf: &mut [u8], replica: u8, node: u16, parent: u16, out: &mut [u8]) -> Issue
     ensures { λ r. ⌜ (issueAnswerOf r ≡ rules.issue width (now (buf .entry)) (now (out .entry)) replica (move node parent) .answer) × (now (buf .exit) ≡ rules.issue width (now (buf .entry)) (now (out .entry)) replica (move node parent) .buffer) × (now (out .exit) ≡ rules.issue width (now (buf .entry)) (now (out .entry)) replica (move node parent) .out) ⌝ }
 {
-    let gate = first_tests(buf, replica, out.len());
-    let Gate::Open = gate else {
-        let Gate::Refused(why) = gate else {
-            return Issue::Refused(Refusal::Malformed);
-        };
-        return Issue::Refused(why);
-    };
-    let counts = counts_of(buf, WIDTH);
-    if !known_in(buf, counts, node, WIDTH) {
-        return Issue::Refused(Refusal::Unknown);
-    }
-    if !known_parent(buf, counts, parent, WIDTH) {
-        return Issue::Refused(Refusal::Unknown);
-    }
-    if parent == node {
-        return Issue::Refused(Refusal::Unknown);
-    }
-    let kind = move_kind(buf, node, parent);
-    if kind == 0 {
-        return Issue::Refused(Refusal::Cycle);
-    }
-    put_out(buf, kind, replica, node, parent, counts, out)
+    issue(buf, replica, Request::Move(node, parent), out)
 }
