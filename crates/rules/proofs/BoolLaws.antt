@@ -1,16 +1,17 @@
 -- Laws of tests: conjunctions, tests of every element, the eight replicas. Assumes nothing.
-use mathlib.Core.Path.{_≡_, refl, sym}
+use mathlib.Core.Path.{_≡_, refl, sym, _∙_}
 use mathlib.Core.Logic.{_⊎_, inl, inr}
-use mathlib.Core.Bool.{Bool, true, false, _&&_, _||_}
+use mathlib.Core.Bool.{Bool, true, false, _&&_, _||_, not}
 use mathlib.Core.List.{map}
 use Prim.Native.Nat.{ℕ, zero, suc, _+_, _≤_, _<_, _-_}
 use native.Mathlib.Omega.{arith}
 use native.Mathlib.Decide.{ℕ-discrete}
+use borrow.Author.Tests.{leb-true, le-leb, not-true, not-false}
 use lib.Arith.{lt-of-le-ne}
-use lib.Dec.{lit≤}
+use lib.Dec.{lit≤, leb}
 use native.Mathlib.Numerals.{add-one}
 use Rattle.rules.specs.Bytes.{upFrom, all}
-use Rattle.rules.specs.Op.{replicas}
+use Rattle.rules.specs.Op.{replicas, isReplica}
 
 pub never : {A : Type 0} → _≡_ {A = Bool} false true → A
 never e = let z : _≡_ {A = ℕ} 0 1 = cc in absurd (omega arith)
@@ -56,6 +57,18 @@ pub both-ways : (a b : Bool) → (a ≡ true → b ≡ true) → (b ≡ true →
 both-ways true b f g = sym (f refl)
 both-ways false true f g = g refl
 both-ways false false f g = refl
+
+pub replica-low : (s : ℕ) → isReplica s ≡ true → 1 ≤ s
+unfolding isReplica
+replica-low s e = leb-true _ _ (and-left (leb 1 s) _ e)
+
+pub replica-high : (s : ℕ) → isReplica s ≡ true → s ≤ 8
+unfolding isReplica
+replica-high s e = leb-true _ _ (and-right (leb 1 s) _ e)
+
+pub in-replicas : (s : ℕ) → 1 ≤ s → s ≤ 8 → isReplica s ≡ true
+unfolding isReplica
+in-replicas s l u = and-both (le-leb 1 s l) (le-leb s 8 u)
 
 pub all-replicas : (p : ℕ → Bool) → ((s : ℕ) → 1 ≤ s → s ≤ 8 → p s ≡ true) → all p replicas ≡ true
 unfolding all replicas upFrom
@@ -127,3 +140,20 @@ pass-turn p i h = let e : 8 - i ≡ suc (8 - (i + 1)) = omega arith in rw (e, �
 pub pass-end : (p : ℕ → Bool) (i : ℕ) → 8 ≤ i → passFrom p i ≡ true
 unfolding passFrom all upFrom
 pass-end p i h = let e : 8 - i ≡ 0 = omega arith in rw e
+
+---- r, which the code tests, is what b defines
+
+module _ {r b : Bool} (e : r ≡ b) where
+  pub is-so : r ≡ true → b ≡ true
+  is-so h = sym e ∙ h
+
+  pub is-not-so : r ≡ false → b ≡ false
+  is-not-so h = sym e ∙ h
+
+  pub so-by-not : not r ≡ false → b ≡ true
+  so-by-not h = sym e ∙ not-false _ h
+
+  pub not-so-by-not : not r ≡ true → b ≡ false
+  not-so-by-not h = sym e ∙ not-true _ h
+
+pub ruleset tested = (is-so, is-not-so, so-by-not, not-so-by-not)

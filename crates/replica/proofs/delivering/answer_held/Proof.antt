@@ -1,4 +1,5 @@
 -- `replica::delivering::answer_held` meets its contract. Assumes nothing.
+use borrow.Author.Needs.{needs}
 use Rattle.replica.proofs.DeliverCases.{delivering}
 use Rattle.replica.proofs.delivering.answer_held.Statement.{statement}
 use Rattle.replica.proofs.delivering.answer_held.Tie as tie
@@ -7,7 +8,9 @@ pub answer-held-spec : {M : Type 1} → statement M
 answer-held-spec =
     tie.close
     (tie.spec
+    (λ c κs. search needs)
+    (λ c κs. search needs)
     (λ c κs. search delivering)
-    (λ c κs. search delivering)
+    (λ c κs. search needs)
     (λ c. search delivering)
     (λ c. search delivering))

@@ -1,6 +1,6 @@
 -- `replica::delivering::names` meets its contract. Assumes nothing.
 use Rattle.rules.specs.Op.{nodeNumber}
-use Rattle.replica.specs.Answers.{namesIn}
+use Rattle.replica.specs.Delivering.{namesIn}
 use mathlib.Core.Path.{_∙_}
 use borrow.Author.Needs.{needs}
 use Rattle.replica.proofs.delivering.names.Statement.{statement}

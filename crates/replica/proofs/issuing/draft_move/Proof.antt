@@ -1,6 +1,6 @@
 -- `replica::issuing::draft_move` meets its contract. Assumes nothing.
-use Rattle.replica.proofs.IssueCases.{issuing}
 use borrow.Author.Needs.{needs}
+use Rattle.replica.proofs.IssueCases.{issuing}
 use Rattle.replica.proofs.issuing.draft_move.Statement.{statement}
 use Rattle.replica.proofs.issuing.draft_move.Tie as tie
 
@@ -11,6 +11,4 @@ draft-move-spec =
     (λ c κs. search needs)
     (λ c. search issuing)
     (λ c κs. search needs)
-    (λ c κs. search needs)
-    (λ c. search issuing)
     (λ c. search issuing))

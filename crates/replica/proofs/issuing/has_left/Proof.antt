@@ -1,16 +1,10 @@
 -- `replica::issuing::has_left` meets its contract. Assumes nothing.
 use native.Mathlib.Omega.{arith}
-use Rattle.replica.proofs.IssueCases.{replica-range}
-use Rattle.rules.specs.Op.{countIn}
 use borrow.Author.Needs.{needs}
+use Rattle.rules.specs.Op.{countIn}
+use Rattle.rules.proofs.BoolLaws.{replica-low, replica-high}
 use Rattle.replica.proofs.issuing.has_left.Statement.{statement}
 use Rattle.replica.proofs.issuing.has_left.Tie as tie
-
-sub-result : tie.Need-sub-result
-sub-result c = let i = replica-range _ (c .before .pre) in omega arith
-
-array-read-result : tie.Need-array-read-result
-array-read-result c = let i = replica-range _ (c .before .pre) in omega arith
 
 returns : tie.Need-returns
 unfolding countIn
@@ -21,6 +15,6 @@ has-left-spec =
     tie.close
     (tie.spec
     (λ c κs. search needs)
-    sub-result
-    array-read-result
+    (λ c. omega (arith, replica-low))
+    (λ c. omega (arith, replica-high))
     returns)

@@ -1,6 +1,6 @@
 -- `replica::issuing::issue` meets its contract. Assumes nothing.
-use Rattle.replica.proofs.IssueCases.{issuing}
 use borrow.Author.Needs.{needs}
+use Rattle.replica.proofs.IssueCases.{issuing}
 use Rattle.replica.proofs.issuing.issue.Statement.{statement}
 use Rattle.replica.proofs.issuing.issue.Tie as tie
 
@@ -10,10 +10,13 @@ issue-spec =
     (tie.spec
     (λ c κs. search needs)
     (λ c. search needs)
+    (λ c. search issuing)
+    (λ c. search needs)
+    (λ c. search issuing)
+    (λ c κs. search needs)
+    (λ c. search needs)
+    (λ c. search issuing)
     (λ c κs. search issuing)
     (λ c. search needs)
     (λ c. search needs)
-    (λ c. search needs)
-    (λ c. search issuing)
-    (λ c. search needs)
-    (λ c. search issuing))
+    (λ c. search needs))

@@ -1,22 +1,13 @@
 -- `replica::issuing::next_node` meets its contract. Assumes nothing.
 use native.Mathlib.Omega.{arith}
-use Rattle.replica.proofs.IssueCases.{replica-range}
 use mathlib.Core.Path.{_≡_}
 use Prim.Native.Nat.{_-_}
 use lib.ListN.{getD}
-use Rattle.rules.specs.Op.{countIn, nodeNumber}
 use borrow.Author.Needs.{needs}
+use Rattle.rules.specs.Op.{countIn, nodeNumber}
+use Rattle.rules.proofs.BoolLaws.{replica-low, replica-high}
 use Rattle.replica.proofs.issuing.next_node.Statement.{statement}
 use Rattle.replica.proofs.issuing.next_node.Tie as tie
-
-sub-small : tie.Need-sub-small
-sub-small c = let i = replica-range _ (c .before .pre) in omega arith
-
-array-read-small : tie.Need-array-read-small
-array-read-small c = let i = replica-range _ (c .before .pre) in omega arith
-
-cast-result : tie.Need-cast-result
-cast-result c = let i = replica-range _ (c .before .before .pre) in omega arith
 
 returns : tie.Need-returns
 unfolding countIn nodeNumber
@@ -31,10 +22,10 @@ next-node-spec =
     (tie.spec
     (λ c κs. search needs)
     (λ c. search needs)
-    sub-small
-    array-read-small
+    (λ c. omega (arith, replica-low))
+    (λ c. omega (arith, replica-high))
     (λ c κs. search needs)
     (λ c. search needs)
     (λ c. search needs)
-    cast-result
+    (λ c. omega (arith, replica-high))
     returns)
