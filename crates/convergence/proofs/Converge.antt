@@ -1,4 +1,4 @@
--- Two logs that meet come to the same file: demand 3, and what is said beside it. Assumes nothing.
+-- Two logs that meet come to the same file: demand 3. Assumes nothing.
 use mathlib.Core.Path.{_≡_, refl, sym, ap, _∙_}
 use mathlib.Core.Logic.{_⊎_, inl, inr, ⊎-elim}
 use mathlib.Core.Bool.{Bool, true, false, cond, _&&_, _||_, not, or-true}
@@ -16,7 +16,7 @@ use Rattle.rules.specs.Log.{Log, opsOf, opAt, countsOf, fileOf, width, fileEnd,
 use Rattle.rules.specs.Replay.{parentsOf}
 use Rattle.rules.specs.Views.{nodes}
 use Rattle.convergence.specs.Exchange.{Site, run, has, times, Agreed, arrange, filed, Side, left, right, other, Pair, missing, everything, Round, after, Answered, answers, acceptedBy, ValidRound, EachRound, fileIn}
-use Rattle.convergence.specs.Converges.{Settled, Meets, meeting, Converges, ListsFile, SameOpsSameFile, judged}
+use Rattle.convergence.specs.Converges.{Settled, Meets, meeting, Converges, judged}
 use Rattle.rules.specs.TreeClaim.{IsTree}
 use Rattle.rules.specs.Judge.{judge, judgeAnswer}
 use Rattle.rules.specs.Answer.{require}
@@ -30,8 +30,9 @@ use Rattle.rules.proofs.FileLaws.{WideLog}
 use Rattle.order.proofs.TreeTheorem.{is-tree}
 use Rattle.convergence.proofs.HasLaws.{has-append, has-old, times-append, times-once, none-onlyIn}
 use Rattle.convergence.proofs.UnionLaws.{extends-equal, longer, longer-is, union, union-ops, union-left, union-right, good-union, union-wide}
-use Rattle.convergence.proofs.TrackLaws.{OpIn, in-more, Tracks, op-in, arrange-log}
+use Rattle.convergence.proofs.TrackLaws.{OpIn, in-more, Tracks, op-in, tracks-listed, arrange-log}
 use Rattle.convergence.proofs.KeptLaws.{logIn, Kept, kept-good, kept-ops, kept-end, kept-filed, kept-run, kept-standing, kept-arrange, kept-wide}
+use Rattle.convergence.proofs.ListTheorems.{kept-stored}
 use Rattle.convergence.proofs.SideLaws.{both, missing-from}
 use Rattle.convergence.proofs.RoundLaws.{Stands, Passes, pass-rounds, rounds-accept, rounds-end}
 
@@ -162,8 +163,8 @@ module _ (p : Pair) (k : (d : Side) → Kept (p d)) (big : (d : Side) → 28592 
       let base : Side → List ℕ = λ d. p d .buffer in
       let pass = pass-rounds u gu wu base big rounds p stands v in
       record {
-        filed-first = λ d. kept-filed (p d) (k d);
-        held-once = λ d. k d .once;
+        stored = λ d. kept-stored (p d) (k d);
+        every = λ r. rw arrange-all (tracks-listed u (good-ops gu) (gu .eight) r (everything p) tracks-all);
         answered = pass .answered;
         progress = rounds-accept u gu wu base big rounds p stands v;
         ends = λ h. no-length _ (rounds-end u gu wu base big rounds p stands v h);
@@ -183,26 +184,3 @@ converges start calls rest rounds long big ag v =
     let p : Pair = meeting start calls rest in
     let k : (d : Side) → Kept (p d) = λ d. kept-standing (run (start d) (calls d)) (rest d) (kept-run (start d) (calls d) (long d)) in
     meets p k big ag (rw (arrange-all p k big ag) (tree-of (u p k big ag) (gu p k big ag))) rounds v
-
----- beside it
-
-pub lists-file : ListsFile
-lists-file f calls h = kept-filed (run f calls) (kept-run f calls h)
-
-kept-file-in : (x : Site) → Kept x → fileIn x ≡ fileOf width (arrange (x .held))
-unfolding fileIn
-kept-file-in x k =
-    ap (take (fileEnd width (x .buffer))) (k .front) ∙ take-at (fileOf width (logIn x)) _ _ (kept-end x k) ∙ ap (fileOf width) (sym (kept-arrange x k))
-
-pub same-ops-same-file : SameOpsSameFile
-same-ops-same-file f g a b lf lg same =
-    let x : Site = run f a in
-    let y : Site = run g b in
-    let k : Kept x = kept-run f a lf in
-    let m : Kept y = kept-run g b lg in
-    let t : Tracks (logIn y) (x .held) = record {
-      inside = λ r e. m .tracks .inside r (sym (same r) ∙ e);
-      outside = λ r i. same r ∙ m .tracks .outside r i;
-    } in
-    let e : arrange (x .held) ≡ logIn y = arrange-log (logIn y) (x .held) t (kept-ops y m) (kept-good y m .eight) (kept-good y m .counts) in
-    kept-file-in x k ∙ ap (fileOf width) (e ∙ sym (kept-arrange y m)) ∙ sym (kept-file-in y m)

@@ -2,11 +2,13 @@
 use mathlib.Core.Path.{_≡_, refl, sym, ap, _∙_}
 use mathlib.Core.Logic.{⊎-elim}
 use mathlib.Core.Bool.{Bool, true, false, cond, _||_, not, or-assoc, or-false, or-true}
-use mathlib.Core.List.{List, [], _∷_, _++_, append-nil}
-use Prim.Native.Nat.{ℕ, _+_, _≤_}
+use mathlib.Core.List.{List, [], _∷_, _++_, map, append-nil}
+use Prim.Native.Nat.{ℕ, zero, suc, _+_, _≤_, _<_}
+use native.Mathlib.Nat.{le-of-suc-le-suc, not-suc-le-zero}
+use native.Mathlib.Decide.{ℕ-discrete}
 use native.Mathlib.Omega.{arith}
-use lib.ListN.{length, length-append}
-use Rattle.rules.specs.Bytes.{same, any, filter}
+use lib.ListN.{length, getD, length-append}
+use Rattle.rules.specs.Bytes.{upFrom, same, concat, any, filter}
 use Rattle.rules.specs.Op.{Op}
 use Rattle.convergence.specs.Exchange.{has, times, onlyIn}
 use Rattle.rules.proofs.BoolLaws.{never, both-ways, or-cases}
@@ -82,6 +84,39 @@ once-last a x r h e = rw (times-append a (x ∷ []) r) (go (same r x) refl)
     go : (b : Bool) → same r x ≡ b → length (filter (same r) a) + length (cond b (x ∷ []) []) ≤ 1
     go true q = let z : has a r ≡ false = rw (same-eq r x q) e in omega (arith, times-none a r z)
     go false q = omega arith
+
+---- where an op stands
+
+pub has-at : (a : List Op) (r : Op) → has a r ≡ true → (i : ℕ) × (i < length a) × (getD a i [] ≡ r)
+unfolding has any
+has-at [] r e = never e
+has-at (x ∷ a) r e = ⊎-elim (λ (h : same r x ≡ true). (0, omega arith, sym (same-eq r x h))) (λ (h : has a r ≡ true). next (has-at a r h)) (or-cases (same r x) (has a r) e)
+  where
+    next : (i : ℕ) × (i < length a) × (getD a i [] ≡ r) → (i : ℕ) × (i < suc (length a)) × (getD (x ∷ a) i [] ≡ r)
+    next (i, l, g) = (suc i, omega arith, g)
+
+pub at-has : (a : List Op) (i : ℕ) → i < length a → has a (getD a i []) ≡ true
+at-has [] i l = absurd (not-suc-le-zero l)
+at-has (x ∷ a) zero l = has-head x a
+at-has (x ∷ a) (suc i) l = has-tail x a _ (at-has a i (le-of-suc-le-suc l))
+
+-- in a list of lists, one for each number from a on
+module _ (F : ℕ → List Op) (r : Op) where
+  pub has-part : (n a : ℕ) → has (concat (map F (upFrom a n))) r ≡ true → (s : ℕ) × (a ≤ s) × (s < a + n) × (has (F s) r ≡ true)
+  unfolding concat upFrom has any
+  has-part zero a e = never e
+  has-part (suc n) a e = ⊎-elim (λ (h : has (F a) r ≡ true). (a, omega arith, omega arith, h)) (λ (h : has (concat (map F (upFrom (suc a) n))) r ≡ true). next (has-part n (suc a) h)) (or-cases _ _ (sym (has-append (F a) _ r) ∙ e))
+    where
+      next : (s : ℕ) × (suc a ≤ s) × (s < suc a + n) × (has (F s) r ≡ true) → (s : ℕ) × (a ≤ s) × (s < a + suc n) × (has (F s) r ≡ true)
+      next (s, l, u, h) = (s, omega arith, omega arith, h)
+
+  pub part-has : (n a s : ℕ) → a ≤ s → s < a + n → has (F s) r ≡ true → has (concat (map F (upFrom a n))) r ≡ true
+  unfolding concat upFrom
+  part-has zero a s l u e = absurd (omega arith)
+  part-has (suc n) a s l u e = rw (has-append (F a) (concat (map F (upFrom (suc a) n))) r) (elim (ℕ-discrete s a) [
+    | yes q ↦ rw (← q, e)
+    | no nq ↦ rw (part-has n (suc a) s (omega arith) (omega arith) e, or-true)
+  ])
 
 ---- what one list has and another lacks
 

@@ -17,7 +17,7 @@ use Rattle.rules.specs.Bytes.{any, filter}
 use Rattle.rules.specs.Sound.{sound}
 use Rattle.rules.specs.Answer.{Answer, refused, hadIt, accepted, require, ifAccepted, done}
 use Rattle.rules.proofs.BoolLaws.{never, replica-cases, fails}
-use Rattle.rules.proofs.DeliverLaws.{Admitted, admitted, appended-log, appended-end, appended-sound, wide-new, end-new}
+use Rattle.rules.proofs.DeliverLaws.{Admitted, admitted, appended-log, appended-end, appended-sound, appended-past}
 use Rattle.rules.proofs.IssueLaws.{issue-admitted}
 use Rattle.rules.proofs.AppendLaws.{in-range, own-next, seq-positive}
 use Rattle.rules.proofs.FileLaws.{length-logOf, counts-logOf, length-file, WideLog, logOf-fileOf, file-end}
@@ -53,6 +53,11 @@ pub kept-end : (x : Site) → Kept x → length (fileOf width (logIn x)) ≡ fil
 unfolding fileEnd
 kept-end x k = rw (length-file width (logIn x) (kept-wide x k), counts-logOf)
 
+pub kept-front : (x : Site) → Kept x → fileIn x ≡ fileOf width (logIn x)
+unfolding fileIn
+kept-front x k =
+    ap (take (fileEnd width (x .buffer))) (k .front) ∙ take-at (fileOf width (logIn x)) _ _ (kept-end x k)
+
 -- a file in front of a rest
 pub kept-file : (log : Log) (rest : List ℕ) (ops : List Op) → GoodLog log → WideLog width log → Tracks log ops → ((r : Op) → times ops r ≤ 1) → Kept (record { buffer = fileOf width log ++ rest; held = ops })
 kept-file log rest ops g w t o = record {
@@ -68,11 +73,6 @@ module _ (x : Site) (r : Op) (n : ℕ) (k : Kept x) (h : Admitted width (x .buff
   abbrev grown : Site
   grown = record { buffer = appended width (x .buffer) r; held = x .held ++ (r ∷ []) }
 
-  pub grown-past : drop (fileEnd width (x .buffer) + width) (appended width (x .buffer) r) ≡ drop (fileEnd width (x .buffer) + width) (x .buffer)
-  unfolding appended
-  grown-past =
-      drop-at (fileOf width (append (logIn x) r)) _ _ (length-file width (append (logIn x) r) (wide-new width (x .buffer) r n h) ∙ end-new width (x .buffer) r n h)
-
   pub grown-new : has (x .held) r ≡ false
   unfolding Rattle.rules.specs.Deliver.held
   grown-new = fails _ (λ e. let i = k .tracks .inside r e in let z : countIn (countsOf (logIn x)) (replicaOf r) < seqOf r = leb-false _ _ (h .admits .new) in omega (arith, i .here))
@@ -86,7 +86,7 @@ module _ (x : Site) (r : Op) (n : ℕ) (k : Kept x) (h : Admitted width (x .buff
       let i = in-range (logIn x) r (kept-good x k) (h .admits) in
       record {
         is-sound = appended-sound width (x .buffer) r n h;
-        front = rw (appended-log width (x .buffer) r n h, appended-end width (x .buffer) r n h, grown-past) grown-front;
+        front = rw (appended-log width (x .buffer) r n h, appended-end width (x .buffer) r n h, appended-past width (x .buffer) r n h) grown-front;
         tracks = rw (appended-log width (x .buffer) r n h) (tracks-append (logIn x) r (length-logOf width (x .buffer)) (i .0) (i .1) (own-next (logIn x) r (kept-good x k) (h .admits)) (x .held) (k .tracks));
         once = λ y. once-last (x .held) r y (k .once y) grown-new;
       }
@@ -143,11 +143,10 @@ kept-run f calls h = kept-calls calls (perform (record { buffer = f; held = [] }
 
 -- the file in another buffer
 pub kept-standing : (x : Site) (rest : List ℕ) → Kept x → Kept (standing x rest)
-unfolding standing fileIn
+unfolding standing
 kept-standing x rest k =
     let g = kept-good x k in
-    let e : take (fileEnd width (x .buffer)) (x .buffer) ≡ fileOf width (logIn x) = ap (take (fileEnd width (x .buffer))) (k .front) ∙ take-at (fileOf width (logIn x)) _ _ (kept-end x k) in
-    rw e (kept-file (logIn x) rest (x .held) g (kept-wide x k) (k .tracks) (k .once))
+    rw (kept-front x k) (kept-file (logIn x) rest (x .held) g (kept-wide x k) (k .tracks) (k .once))
 
 -- a buffer stands for itself: what lies past the file is its own
 pub standing-own : (x : Site) → standing x (drop (fileEnd width (x .buffer)) (x .buffer)) ≡ x

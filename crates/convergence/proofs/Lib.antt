@@ -2,6 +2,7 @@ pub mod HasLaws
 pub mod UnionLaws
 pub mod TrackLaws
 pub mod KeptLaws
+pub mod ListTheorems
 pub mod SideLaws
 pub mod RoundLaws
 pub mod Converge

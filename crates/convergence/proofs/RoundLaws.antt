@@ -19,7 +19,7 @@ use Rattle.convergence.specs.Converges.{expected}
 use Rattle.rules.specs.Answer.{Answer, refused, hadIt, accepted, ifAccepted, done}
 use Rattle.rules.proofs.BoolLaws.{never, and-left, and-right, and-both, or-cases}
 use Rattle.rules.proofs.AppendLaws.{Extends, in-range, own-next, seq-positive}
-use Rattle.rules.proofs.DeliverLaws.{Admitted, admitted, appended-log, appended-end, appended-length}
+use Rattle.rules.proofs.DeliverLaws.{appended-past, Admitted, admitted, appended-log, appended-end, appended-length}
 use Rattle.rules.proofs.OfferLaws.{Agree, Offered, early, offered-in-full, had, taken}
 use Rattle.rules.proofs.CausalLaws.{Missing, total, some-ready}
 use Rattle.rules.proofs.FileLaws.{length-logOf, WideLog}
@@ -27,7 +27,7 @@ use Rattle.rules.proofs.ListLaws.{same-refl, same-eq}
 use Rattle.rules.proofs.StructureLaws.{HeldOp, GoodLog, HeldOps}
 use Rattle.convergence.proofs.HasLaws.{has-old, times-some, onlyIn-less, onlyIn-same, some-onlyIn}
 use Rattle.convergence.proofs.TrackLaws.{OpIn, in-more, append-within, op-in}
-use Rattle.convergence.proofs.KeptLaws.{logIn, Kept, kept-ops, kept-grown, grown-past, grown-new, kept-good}
+use Rattle.convergence.proofs.KeptLaws.{logIn, Kept, kept-ops, kept-grown, grown-new, kept-good}
 use Rattle.convergence.proofs.SideLaws.{both, side-self, side-other, side-eq, missing-from, delivered, offered-to, offered-other, offered-same, answers-append, after-append, acceptedBy-append, acceptances-append}
 
 -- a side in the rounds: its log lies within u, and past its file are the bytes of f, the buffer before the rounds
@@ -94,7 +94,7 @@ module _ (u : Log) (gu : GoodLog u) (wu : WideLog width u) (base : Side → List
         kept = kept-grown x r n (s .kept) h;
         inside = rw (appended-log width (x .buffer) r n h) (append-within (logIn x) r (length-logOf width (x .buffer)) (g .0) (g .1) (own-next (logIn x) r good (h .admits)) u (s .inside) i);
         size = appended-length width (x .buffer) r n h ∙ s .size;
-        past = rw (appended-end width (x .buffer) r n h) (grown-past x r n (s .kept) h ∙ sym (drop-drop width e (x .buffer)) ∙ ap (drop width) (s .past) ∙ drop-drop width e (base d));
+        past = rw (appended-end width (x .buffer) r n h) (appended-past width (x .buffer) r n h ∙ sym (drop-drop width e (x .buffer)) ∙ ap (drop width) (s .past) ∙ drop-drop width e (base d));
       }
 
   pass-none : (p : Pair) → ((d : Side) → Stands u (base d) (p d)) → Passes u base p p []

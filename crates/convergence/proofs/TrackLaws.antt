@@ -12,14 +12,14 @@ use lib.ListN.{length, take, getD, length-append}
 use lib.Seq.{getD-append-seam}
 use lib.Dec.{eqb}
 use Rattle.rules.specs.Bytes.{same, upFrom, concat, any, filter}
-use Rattle.rules.specs.Op.{Op, countIn, replicaOf, ownCount, seqOf}
+use Rattle.rules.specs.Op.{Op, replicas, countIn, replicaOf, ownCount, seqOf}
 use Rattle.rules.specs.Log.{Log, opsOf, opAt, countsOf, append}
 use Rattle.convergence.specs.Exchange.{has, opNumbered, inOrder, arrange}
-use Rattle.rules.proofs.BoolLaws.{never, and-left, and-right, and-both, map-replicas, fails, or-cases}
+use Rattle.rules.proofs.BoolLaws.{never, both-ways, and-left, and-right, and-both, map-replicas, fails, or-cases}
 use Rattle.rules.proofs.AppendLaws.{Extends, append-extends, ops-same, ops-other, seq-positive}
 use Rattle.rules.proofs.StructureLaws.{count-held, HeldOps}
 use Rattle.rules.proofs.ListLaws.{same-eq}
-use Rattle.convergence.proofs.HasLaws.{has-head, has-tail, has-last, has-new, has-old}
+use Rattle.convergence.proofs.HasLaws.{has-head, has-tail, has-last, has-new, has-old, has-at, at-has, has-part, part-has}
 use Rattle.convergence.proofs.UnionLaws.{log-eta}
 
 -- r is the op of its replica and number in the log
@@ -49,6 +49,29 @@ op-in log h s q l u lq uq = let x = h s q l u lq uq in record {
   here = rw (x .origin, x .number) uq;
   there = rw (x .origin, x .number);
 }
+
+-- the ops of a log, replica by replica, are those in it
+module _ (log : Log) (held : HeldOps log) (eight : length log ≡ 8) (r : Op) where
+  listed-in : has (concat log) r ≡ true → OpIn log r
+  unfolding replicas opAt
+  listed-in e =
+      let (s, l, u, h) = has-part (opsOf log) r 8 1 (rw (log-eta log eight) e) in
+      let (i, b, g) = has-at (opsOf log s) r h in
+      let c : countIn (countsOf log) s ≡ length (opsOf log s) = count-held log s in
+      let k : suc i - 1 ≡ i = omega arith in
+      let o = op-in log held s (suc i) l (omega arith) (omega arith) (omega arith) in
+      rw (k, g) at o
+
+  in-listed : OpIn log r → has (concat log) r ≡ true
+  unfolding replicas opAt
+  in-listed h =
+      let c : countIn (countsOf log) (replicaOf r) ≡ length (opsOf log (replicaOf r)) = count-held log (replicaOf r) in
+      let a : has (opsOf log (replicaOf r)) r ≡ true =
+      rw (h .there) at (at-has (opsOf log (replicaOf r)) (seqOf r - 1) (omega (arith, h .here, seq-positive r))) in
+      rw (log-eta log eight) at (part-has (opsOf log) r 8 1 (replicaOf r) (h .low) (omega (arith, h .high)) a)
+
+  pub tracks-listed : (ops : List Op) → Tracks log ops → has (concat log) r ≡ has ops r
+  tracks-listed ops t = both-ways _ _ (λ e. t .outside r (listed-in e)) (λ e. in-listed (t .inside r e))
 
 ---- one op more
 

@@ -1,4 +1,4 @@
--- What two logs come to when they meet: demand 3 as one statement, and what is said beside it of every list of calls. Assumes nothing.
+-- What two logs come to when they meet: demand 3 as one statement. Assumes nothing.
 use Prim.Native.Nat.{ℕ, _≤_}
 use mathlib.Core.Path.{_≡_}
 use mathlib.Core.Bool.{Bool, true, false, cond, _&&_, not}
@@ -14,24 +14,8 @@ use Rattle.rules.specs.Replay.{parentsOf, outcomesOf}
 use Rattle.rules.specs.Judge.{Judgement, judge}
 use Rattle.rules.specs.Views.{nodes}
 use Rattle.rules.specs.TreeClaim.{IsTree}
-use Rattle.convergence.specs.Exchange.{Call, run, fileIn, standing, has, times, Agreed, arrange, filed, Side, left, right, other, Pair, missing, everything, Round, after, Answered, answers, acceptances, acceptedBy, ValidRound, EachRound}
-
----- one list of calls
-
--- "after every list the file is, to its end, the table and bodies of the held records"
-abbrev pub ListsFile : Type 0
-ListsFile =
-    (f : List ℕ) (calls : List Call) → 32 ≤ length f
-    → run f calls .buffer ≡ filed (run f calls .held) (run f calls .buffer)
-
--- strong eventual consistency: the same ops held, in whatever order they came, are the same file
-abbrev pub SameOpsSameFile : Type 0
-SameOpsSameFile =
-    (f g : List ℕ) (a b : List Call) → 32 ≤ length f → 32 ≤ length g
-    → ((r : Op) → has (run f a .held) r ≡ has (run g b .held) r)
-    → fileIn (run f a) ≡ fileIn (run g b)
-
----- two lists, and the rounds after them
+use Rattle.convergence.specs.Lists.{Stored}
+use Rattle.convergence.specs.Exchange.{Call, run, standing, has, times, Agreed, arrange, filed, Side, left, right, other, Pair, missing, everything, Round, after, Answered, answers, acceptances, acceptedBy, ValidRound, EachRound}
 
 -- the answers of a round: "acceptance, had it and 5, which is early, and no others"
 unfoldable pub expected : Answer → Bool
@@ -60,9 +44,10 @@ pub record Settled (p q : Pair) (xs : List Answered) : Type 0 where
   pub tree : IsTree (nodes (arrange (everything p))) (parentsOf (arrange (everything p)))
 
 pub record Meets (p : Pair) (rounds : List Round) : Type 0 where
-  -- each list left the file of the held ops, none of them twice
-  pub filed-first : (d : Side) → p d .buffer ≡ filed (p d .held) (p d .buffer)
-  pub held-once : (d : Side) (r : Op) → times (p d .held) r ≤ 1
+  -- each list left the file of the held ops
+  pub stored : (d : Side) → Stored (p d)
+  -- arranging what either holds drops nothing: an op is in the log of all ops exactly if one side holds it
+  pub every : (r : Op) → has (concat (arrange (everything p))) r ≡ has (everything p) r
   -- the answers of all rounds are those expected
   pub answered : all (λ x. expected (x .answered)) (answers p (concat rounds)) ≡ true
   -- each round that begins with something missing has an acceptance

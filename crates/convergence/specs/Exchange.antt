@@ -48,9 +48,30 @@ perform x c = record {
   held = ifAccepted (answer (x .buffer) c) (heldThen x c) (x .held);
 }
 
--- a list starts with making, in a buffer that holds f
+-- a buffer that holds f, before the first call
+abbrev pub lent : List ℕ → Site
+lent f = record { buffer = f; held = [] }
+
+-- a list starts with making
 unfoldable pub run : List ℕ → List Call → Site
-run f calls = foldl perform (record { buffer = f; held = [] }) (make ∷ calls)
+run f calls = foldl perform (lent f) (make ∷ calls)
+
+-- what a call hands back: its answer, and what it leaves in the bytes that it was lent for the op
+pub record Reply : Type 0 where
+  pub answer : Answer
+  pub out : List ℕ
+
+unfoldable pub outAfter : List ℕ → Call → List ℕ
+outAfter f make = []
+outAfter f (issue out s q) = issueOut width f out s q
+outAfter f (deliver r) = []
+
+unfoldable pub reply : List ℕ → Call → Reply
+reply f c = record { answer = answer f c; out = outAfter f c }
+
+unfoldable pub replies : Site → List Call → List Reply
+replies x [] = []
+replies x (c ∷ calls) = reply (x .buffer) c ∷ replies (perform x c) calls
 
 -- the file at the front of a buffer
 unfoldable pub fileIn : Site → List ℕ

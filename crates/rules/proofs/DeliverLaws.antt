@@ -7,8 +7,9 @@ use native.Mathlib.Nat.{mul-add, mul-one}
 use native.Mathlib.Omega.{arith}
 use borrow.Author.Tests.{leb-true, eqb-true, le-leb, eq-eqb}
 use lib.ListN.{length, drop, length-append, length-drop}
+use lib.Seq.{drop-at}
 use Rattle.rules.specs.Op.{Op}
-use Rattle.rules.specs.Log.{Log, countsOf, append, endOf, fileEnd, logOf, appended}
+use Rattle.rules.specs.Log.{Log, countsOf, append, endOf, fileEnd, logOf, fileOf, appended}
 use Rattle.rules.specs.Answer.{Answer, accepted, require}
 use Rattle.rules.specs.Deliver.{admitAnswer, held, heldAnswer, deliverAnswer, deliverBuffer}
 use Rattle.rules.specs.Sound.{sound}
@@ -105,6 +106,11 @@ module _ (w : ℕ) (f : List ℕ) (r : Op) (n : ℕ) (h : Admitted w f r n) wher
   unfolding appended
   appended-length =
       rw (length-append, length-file w (append old r) wide-new, end-new, length-drop) (omega (arith, h .room))
+
+  -- what lies past the new end stays
+  pub appended-past : drop (fileEnd w f + w) (appended w f r) ≡ rest
+  unfolding appended
+  appended-past = drop-at (fileOf w (append old r)) rest _ (length-file w (append old r) wide-new ∙ end-new)
 
   pub appended-sound : sound w (appended w f r) ≡ true
   unfolding appended
