@@ -18,7 +18,7 @@ use Rattle.order.proofs.LateLaws.{Late, ordered-late, no-entry, late-entry, top
 use Rattle.order.proofs.LevelLaws.{Cut}
 use Rattle.order.proofs.PlacedLaws.{tables-full, placed-by}
 use Rattle.order.specs.Levels.{entry, level, nextOf, levelKind}
-use Rattle.rules.proofs.AppendLaws.{Admits, good-append, in-range, Extends, ops-other, ops-same, extends}
+use Rattle.rules.proofs.AppendLaws.{Admits, good-append, in-range, ops-other, ops-same, extends}
 use Rattle.rules.proofs.BoolLaws.{and-both, never}
 use Rattle.rules.proofs.DeliverLaws.{appended-log, admitted}
 use Rattle.rules.proofs.IssueLaws.{counts-eight, bytes-parent, bytes-vector, bytes-node, Allowed, issue-admitted, allowed}
@@ -27,7 +27,7 @@ use Rattle.rules.proofs.StructureLaws.{GoodLog, counts-covered, counts-closed, 
 use Rattle.rules.proofs.TreeLaws.{Valid, slot-below, slot-injective, short, still-reaches, free-avoids}
 use Rattle.rules.specs.Deliver.{deliverBuffer}
 use Rattle.rules.specs.Issue.{issued, opBytes, moveKind, requestKnown, issueBuffer, requestClear, issueOut}
-use Rattle.rules.specs.Log.{Log, countsOf, known, knownParent, opAt, append, opsOf, logOf, width, appended}
+use Rattle.rules.specs.Log.{Log, countsOf, known, knownParent, opAt, append, opsOf, logOf, width, appended, Extends}
 use Rattle.rules.specs.Op.{Op, countIn, isMove, nodeOf, parentOf, seqOf, kindOf, ownCount, replicaOf, vectorOf, isReplica}
 use Rattle.rules.specs.Replay.{outcomeSlot, parentsOf, State, Stamped, replay, step, outcomesOf, outcomeOf}
 use Rattle.rules.specs.Tree.{depth, slot, slots, atOrBelow, slotOf}

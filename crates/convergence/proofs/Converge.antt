@@ -12,7 +12,7 @@ use borrow.Author.Tests.{le-leb}
 use lib.Seq.{take-at}
 use Rattle.rules.specs.Bytes.{concat}
 use Rattle.rules.specs.Op.{Op, countIn, replicaOf, seqOf}
-use Rattle.rules.specs.Log.{Log, opsOf, opAt, countsOf, fileOf, width, fileEnd, logOf}
+use Rattle.rules.specs.Log.{Log, opsOf, opAt, countsOf, fileOf, width, fileEnd, logOf, Extends}
 use Rattle.rules.specs.Replay.{parentsOf}
 use Rattle.rules.specs.Views.{nodes}
 use Rattle.convergence.specs.Exchange.{Site, run, has, times, Agreed, arrange, filed, Side, left, right, other, Pair, missing, everything, Round, after, Answered, answers, acceptedBy, ValidRound, EachRound, fileIn}
@@ -22,7 +22,6 @@ use Rattle.rules.specs.Judge.{judge, judgeAnswer}
 use Rattle.rules.specs.Answer.{require}
 use Rattle.rules.specs.Sound.{sound}
 use Rattle.rules.specs.Tree.{slots}
-use Rattle.rules.proofs.AppendLaws.{Extends}
 use Rattle.rules.proofs.OfferLaws.{Agree}
 use Rattle.rules.proofs.StructureLaws.{count-held, GoodLog, good-ops, counts-covered, counts-closed}
 use Rattle.rules.proofs.BoolLaws.{both-ways, or-cases}

@@ -12,13 +12,13 @@ use lib.ListN.{length, drop}
 use lib.Seq.{drop-drop}
 use Rattle.rules.specs.Bytes.{same, concat, all, any, filter}
 use Rattle.rules.specs.Op.{Op, countIn, replicaOf, vectorOf, seqOf}
-use Rattle.rules.specs.Log.{Log, opAt, countsOf, fileEnd, covered, appended, width}
+use Rattle.rules.specs.Log.{Log, opAt, countsOf, fileEnd, covered, appended, width, Extends}
 use Rattle.rules.specs.Deliver.{held, deliverAnswer}
 use Rattle.convergence.specs.Exchange.{Site, answer, has, Side, left, right, other, isSide, Pair, missing, Offer, Round, answerTo, offered, after, Answered, answers, acceptances, acceptedBy, offers, ValidRound, EachRound, onlyIn}
 use Rattle.convergence.specs.Converges.{expected}
 use Rattle.rules.specs.Answer.{Answer, refused, hadIt, accepted, ifAccepted, done}
 use Rattle.rules.proofs.BoolLaws.{never, and-left, and-right, and-both, or-cases}
-use Rattle.rules.proofs.AppendLaws.{Extends, in-range, own-next, seq-positive}
+use Rattle.rules.proofs.AppendLaws.{in-range, own-next, seq-positive}
 use Rattle.rules.proofs.DeliverLaws.{appended-past, Admitted, admitted, appended-log, appended-end, appended-length}
 use Rattle.rules.proofs.OfferLaws.{Agree, Offered, early, offered-in-full, had, taken}
 use Rattle.rules.proofs.CausalLaws.{Missing, total, some-ready}

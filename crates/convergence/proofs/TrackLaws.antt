@@ -13,10 +13,10 @@ use lib.Seq.{getD-append-seam}
 use lib.Dec.{eqb}
 use Rattle.rules.specs.Bytes.{same, upFrom, concat, any, filter}
 use Rattle.rules.specs.Op.{Op, replicas, countIn, replicaOf, ownCount, seqOf}
-use Rattle.rules.specs.Log.{Log, opsOf, opAt, countsOf, append}
+use Rattle.rules.specs.Log.{Log, opsOf, opAt, countsOf, append, Extends}
 use Rattle.convergence.specs.Exchange.{has, opNumbered, inOrder, arrange}
 use Rattle.rules.proofs.BoolLaws.{never, both-ways, and-left, and-right, and-both, map-replicas, fails, or-cases}
-use Rattle.rules.proofs.AppendLaws.{Extends, append-extends, ops-same, ops-other, seq-positive}
+use Rattle.rules.proofs.AppendLaws.{append-extends, ops-same, ops-other, seq-positive}
 use Rattle.rules.proofs.StructureLaws.{count-held, HeldOps}
 use Rattle.rules.proofs.ListLaws.{same-eq}
 use Rattle.convergence.proofs.HasLaws.{has-head, has-tail, has-last, has-new, has-old, has-at, at-has, has-part, part-has}

@@ -10,9 +10,9 @@ use lib.Seq.{ext-getD}
 use lib.Dec.{leb}
 use Rattle.rules.specs.Bytes.{upFrom}
 use Rattle.rules.specs.Op.{Op, replicas, countIn}
-use Rattle.rules.specs.Log.{Log, opsOf, opAt, countsOf, soundOps}
+use Rattle.rules.specs.Log.{Log, opsOf, opAt, countsOf, soundOps, Extends}
 use Rattle.rules.proofs.FileLaws.{Wide, WideLog, wide-at}
-use Rattle.rules.proofs.AppendLaws.{Extends, soundOps-more}
+use Rattle.rules.proofs.AppendLaws.{soundOps-more}
 use Rattle.rules.proofs.OfferLaws.{Agree}
 use Rattle.rules.proofs.BoolLaws.{replica-cases, map-replicas}
 use Rattle.rules.proofs.StructureLaws.{count-held, GoodLog}

@@ -6,12 +6,11 @@ use mathlib.Core.List.{List, [], _∷_}
 use mathlib.Core.Path.{refl, ap, _≡_, ap₂}
 use native.Mathlib.Nat.{le-of-suc-le-suc, not-suc-le-zero}
 use native.Mathlib.Omega.{arith}
-use Rattle.rules.proofs.AppendLaws.{Extends}
 use Rattle.rules.proofs.BoolLaws.{map-replicas}
 use Rattle.rules.proofs.StructureLaws.{held-in, good-ops, count-held, GoodLog}
 use Rattle.rules.proofs.TimeLaws.{map-within}
 use Rattle.rules.specs.Bytes.{concat, greatest}
-use Rattle.rules.specs.Log.{Log, opAt, covered, opsOf}
+use Rattle.rules.specs.Log.{Log, opAt, covered, opsOf, Extends}
 use Rattle.rules.specs.Op.{Vector, Op, vectorOf, countIn}
 use Rattle.rules.specs.Replay.{opsWithin, timestampIn, timestamp, ordered, stamped, stamp, byTime}
 use Rattle.rules.specs.Tree.{slots}

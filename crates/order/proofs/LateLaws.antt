@@ -13,12 +13,12 @@ use Rattle.order.proofs.ExtendLaws.{timestamp-more, within-more, ordere
 use Rattle.order.proofs.GrowLaws.{entry-ready, entry-none}
 use Rattle.order.proofs.LevelLaws.{AtLevel, time-of, counted-value, Cut, equation, off-time, of-replica, by-time-more, matches, stamped-times, one-level, counted-bound, status}
 use Rattle.order.specs.Levels.{level, nextOf, entry}
-use Rattle.rules.proofs.AppendLaws.{closed-more, Extends, same-within, covered-more}
+use Rattle.rules.proofs.AppendLaws.{closed-more, same-within, covered-more}
 use Rattle.rules.proofs.ListLaws.{map-downFrom, map-upFrom, filter-append, concat-append, upFrom-add, filter-none}
 use Rattle.rules.proofs.StructureLaws.{GoodLog, good-ops, counts-covered, counts-closed}
 use Rattle.rules.proofs.TimeLaws.{map-within}
 use Rattle.rules.specs.Bytes.{greatest, concat, upFrom, filter}
-use Rattle.rules.specs.Log.{Log, countsOf, opAt, opsOf}
+use Rattle.rules.specs.Log.{Log, countsOf, opAt, opsOf, Extends}
 use Rattle.rules.specs.Op.{Vector, countIn, vectorOf, Op, kindOf}
 use Rattle.rules.specs.Replay.{timestamp, ofTime, ordered, opsWithin, ofKind, ofReplica, stamped, Stamped, stamp}
 

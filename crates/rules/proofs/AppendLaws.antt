@@ -12,17 +12,13 @@ use lib.Seq.{getD-set-same, getD-set-other}
 use lib.Dec.{leb, eqb}
 use Rattle.rules.specs.Bytes.{sum}
 use Rattle.rules.specs.Op.{Op, Vector, isReplica, countIn, replicaOf, nodeOf, parentOf, vectorOf, seqOf, ownCount, wellFormed, isAdd}
-use Rattle.rules.specs.Log.{Log, opsOf, opAt, countsOf, append, within, covered, closedAt, closed, nodeWithin, known, knownParent, namesKnown, soundOp, soundOps}
+use Rattle.rules.specs.Log.{Log, opsOf, opAt, countsOf, append, Extends, within, covered, closedAt, closed, nodeWithin, known, knownParent, namesKnown, soundOp, soundOps}
 use Rattle.rules.specs.Deliver.{held}
 use Rattle.rules.proofs.BoolLaws.{and-left, and-right, and-both, and-under, or-under, all-replicas, replica-passes, all-same}
 use Rattle.rules.proofs.FileLaws.{WideLog, wide-set, wide-last, wide-at}
 use Rattle.rules.proofs.StructureLaws.{count-held, held-in, GoodLog}
 
 ---- a log that holds all of another
-
-pub record Extends (log more : Log) : Type 0 where
-  pub counts : (s : ℕ) → 1 ≤ s → s ≤ 8 → countIn (countsOf log) s ≤ countIn (countsOf more) s
-  pub ops : (s q : ℕ) → 1 ≤ s → s ≤ 8 → 1 ≤ q → q ≤ countIn (countsOf log) s → opAt more s q ≡ opAt log s q
 
 -- what a vector counts is the same in both
 abbrev pub SameWithin : Log → Log → Vector → Type 0
@@ -126,6 +122,18 @@ pub record Admits (log : Log) (r : Op) : Type 0 where
   pub is-covered : covered log (vectorOf r) ≡ true
   pub is-closed : closed log (vectorOf r) ≡ true
   pub names : namesKnown log r ≡ true
+
+-- what passes the tests against a log passes them against one that holds more, and not the op
+pub admits-more : (log more : Log) → Extends log more → (r : Op) → Admits log r → held more r ≡ false → Admits more r
+admits-more log more x r h new =
+    let same = same-within log more x (vectorOf r) (h .is-covered) in
+    record {
+      formed = h .formed;
+      new = new;
+      is-covered = covered-more log more x (vectorOf r) (h .is-covered);
+      is-closed = closed-more log more (vectorOf r) same ∙ h .is-closed;
+      names = names-more log more r same ∙ h .names;
+    }
 
 pub replica-formed : (r : Op) → wellFormed r ≡ true → (1 ≤ replicaOf r) × (replicaOf r ≤ 8) × (ownCount r < 255)
 unfolding wellFormed isReplica

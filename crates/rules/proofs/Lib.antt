@@ -8,7 +8,6 @@ pub mod DeliverLaws
 pub mod InsertLaws
 pub mod OfferLaws
 pub mod IssueLaws
-pub mod ReadsBackLaws
 pub mod CausalLaws
 pub mod TimeLaws
 pub mod TreeLaws

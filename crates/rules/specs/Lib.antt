@@ -11,6 +11,5 @@ pub mod Issue
 pub mod Path
 pub mod Views
 pub mod Listing
-pub mod ReadsBack
 pub mod TreeClaim
 pub mod Examples

@@ -1,6 +1,7 @@
 -- The log (the paper's collection): the ops of each replica in sequence order; its layout in bytes; the tests of an op against a log
 -- (numbers 5, 6 and 7); and structural soundness. Assumes nothing.
-use Prim.Native.Nat.{ℕ, zero, suc, _+_, _*_, _-_, _/_, _%_}
+use Prim.Native.Nat.{ℕ, zero, suc, _+_, _*_, _-_, _/_, _%_, _≤_}
+use mathlib.Core.Path.{_≡_}
 use mathlib.Core.Bool.{Bool, true, cond, _&&_, _||_, not}
 use mathlib.Core.List.{List, [], _∷_, _++_, map}
 use lib.ListN.{length, take, drop, getD, set, replicate}
@@ -29,6 +30,11 @@ countsOf log = map length log
 -- the log with one op more, last among its replica's
 unfoldable pub append : Log → Op → Log
 append log r = set log (replicaOf r - 1) (opsOf log (replicaOf r) ++ (r ∷ []))
+
+-- a log that holds every op of another
+pub record Extends (log more : Log) : Type 0 where
+  pub counts : (s : ℕ) → 1 ≤ s → s ≤ 8 → countIn (countsOf log) s ≤ countIn (countsOf more) s
+  pub ops : (s q : ℕ) → 1 ≤ s → s ≤ 8 → 1 ≤ q → q ≤ countIn (countsOf log) s → opAt more s q ≡ opAt log s q
 
 ---- layout
 
