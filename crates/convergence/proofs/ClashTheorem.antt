@@ -6,13 +6,18 @@ use lib.ListN.{getD, set, length, length-set, length-append, take, drop}
 use lib.Seq.{getD-set-same, getD-set-other, getD-append-seam, take-at}
 use mathlib.Core.Bool.{Bool, true, cond, false, _||_, and-eq-true-iff, not}
 use mathlib.Core.List.{foldl-append, [], _∷_, _++_, List}
-use mathlib.Core.Logic.{inr}
+use mathlib.Core.Logic.{inr, ⊎-elim}
 use mathlib.Core.Path.{refl, ap, _≡_, _∙_, sym}
 use native.Mathlib.Decide.{ℕ-discrete}
 use native.Mathlib.Omega.{arith}
+use Rattle.convergence.proofs.AddedLaws.{has-swap, two-extends, one-of-two, first-count, first-op, rest-same}
+use Rattle.convergence.proofs.ArriveLaws.{Adds, issue-adds, one-delivered, arrives, arrives-back}
 use Rattle.convergence.proofs.CircleLaws.{second-blocked, first-below, second-free, cut-off, reached}
 use Rattle.convergence.proofs.ClashLaws.{winner-first, passed-over, placed-already, applied, blocked, applies}
-use Rattle.convergence.specs.Clash.{Move, nextSlot, request, beats, circle, clash, Wins, ClashDecided, hang, Issued, CircleCutsOff}
+use Rattle.convergence.specs.Clash.{Move, nextSlot, request, beats, circle, clash, Wins, ClashDecided, hang, Issued, CircleCutsOff, putOut, BothArrive, Arrives}
+use Rattle.convergence.specs.Exchange.{Call, deliver, has}
+use Rattle.rules.specs.Answer.{accepted}
+use Rattle.rules.specs.Bytes.{concat}
 use Rattle.order.proofs.GrowLaws.{Named, named-valid, parent-reads, known-reads, replay-run}
 use Rattle.order.proofs.LateLaws.{Late, ordered-late, no-entry, late-entry, top}
 use Rattle.order.proofs.LevelLaws.{Cut}
@@ -22,13 +27,15 @@ use Rattle.rules.proofs.AppendLaws.{Admits, good-append, in-range, Extends, ops
 use Rattle.rules.proofs.BoolLaws.{and-both, never}
 use Rattle.rules.proofs.DeliverLaws.{appended-log, admitted}
 use Rattle.rules.proofs.IssueLaws.{counts-eight, bytes-parent, bytes-vector, bytes-node, Allowed, issue-admitted, allowed}
+use Rattle.rules.proofs.ReadsBackLaws.{issued-reads-back}
 use Rattle.rules.proofs.SoundLaws.{sound-good}
 use Rattle.rules.proofs.StructureLaws.{GoodLog, counts-covered, counts-closed, count-held}
 use Rattle.rules.proofs.TreeLaws.{Valid, slot-below, slot-injective, short, still-reaches, free-avoids}
 use Rattle.rules.specs.Deliver.{deliverBuffer}
-use Rattle.rules.specs.Issue.{issued, opBytes, moveKind, requestKnown, issueBuffer, requestClear, issueOut}
-use Rattle.rules.specs.Log.{Log, countsOf, known, knownParent, opAt, append, opsOf, logOf, width, appended}
+use Rattle.rules.specs.Issue.{issued, opBytes, moveKind, requestKnown, issueAnswer, requestClear, issueOut}
+use Rattle.rules.specs.Log.{Log, countsOf, known, knownParent, opAt, append, opsOf, logOf, width, fileEnd}
 use Rattle.rules.specs.Op.{Op, countIn, isMove, nodeOf, parentOf, seqOf, kindOf, ownCount, replicaOf, vectorOf, isReplica}
+use Rattle.rules.specs.ReadsBack.{ReadsBack}
 use Rattle.rules.specs.Replay.{outcomeSlot, parentsOf, State, Stamped, replay, step, outcomesOf, outcomeOf}
 use Rattle.rules.specs.Tree.{depth, slot, slots, atOrBelow, slotOf}
 
@@ -91,9 +98,21 @@ module _ (log : Log) (good : GoodLog log) (x : Move) (asked : Asked log x) where
   unfolding issued
   parent-is = bytes-parent _ (x .replica) (x .node) (x .parent) (countsOf log)
 
+  origin-is : replicaOf (opOf log x) ≡ x .replica
+  unfolding issued opBytes replicaOf
+  origin-is = refl
+
+  vector-is : vectorOf (opOf log x) ≡ countsOf log
+  unfolding issued
+  vector-is = bytes-vector _ (x .replica) (x .node) (x .parent) (countsOf log) (counts-eight log good)
+
+  next-is : seqOf (opOf log x) ≡ countIn (countsOf log) (x .replica) + 1
+  unfolding seqOf ownCount
+  next-is = rw (vector-is, origin-is)
+
   slot-is : outcomeSlot (opOf log x) ≡ nextSlot log (x .replica)
-  unfolding outcomeSlot nextSlot seqOf ownCount replicaOf issued opBytes
-  slot-is = ap (λ v. slot (x .replica) (countIn v (x .replica) + 1)) (bytes-vector _ (x .replica) (x .node) (x .parent) (countsOf log) (counts-eight log good))
+  unfolding outcomeSlot nextSlot
+  slot-is = rw (origin-is, next-is)
 
   slot-in : nextSlot log (x .replica) < slots
   unfolding nextSlot slot
@@ -219,94 +238,35 @@ module _ (log more : Log) (good : GoodLog log) (x y : Move) (ax : Asked log x) (
 
 ---- both are held
 
-module _ (log : Log) (good : GoodLog log) (x y : Move) (ax : Asked log x) (ay : Asked log y) (apart : x .replica ≡ y .replica → ⊥) (admits-x : Admits log (opOf log x)) (admits-y : Admits (append log (opOf log x)) (opOf log y)) where
-  abbrev one : Log
-  one = append log (opOf log x)
+module _ (log more : Log) (good : GoodLog log) (good-more : GoodLog more) (x y : Move) (ax : Asked log x) (ay : Asked log y)
+    (apart : x .replica ≡ y .replica → ⊥) (ops : (z : Op) → has (concat more) z ≡ has (opOf log x ∷ opOf log y ∷ concat log) z) where
+  ops-back : (z : Op) → has (concat more) z ≡ has (opOf log y ∷ opOf log x ∷ concat log) z
+  ops-back z = ops z ∙ has-swap (opOf log x) (opOf log y) (concat log) z
 
-  abbrev two : Log
-  two = append one (opOf log y)
+  apart-back : y .replica ≡ x .replica → ⊥
+  apart-back e = apart (sym e)
 
-  good-one : GoodLog one
-  good-one = good-append log (opOf log x) good admits-x
+  origin-x : replicaOf (opOf log x) ≡ x .replica
+  origin-x = origin-is log good x ax
 
-  origin : (z : Move) → replicaOf (opOf log z) ≡ z .replica
-  unfolding issued opBytes replicaOf
-  origin z = refl
+  origin-y : replicaOf (opOf log y) ≡ y .replica
+  origin-y = origin-is log good y ay
 
-  vector : (z : Move) → vectorOf (opOf log z) ≡ countsOf log
-  unfolding issued
-  vector z = bytes-vector _ (z .replica) (z .node) (z .parent) (countsOf log) (counts-eight log good)
-
-  ops-x : opsOf two (x .replica) ≡ opsOf log (x .replica) ++ (opOf log x ∷ [])
-  ops-x =
-      let ry = in-range one (opOf log y) good-one admits-y in
-      let rx = in-range log (opOf log x) good admits-x in
-      ops-other one (opOf log y) (good-one .eight) (ry .0) (ry .1) (x .replica) (ax .low) (λ e. apart (e ∙ origin y))
-      ∙ (rw (origin x) at (ops-same log (opOf log x) (good .eight) (rx .0) (rx .1)))
-
-  ops-y : opsOf two (y .replica) ≡ opsOf log (y .replica) ++ (opOf log y ∷ [])
-  ops-y =
-      let ry = in-range one (opOf log y) good-one admits-y in
-      let rx = in-range log (opOf log x) good admits-x in
-      (rw (origin y) at (ops-same one (opOf log y) (good-one .eight) (ry .0) (ry .1)))
-      ∙ rw (ops-other log (opOf log x) (good .eight) (rx .0) (rx .1) (y .replica) (ay .low) (λ e. apart (sym (e ∙ origin x))))
-
-  ops-rest : (s : ℕ) → 1 ≤ s → (s ≡ x .replica → ⊥) → (s ≡ y .replica → ⊥) → opsOf two s ≡ opsOf log s
-  ops-rest s l p q =
-      let ry = in-range one (opOf log y) good-one admits-y in
-      let rx = in-range log (opOf log x) good admits-x in
-      ops-other one (opOf log y) (good-one .eight) (ry .0) (ry .1) s l (λ e. q (e ∙ origin y))
-      ∙ ops-other log (opOf log x) (good .eight) (rx .0) (rx .1) s l (λ e. p (e ∙ origin x))
-
-  -- a replica with one op more
-  module _ (s : ℕ) (r : Op) (e : opsOf two s ≡ opsOf log s ++ (r ∷ [])) where
-    count-more : countIn (countsOf two) s ≡ countIn (countsOf log) s + 1
-    count-more = rw (count-held two s, count-held log s, e, length-append)
-
-    last-op : opAt two s (countIn (countsOf log) s + 1) ≡ r
-    unfolding opAt
-    last-op =
-        let k : countIn (countsOf log) s + 1 - 1 ≡ length (opsOf log s) = omega (arith, count-held log s) in
-        rw (k, e) (getD-append-seam (opsOf log s) r [] [])
-
-  both-held : Both log two x y
+  both-held : Both log more x y
   both-held = record {
-    late = record { extends = more-extends; vector = vectors };
-    good = good-append one (opOf log y) good-one admits-y;
-    count-x = count-more (x .replica) (opOf log x) ops-x;
-    count-y = count-more (y .replica) (opOf log y) ops-y;
-    rest = λ s l u p q. count-held two s ∙ ap length (ops-rest s l p q) ∙ sym (count-held log s);
-    op-x = last-op (x .replica) (opOf log x) ops-x;
-    op-y = last-op (y .replica) (opOf log y) ops-y;
+    late = record {
+      extends = two-extends log more good good-more (opOf log x) (opOf log y) ops;
+      vector = λ s q l u lo hi.
+          ⊎-elim (λ e. rw e (vector-is log good x ax)) (λ e. rw e (vector-is log good y ay))
+          (one-of-two log more good good-more (opOf log x) (opOf log y) ops s q l u lo hi);
+    };
+    good = good-more;
+    count-x = first-count log more good good-more (opOf log x) (opOf log y) ops _ _ origin-x origin-y apart (next-is log good x ax);
+    count-y = first-count log more good good-more (opOf log y) (opOf log x) ops-back _ _ origin-y origin-x apart-back (next-is log good y ay);
+    rest = rest-same log more good good-more (opOf log x) (opOf log y) ops _ _ origin-x origin-y apart;
+    op-x = first-op log more good good-more (opOf log x) (opOf log y) ops _ _ origin-x origin-y apart (next-is log good x ax);
+    op-y = first-op log more good good-more (opOf log y) (opOf log x) ops-back _ _ origin-y origin-x apart-back (next-is log good y ay);
   }
-    where
-      more-extends : Extends log two
-      more-extends =
-          let a = extends log (opOf log x) good admits-x in
-          let b = extends one (opOf log y) good-one admits-y in
-          record {
-            counts = λ s l u. omega (arith, a .counts s l u, b .counts s l u);
-            ops = λ s q l u lq uq. b .ops s q l u lq (omega (arith, a .counts s l u)) ∙ a .ops s q l u lq uq;
-          }
-
-      vectors : (s q : ℕ) → 1 ≤ s → s ≤ 8 → countIn (countsOf log) s < q → q ≤ countIn (countsOf two) s → vectorOf (opAt two s q) ≡ countsOf log
-      vectors s q l u lo hi = elim (ℕ-discrete s (x .replica)) [
-        | yes e ↦
-            let c = count-more (x .replica) (opOf log x) ops-x in
-            let lo′ = rw e at lo in
-            let hi′ = rw e at hi in
-            let z : q ≡ countIn (countsOf log) (x .replica) + 1 = omega arith in
-            rw (e, z, last-op (x .replica) (opOf log x) ops-x) (vector x)
-        | no ne ↦ elim (ℕ-discrete s (y .replica)) [
-          | yes e ↦
-              let c = count-more (y .replica) (opOf log y) ops-y in
-              let lo′ = rw e at lo in
-              let hi′ = rw e at hi in
-              let z : q ≡ countIn (countsOf log) (y .replica) + 1 = omega arith in
-              rw (e, z, last-op (y .replica) (opOf log y) ops-y) (vector y)
-          | no ne′ ↦ absurd (omega (arith, count-held two s, ap length (ops-rest s l ne ne′), count-held log s))
-        ]
-      ]
 
 ---- a circle
 
@@ -393,6 +353,13 @@ decided log more good x y ax ay both apart c = (
   λ w. x-wins log more good y x ay ax (swap log more x y both) (λ e. apart (sym e)) (beaten log x y apart w) (clash-back (parentsOf log) x y c),
 )
 
+-- the bytes that were put out are the op
+put-out : (f out : List ℕ) (x : Move) (n : ℕ) → issueAnswer width f (length out) (x .replica) (request x) ≡ accepted n
+    → putOut f out x ≡ opOf (logOf width f) x
+unfolding issueOut
+put-out f out x n e =
+    rw (e, take-at (opOf (logOf width f) x) (drop width out) width (issue-admitted f (length out) (x .replica) (request x) n e .long))
+
 -- what two accepted issues say
 module _ (f g out out′ : List ℕ) (x y : Move) (both : Issued f g out out′ x y) where
   abbrev log-of : Log
@@ -408,22 +375,61 @@ module _ (f g out out′ : List ℕ) (x y : Move) (both : Issued f g out out′ 
   asked-y =
       rw (both .one-log) at (asked width g (length out′) (both .end′) y (allowed width g (length out′) (y .replica) (request y) (both .end′) (both .second)))
 
+  put-x : putOut f out x ≡ opOf log-of x
+  put-x = put-out f out x (both .end) (both .first)
+
+  put-y : putOut g out′ y ≡ opOf log-of y
+  put-y = rw (both .one-log) at (put-out g out′ y (both .end′) (both .second))
+
 pub clash-decided : ClashDecided
-unfolding issueBuffer issueOut deliverBuffer
-clash-decided f g out out′ x y both n ok c =
+clash-decided f g out out′ x y both h added c =
     let log : Log = logOf width f in
+    let more : Log = logOf width h in
     let good = is-good f g out out′ x y both in
+    let good-more = sound-good width h (added .is-sound) in
     let ax = asked-x f g out out′ x y both in
     let ay = asked-y f g out out′ x y both in
-    let first = issue-admitted f (length out) (x .replica) (request x) (both .end) (both .first) in
-    let op : take width (issueOut width g out′ (y .replica) (request y)) ≡ opOf log y = rw (both .second, take-at (opOf (logOf width g) y) (drop width out′) width (issue-admitted g (length out′) (y .replica) (request y) (both .end′) (both .second) .long), both .one-log) in
-    let file : issueBuffer width f (length out) (x .replica) (request x) ≡ appended width f (opOf log x) = rw (both .first) in
-    let taken = rw (op, file) at ok in
-    let second = admitted width (appended width f (opOf log x)) (opOf log y) n taken in
-    let one-more = appended-log width f (opOf log x) (both .end) first in
-    let two-more = appended-log width (appended width f (opOf log x)) (opOf log y) n second in
-    let held = both-held log good x y ax ay (both .replicas-differ) (first .admits) (rw one-more at (second .admits)) in
-    rw (op, file, taken, two-more, one-more) (decided log _ good x y ax ay held (both .replicas-differ) c)
+    let ops = rw (put-x f g out out′ x y both, put-y f g out out′ x y both) at (added .ops) in
+    let held = both-held log more good good-more x y ax ay (both .replicas-differ) ops in
+    decided log more good x y ax ay held (both .replicas-differ) c
+
+pub both-arrive : BothArrive
+both-arrive f g out out′ x y both b is-sound one-log fits = record {
+  x-issued = x-then-y _ (rw (put-x f g out out′ x y both) (issue-adds f b out (x .replica) (request x) (both .end) (both .first) is-sound one-log room));
+  y-issued = y-then-x _ (rw (put-out g out′ y (both .end′) (both .second)) (issue-adds g b out′ (y .replica) (request y) (both .end′) (both .second) is-sound (one-log ∙ sym (both .one-log)) room));
+  x-first = x-then-y _ (one-delivered f good _ _ (request x) (request y) rx ry back-x back-y (ay .low) (both .replicas-differ) b one-log is-sound room);
+  y-first = y-then-x _ (one-delivered f good _ _ (request y) (request x) ry rx back-y back-x (ax .low) (λ e. both .replicas-differ (sym e)) b one-log is-sound room);
+}
+  where
+    rx : Op
+    rx = putOut f out x
+
+    ry : Op
+    ry = putOut g out′ y
+
+    good : GoodLog (logOf width f)
+    good = is-good f g out out′ x y both
+
+    ax : Asked (logOf width f) x
+    ax = asked-x f g out out′ x y both
+
+    ay : Asked (logOf width f) y
+    ay = asked-y f g out out′ x y both
+
+    back-x : ReadsBack (logOf width f) (x .replica) (request x) rx
+    back-x = issued-reads-back f out (x .replica) (request x) (both .end) (both .first)
+
+    back-y : ReadsBack (logOf width f) (y .replica) (request y) ry
+    back-y = rw (both .one-log) at (issued-reads-back g out′ (y .replica) (request y) (both .end′) (both .second))
+
+    room : fileEnd width b + width ≤ length b
+    room = omega arith
+
+    x-then-y : (one : Call) → Adds b rx one → Arrives f b rx ry one (deliver ry)
+    x-then-y one adds = arrives f good _ _ (request x) (request y) rx ry back-x back-y (ay .low) (both .replicas-differ) b one-log one adds fits
+
+    y-then-x : (one : Call) → Adds b ry one → Arrives f b rx ry one (deliver rx)
+    y-then-x one adds = arrives-back f b rx ry one (deliver rx) (arrives f good _ _ (request y) (request x) ry rx back-y back-x (ax .low) (λ e. both .replicas-differ (sym e)) b one-log one adds fits)
 
 pub circle-cuts-off : CircleCutsOff
 circle-cuts-off f g out out′ x y both =

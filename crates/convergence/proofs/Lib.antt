@@ -5,6 +5,8 @@ pub mod KeptLaws
 pub mod SideLaws
 pub mod RoundLaws
 pub mod Converge
+pub mod AddedLaws
+pub mod ArriveLaws
 pub mod CircleLaws
 pub mod ClashLaws
 pub mod ClashTheorem
