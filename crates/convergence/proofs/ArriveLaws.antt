@@ -7,7 +7,7 @@ use mathlib.Core.List.{List, _∷_}
 use mathlib.Core.Path.{_≡_, refl, sym, ap, _∙_}
 use native.Mathlib.Omega.{arith}
 use Rattle.convergence.proofs.AddedLaws.{has-more, has-swap}
-use Rattle.convergence.specs.Clash.{Arrives, BothAdded}
+use Rattle.convergence.specs.Clash.{Arrives}
 use Rattle.convergence.specs.Exchange.{Call, issue, deliver, answer, bufferAfter, has}
 use Rattle.rules.proofs.AppendLaws.{Admits, extends, in-range, ops-other, good-append}
 use Rattle.rules.proofs.DeliverLaws.{Admitted, admitted, appended-log, appended-end, appended-length, appended-sound}
@@ -48,6 +48,18 @@ module _ (f b out : List ℕ) (s : ℕ) (q : Request) (n : ℕ) (ok : issueAnswe
   issue-adds =
       rw (← one-log) (record { taken = again; admitted-there = issue-admitted b (length out) s q _ again; grown = rw again })
 
+-- an op that was issued at f is accepted wherever f's log lies and there is room
+module _ (f b : List ℕ) (s : ℕ) (q : Request) (r : Op) (back : ReadsBack (logOf width f) s q r)
+    (is-sound : sound width b ≡ true) (one-log : logOf width b ≡ logOf width f) (fits : fileEnd width b + width ≤ length b) where
+  new-there : held (logOf width f) r ≡ false
+  unfolding held
+  new-there =
+      lt-leb (seqOf r) (countIn (countsOf (logOf width f)) (replicaOf r)) (rw (back .origin, back .sequence) (omega arith))
+
+  pub op-adds : Adds b r (deliver r)
+  op-adds =
+      delivery-adds b r (back .accepted-by b is-sound (rw one-log (λ t k l u lk uk. (uk, refl))) (rw one-log new-there) fits)
+
 ---- one op and then the other
 
 module _ (f : List ℕ) (good : GoodLog (logOf width f)) (s s′ : ℕ) (q q′ : Request) (r r′ : Op)
@@ -55,15 +67,6 @@ module _ (f : List ℕ) (good : GoodLog (logOf width f)) (s s′ : ℕ) (q q′ 
     (low′ : 1 ≤ s′) (apart : s ≡ s′ → ⊥) (b : List ℕ) (one-log : logOf width b ≡ logOf width f) where
   abbrev log : Log
   log = logOf width f
-
-  new-there : held log r ≡ false
-  unfolding held
-  new-there = lt-leb (seqOf r) (countIn (countsOf log) (replicaOf r)) (rw (back .origin, back .sequence) (omega arith))
-
-  -- the one is delivered
-  pub one-delivered : sound width b ≡ true → fileEnd width b + width ≤ length b → Adds b r (deliver r)
-  one-delivered is-sound fits =
-      delivery-adds b r (back .accepted-by b is-sound (rw one-log (λ t k l u lk uk. (uk, refl))) (rw one-log new-there) fits)
 
   -- it came by a call
   module _ (one : Call) (adds : Adds b r one) (fits : fileEnd width b + 2 * width ≤ length b) where

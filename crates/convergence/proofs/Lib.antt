@@ -8,5 +8,6 @@ pub mod Converge
 pub mod AddedLaws
 pub mod ArriveLaws
 pub mod CircleLaws
+pub mod MoveLaws
 pub mod ClashLaws
 pub mod ClashTheorem

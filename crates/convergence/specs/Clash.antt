@@ -1,5 +1,5 @@
--- "If two seats each issue one move from one collection, nothing else is added, and the moves take the same node or together close a circle,
--- upward beats downward and otherwise the higher seat wins" (demand 2), as one statement. Assumes nothing.
+-- "If two seats each issue one move from one collection, nothing else is added, and the moves take the same node or together close a
+-- circle, upward beats downward and otherwise the higher seat wins" (demand 2), as one statement. Assumes nothing.
 use Prim.Native.Nat.{ℕ, _+_, _*_, _≤_}
 use lib.Dec.{eqb, ltb}
 use lib.ListN.{set, take, getD, length}
@@ -47,8 +47,8 @@ beats parents x y =
 unfoldable pub nextSlot : Log → ℕ → ℕ
 nextSlot log s = slot s (countIn (countsOf log) s + 1)
 
--- of the two moves that more has and log has not, x is applied and y is not: 2 if they take the same node, 3 if they close a circle; the tree is
--- the old one with x
+-- of the two moves that more has and log has not, x is applied and y is not: 2 if they take the same node, 3 if they close a circle; the
+-- tree is the old one with x
 pub record Wins (log more : Log) (x y : Move) : Type 0 where
   pub winner : getD (outcomesOf more) (nextSlot log (x .replica)) 0 ≡ 1
   pub loser : getD (outcomesOf more) (nextSlot log (y .replica)) 0 ≡ cond (eqb (x .node) (y .node)) 2 3
@@ -56,7 +56,7 @@ pub record Wins (log more : Log) (x y : Move) : Type 0 where
 
 ---- the calls
 
--- "two seats each issue one move from one collection": the buffers f and g hold one log; x is accepted at f and y at g, of two replicas
+-- the buffers f and g hold one log; x is accepted at f and y at g, of two replicas
 pub record Issued (f g out out′ : List ℕ) (x y : Move) : Type 0 where
   pub one-log : logOf width g ≡ logOf width f
   pub replicas-differ : x .replica ≡ y .replica → ⊥
@@ -69,18 +69,22 @@ pub record Issued (f g out out′ : List ℕ) (x y : Move) : Type 0 where
 abbrev pub putOut : (f out : List ℕ) → Move → Op
 putOut f out x = take width (issueOut width f out (x .replica) (request x))
 
--- "nothing else is added": h is sound, and its ops are the two and those of f, however they came
+-- h is sound, and its ops are the two and those of f, however they came
 pub record BothAdded (f h : List ℕ) (r r′ : Op) : Type 0 where
   pub is-sound : sound width h ≡ true
   pub ops : (z : Op) → has (concat (logOf width h)) z ≡ has (r ∷ r′ ∷ concat (logOf width f)) z
 
 abbrev pub ClashDecided : Type 0
 ClashDecided =
+    -- "if two seats each issue one move from one collection,"
     (f g out out′ : List ℕ) (x y : Move) → Issued f g out out′ x y
+    -- "nothing else is added,"
     → (h : List ℕ) → BothAdded f h (putOut f out x) (putOut g out′ y)
+    -- "and the moves take the same node or together close a circle,"
     → let log = logOf width f in
     let more = logOf width h in
     clash (parentsOf log) x y ≡ true
+    -- "upward beats downward and otherwise the higher seat wins"
     → (beats (parentsOf log) x y ≡ true → Wins log more x y) × (beats (parentsOf log) x y ≡ false → Wins log more y x)
 
 ---- how the two come to one buffer
