@@ -75,7 +75,7 @@ part-with (ops ∷ log) z e =
     (λ (q : has (concat log) z ≡ true). let (i, l, t) = part-with log z q in (suc i, omega arith, t))
     (or-cases (has ops z) (has (concat log) z) (sym (has-append ops (concat log) z) ∙ e))
 
-pub tracks-list : (log : Log) → GoodLog log → Tracks log (concat log)
+tracks-list : (log : Log) → GoodLog log → Tracks log (concat log)
 unfolding opAt opsOf
 tracks-list log good = record {
   inside = λ z e.
@@ -99,11 +99,8 @@ module _ (log more : Log) (good : GoodLog log) (good-more : GoodLog more) (r r�
   in-both : (z : Op) → has (r ∷ r′ ∷ concat log) z ≡ true → OpIn more z
   in-both z e = tracks-list more good-more .inside z (ops z ∙ e)
 
-  pub first-in : OpIn more r
+  first-in : OpIn more r
   first-in = in-both r (has-head r (r′ ∷ concat log))
-
-  pub second-in : OpIn more r′
-  second-in = in-both r′ (has-tail r (r′ ∷ concat log) r′ (has-head r′ (concat log)))
 
   old-in : (z : Op) → OpIn log z → OpIn more z
   old-in z i =

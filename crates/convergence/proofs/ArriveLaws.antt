@@ -29,7 +29,7 @@ pub record Adds (b : List ℕ) (r : Op) (c : Call) : Type 0 where
   pub admitted-there : Admitted width b r (fileEnd width b + width)
   pub grown : bufferAfter b c ≡ appended width b r
 
-pub delivery-adds : (b : List ℕ) (r : Op) → deliverAnswer width b r ≡ accepted (fileEnd width b + width) → Adds b r (deliver r)
+delivery-adds : (b : List ℕ) (r : Op) → deliverAnswer width b r ≡ accepted (fileEnd width b + width) → Adds b r (deliver r)
 unfolding answer bufferAfter deliverBuffer
 delivery-adds b r e = record { taken = e; admitted-there = admitted width b r _ e; grown = rw e }
 

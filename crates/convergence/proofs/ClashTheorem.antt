@@ -36,7 +36,7 @@ use Rattle.rules.specs.Sound.{sound}
 use Rattle.rules.specs.Tree.{slot, slots, slotOf}
 
 -- more is log and the ops of x and y
-pub record Both (log more : Log) (x y : Move) : Type 0 where
+record Both (log more : Log) (x y : Move) : Type 0 where
   pub late : Late log more
   pub good : GoodLog more
   pub count-x : countIn (countsOf more) (x .replica) ≡ countIn (countsOf log) (x .replica) + 1
@@ -162,7 +162,7 @@ module _ (log more : Log) (good : GoodLog log) (x y : Move) (ax : Asked log x) (
   unfolding nextSlot slot
   slots-apart e = apart (omega (arith, ax .low, ax .count, ay .low, ay .count))
 
-  pub x-wins : beats (parentsOf log) x y ≡ true → clash (parentsOf log) x y ≡ true → Wins log more x y
+  x-wins : beats (parentsOf log) x y ≡ true → clash (parentsOf log) x y ≡ true → Wins log more x y
   unfolding parentsOf outcomesOf
   x-wins wins c =
       let at-x : ℕ = nextSlot log (x .replica) in

@@ -108,7 +108,7 @@ module _ (log : Log) (x : Move) (ax : Asked log x) where
   pub valid-node : Valid (x .node)
   valid-node = named-valid log (countsOf log) (x .node) (inr (ax .node-known))
 
-  pub no-root : x .node ≡ 0 → ⊥
+  no-root : x .node ≡ 0 → ⊥
   no-root e = let h = known-reads log (countsOf log) (x .node) (ax .node-known) .0 .low in omega arith
 
 ---- two moves
