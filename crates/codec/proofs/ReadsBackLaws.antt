@@ -1,21 +1,19 @@
 -- An issued op reads back as it was meant. Assumes nothing.
-use lib.Seq.{take-at}
 use mathlib.Core.Path.{_≡_, refl, _∙_}
 use mathlib.Core.Bool.{true}
 use Prim.Native.Nat.{ℕ, _+_}
-use lib.ListN.{length, drop}
+use lib.ListN.{length, take}
 use borrow.Author.Tests.{eq-eqb}
 use Rattle.rules.specs.Issue.{Request, add, remove, move, issueOut, opBytes, issued}
 use Rattle.rules.specs.Op.{Op, countIn, seqOf, kindOf, replicaOf, ownCount, vectorOf, nodeOf, parentOf, wellFormed}
 use Rattle.rules.specs.Log.{Log, logOf, countsOf, width}
 use Rattle.rules.proofs.IssueLaws.{counts-eight, issue-admitted, bytes-node, bytes-vector, bytes-parent}
-use Rattle.rules.proofs.AppendLaws.{admits-more}
 use Rattle.rules.proofs.SoundLaws.{sound-good}
 use Rattle.rules.proofs.StructureLaws.{GoodLog}
-use Rattle.rules.proofs.DeliverLaws.{delivered}
-use Rattle.codec.specs.declared.op.Read.the-variants as read
+use Rattle.rules.proofs.PutOutLaws.{put-out, put-out-next}
 use Rattle.codec.specs.Read.{readOf}
 use Rattle.codec.specs.ReadsBack.{kindMeant, nodeMeant, parentMeant, fieldsMeant, IssuedReadsBack}
+use Rattle.codec.specs.declared.op.Read.the-variants as read
 
 module _ (log : Log) (g : GoodLog log) (s : ℕ) (q : Request) where
   abbrev meant : Op
@@ -55,26 +53,20 @@ issued-is log g s (remove n) = refl
 issued-is log g s (move n p) = refl
 
 pub issued-reads-back : IssuedReadsBack
-unfolding issueOut
 issued-reads-back f out s q n e =
     let log : Log = logOf width f in
     let a = issue-admitted f (length out) s q n e in
     let g = sound-good width f (a .is-sound) in
-    let is = issued-is log g s q in
-    rw (e, take-at (issued log s q) (drop width out) width (a .long)) (record {
-      long = a .long;
+    let next = put-out-next f out s q n e in
+    let is : take width (issueOut width f out s q) ≡ meant log g s q = put-out f out s q n e ∙ issued-is log g s q in
+    record {
+      long = rw (put-out f out s q n e) (a .long);
       kind = rw is (kind-back log g s q);
-      origin = rw is (origin-back log g s q);
-      sequence = rw is (sequence-back log g s q);
+      origin = next .origin;
+      sequence = next .sequence;
       node = rw is (node-back log g s q);
       parent = rw is (parent-back log g s q);
       vector = rw is (vector-back log g s q);
-      reads = rw is (reads-back log g s q (rw (← is) (a .long)) (rw (← is) (a .admits .formed)));
-      accepted-by = λ buffer sg h new room. delivered width buffer (issued log s q) _ (record {
-        is-sound = sg;
-        long = a .long;
-        admits = admits-more log (logOf width buffer) h (issued log s q) (a .admits) new;
-        room = room;
-        end = refl;
-      });
-    })
+      reads = rw is (reads-back log g s q (rw (← issued-is log g s q) (a .long)) (rw (← issued-is log g s q) (a .admits .formed)));
+      accepted-by = next .accepted-by;
+    }

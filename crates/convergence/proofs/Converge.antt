@@ -7,15 +7,14 @@ use Prim.Native.Nat.{ℕ, _+_, _-_, _≤_}
 use native.Mathlib.Nat.{le-refl}
 use native.Mathlib.Omega.{arith}
 use native.Mathlib.Decide.{decLe}
-use lib.ListN.{length, getD, take}
+use lib.ListN.{length, getD}
 use borrow.Author.Tests.{le-leb}
-use lib.Seq.{take-at}
 use Rattle.rules.specs.Bytes.{concat}
 use Rattle.rules.specs.Op.{Op, countIn, replicaOf, seqOf}
-use Rattle.rules.specs.Log.{Log, opsOf, opAt, countsOf, fileOf, width, fileEnd, logOf, Extends}
+use Rattle.rules.specs.Log.{Log, opsOf, opAt, countsOf, width, logOf, Extends}
 use Rattle.rules.specs.Replay.{parentsOf}
 use Rattle.rules.specs.Views.{nodes}
-use Rattle.convergence.specs.Exchange.{Site, run, has, times, Agreed, arrange, filed, Side, left, right, other, Pair, missing, everything, Round, after, Answered, answers, acceptedBy, ValidRound, EachRound, fileIn}
+use Rattle.convergence.specs.Exchange.{Site, run, has, times, Agreed, arrange, filed, Side, left, right, other, Pair, missing, everything, Round, after, Answered, answers, acceptedBy, ValidRound, EachRound}
 use Rattle.convergence.specs.Converges.{Settled, Meets, meeting, Converges, judged}
 use Rattle.rules.specs.TreeClaim.{IsTree}
 use Rattle.rules.specs.Judge.{judge, judgeAnswer}
@@ -30,7 +29,7 @@ use Rattle.order.proofs.TreeTheorem.{is-tree}
 use Rattle.convergence.proofs.HasLaws.{has-append, has-old, times-append, times-once, none-onlyIn}
 use Rattle.convergence.proofs.UnionLaws.{extends-equal, longer, longer-is, union, union-ops, union-left, union-right, good-union, union-wide}
 use Rattle.convergence.proofs.TrackLaws.{OpIn, in-more, Tracks, op-in, tracks-listed, arrange-log}
-use Rattle.convergence.proofs.KeptLaws.{logIn, Kept, kept-good, kept-ops, kept-end, kept-filed, kept-run, kept-standing, kept-arrange, kept-wide}
+use Rattle.convergence.proofs.KeptLaws.{logIn, Kept, kept-good, kept-ops, kept-end, kept-run, kept-standing, kept-wide}
 use Rattle.convergence.proofs.ListTheorems.{kept-stored}
 use Rattle.convergence.proofs.SideLaws.{both, missing-from}
 use Rattle.convergence.proofs.RoundLaws.{Stands, Passes, pass-rounds, rounds-accept, rounds-end}

@@ -6,6 +6,9 @@ pub mod ListTheorems
 pub mod SideLaws
 pub mod RoundLaws
 pub mod Converge
+pub mod AddedLaws
+pub mod ArriveLaws
 pub mod CircleLaws
+pub mod MoveLaws
 pub mod ClashLaws
 pub mod ClashTheorem

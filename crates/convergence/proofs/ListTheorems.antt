@@ -1,20 +1,19 @@
 -- What every list of calls comes to, proved. Assumes nothing.
 use mathlib.Core.Path.{_≡_, refl, sym, ap, _∙_}
-use mathlib.Core.Bool.{Bool, true, false}
+use mathlib.Core.Bool.{true}
 use mathlib.Core.List.{List, [], _∷_, _++_, foldl}
-use Prim.Native.Nat.{ℕ, _+_, _≤_}
+use Prim.Native.Nat.{ℕ, _≤_}
 use native.Mathlib.Omega.{arith}
 use borrow.Author.Tests.{leb-true}
-use lib.Dec.{leb}
 use lib.ListN.{length, take, drop, length-append, length-drop}
-use lib.Seq.{take-at, drop-at}
+use lib.Seq.{drop-at}
 use Rattle.rules.specs.Bytes.{sum}
-use Rattle.rules.specs.Answer.{Answer, refused, hadIt, done, accepted, require, ifAccepted}
-use Rattle.rules.specs.Op.{Op, replicaOf, seqOf}
-use Rattle.rules.specs.Log.{Log, opAt, fileOf, fileEnd, logOf, emptyLog, appended, width, countsOf, endOf}
+use Rattle.rules.specs.Answer.{Answer, refused, hadIt, done, accepted, ifAccepted}
+use Rattle.rules.specs.Op.{Op}
+use Rattle.rules.specs.Log.{fileOf, fileEnd, logOf, emptyLog, appended, width, countsOf, endOf}
 use Rattle.rules.specs.Sound.{sound}
-use Rattle.rules.specs.Deliver.{makeAnswer, makeBuffer, deliverAnswer, deliverBuffer, heldAnswer, admitAnswer}
-use Rattle.rules.specs.Issue.{issued, issueAnswer, issueBuffer, issueOut}
+use Rattle.rules.specs.Deliver.{makeAnswer, makeBuffer, deliverAnswer, deliverBuffer, admitAnswer}
+use Rattle.rules.specs.Issue.{issueAnswer, issueBuffer, issueOut}
 use Rattle.rules.specs.Judge.{judge, judgeAnswer}
 use Rattle.rules.specs.Path.{pathCall, pathAnswer}
 use Rattle.rules.specs.Listing.{listing, listingAnswer}
@@ -23,10 +22,10 @@ use Rattle.rules.proofs.DeliverLaws.{Admitted, required, admitted, accepted-sam
 use Rattle.rules.proofs.FileLaws.{counts-logOf, file-end, length-file}
 use Rattle.rules.proofs.IssueLaws.{issue-admitted}
 use Rattle.rules.proofs.SoundLaws.{good-empty, wide-empty}
-use Rattle.convergence.specs.Exchange.{Call, make, issue, deliver, Site, answer, bufferAfter, heldThen, perform, lent, run, outAfter, Reply, reply, replies, fileIn, has, Agreed, arrange}
+use Rattle.convergence.specs.Exchange.{Call, make, issue, deliver, Site, answer, bufferAfter, heldThen, perform, lent, run, outAfter, Reply, reply, replies, fileIn, has, Agreed}
 use Rattle.convergence.specs.Lists.{Stored, SameHeld, ReadAlike, PastKept, ListsFile, SameOpsSameFile, HeldSettles, CallsSettle, ReadsSettle, CallsKeepPast}
 use Rattle.convergence.proofs.TrackLaws.{Tracks, tracks-listed, arrange-log}
-use Rattle.convergence.proofs.KeptLaws.{logIn, Kept, kept-good, kept-ops, kept-end, kept-filed, kept-front, kept-make, kept-perform, kept-run, kept-arrange}
+use Rattle.convergence.proofs.KeptLaws.{logIn, Kept, kept-good, kept-ops, kept-filed, kept-front, kept-make, kept-perform, kept-run, kept-arrange}
 
 ---- after every list the file is that of the held ops
 

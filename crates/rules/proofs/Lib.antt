@@ -8,6 +8,7 @@ pub mod DeliverLaws
 pub mod InsertLaws
 pub mod OfferLaws
 pub mod IssueLaws
+pub mod PutOutLaws
 pub mod CausalLaws
 pub mod TimeLaws
 pub mod TreeLaws
