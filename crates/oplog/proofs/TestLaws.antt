@@ -13,7 +13,7 @@ use Rattle.rules.specs.Log.{Log, closed, soundOps, opAt, opsOf, closedAt, known
 use Rattle.rules.specs.Op.{Op, Vector, replicaOf, countIn, seqOf, isReplica, ownCount, isAdd, vectorOf, wellFormed, isRemove, kindOf, nodeNumber, parentOf, nodeOf}
 use Rattle.codec.specs.Read.{kindFits}
 use Rattle.rules.proofs.BoolLaws.{passFrom, and-true, pass-all}
-use Rattle.oplog.specs.Spots.{namesBy}
+use Rattle.oplog.specs.Spots.{namesBy, moveNames}
 
 ---- known nodes
 
@@ -56,8 +56,8 @@ module _ (log : Log) (v : Vector) (kind node parent own : ℕ) where
   unfolding namesBy
   names-remove e = rw e (and-true _)
 
-  pub names-move : (kind ≡ 1 → ⊥) → (kind ≡ 2 → ⊥) → namesBy log v kind node parent own ≡ (known log v node && (knownParent log v parent && not (eqb parent node)))
-  unfolding namesBy
+  pub names-move : (kind ≡ 1 → ⊥) → (kind ≡ 2 → ⊥) → namesBy log v kind node parent own ≡ moveNames log v node parent
+  unfolding namesBy moveNames
   names-move a b = rw (ne-eqb kind 1 a, ne-eqb kind 2 b)
 
 ---- closed vectors
