@@ -34,6 +34,10 @@ namesBy log v kind node parent own =
     cond (eqb kind 1) (knownParent log v parent && eqb node own)
     (known log v node && (eqb kind 2 || knownParent log v parent && not (eqb parent node)))
 
+-- number 7 of a move: node and parent are known, and the parent is not the node
+unfoldable pub moveNames : Log → Vector → ℕ → ℕ → Bool
+moveNames log v node parent = known log v node && (knownParent log v parent && not (eqb parent node))
+
 -- the next marker in file order
 abbrev pub nextOf : List ℕ → Marker → Marker
 nextOf f m =

@@ -11,7 +11,7 @@ use lib.Arith.{digits-div, digits-mod}
 use Rattle.rules.specs.Bytes.{byte, wordAt, word, upFrom, sum, concat}
 use Rattle.rules.specs.Op.{Op, Vector, replicas, countIn}
 use Rattle.rules.specs.Log.{Log, opsOf, opAt, countsOf, countAt, startAt, headerCounts, startOf, endOf, fileEnd, chunks, chunksOf, logOf, headerEntry, headerOf, fileOf}
-use Rattle.rules.proofs.ListLaws.{concat-append, mul-step}
+use Rattle.rules.proofs.ListLaws.{concat-append, map-getD, mul-step}
 use Rattle.rules.proofs.BoolLaws.{map-replicas, replica-cases}
 
 ---- chunks
@@ -50,19 +50,14 @@ ops-chunksOf w (n ∷ ns) bs zero h = rw mul-zero
 ops-chunksOf w (n ∷ ns) bs (suc i) h =
     rw (ops-chunksOf w ns (drop (w * n) bs) i (le-of-suc-le-suc h), drop-drop, ← mul-add w n (sum (take i ns)))
 
--- a list of eight is made of its elements
+-- a vector and a log are made of what they have for each replica
 pub vector-eta : (v : Vector) → length v ≡ 8 → map (countIn v) replicas ≡ v
-unfolding countIn replicas upFrom
-vector-eta [] e = absurd (omega arith)
-vector-eta (a ∷ []) e = absurd (omega arith)
-vector-eta (a ∷ b ∷ []) e = absurd (omega arith)
-vector-eta (a ∷ b ∷ c ∷ []) e = absurd (omega arith)
-vector-eta (a ∷ b ∷ c ∷ d ∷ []) e = absurd (omega arith)
-vector-eta (a ∷ b ∷ c ∷ d ∷ f ∷ []) e = absurd (omega arith)
-vector-eta (a ∷ b ∷ c ∷ d ∷ f ∷ g ∷ []) e = absurd (omega arith)
-vector-eta (a ∷ b ∷ c ∷ d ∷ f ∷ g ∷ h ∷ []) e = absurd (omega arith)
-vector-eta (a ∷ b ∷ c ∷ d ∷ f ∷ g ∷ h ∷ i ∷ []) e = refl
-vector-eta (a ∷ b ∷ c ∷ d ∷ f ∷ g ∷ h ∷ i ∷ j ∷ k) e = absurd (omega arith)
+unfolding countIn replicas
+vector-eta v e = rw (← e) (map-getD 0 v 1)
+
+pub log-eta : (log : Log) → length log ≡ 8 → map (opsOf log) replicas ≡ log
+unfolding opsOf replicas
+log-eta log e = rw (← e) (map-getD [] log 1)
 
 pub count-map : (F : ℕ → ℕ) (s : ℕ) → 1 ≤ s → s ≤ 8 → countIn (map F replicas) s ≡ F s
 unfolding countIn replicas upFrom

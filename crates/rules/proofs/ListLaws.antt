@@ -1,8 +1,8 @@
 -- Laws of lists: sums, the greatest number, equal bytes, filter, concat. Assumes nothing.
-use mathlib.Core.Path.{_≡_, refl, ap₂, _∙_}
+use mathlib.Core.Path.{_≡_, refl, ap, ap₂, _∙_}
 use mathlib.Core.Bool.{Bool, true, false, cond, _&&_}
 use mathlib.Core.List.{List, _∷_, _++_, map, map-append, append-assoc, append-nil, []}
-use Prim.Native.Nat.{ℕ, zero, suc, _+_, _≤_, _<_, max, _*_}
+use Prim.Native.Nat.{ℕ, zero, suc, _+_, _-_, _≤_, _<_, max, _*_}
 use native.Mathlib.Nat.{le-refl, add-zero, add-suc, suc-add, zero-add, not-suc-le-zero, le-of-suc-le-suc, mul-suc, add-comm}
 use native.Mathlib.Omega.{arith}
 use native.Mathlib.Decide.{ℕ-discrete}
@@ -157,6 +157,17 @@ pub map-upFrom : {A : Type 0} (f g : ℕ → A) (n a : ℕ) → ((i : ℕ) → a
 unfolding upFrom
 map-upFrom f g zero a e = refl
 map-upFrom f g (suc n) a e = ap₂ _∷_ (e a (le-refl a) (omega arith)) (map-upFrom f g n (suc a) (λ i l u. e i (omega arith) (omega arith)))
+
+-- a list is made of its elements
+pub map-getD : {A : Type 0} (d : A) (xs : List A) (a : ℕ) → map (λ s. getD xs (s - a) d) (upFrom a (length xs)) ≡ xs
+unfolding upFrom
+map-getD d [] a = refl
+map-getD d (x ∷ xs) a =
+    let z : a - a ≡ 0 = omega arith in
+    rw z (ap (λ ys. x ∷ ys) (map-upFrom (λ s. getD (x ∷ xs) (s - a) d) (λ s. getD xs (s - suc a) d) (length xs) (suc a) (λ s l u. next s l) ∙ map-getD d xs (suc a)))
+  where
+    next : (s : ℕ) → suc a ≤ s → getD (x ∷ xs) (s - a) d ≡ getD xs (s - suc a) d
+    next s l = let e : s - a ≡ suc (s - suc a) = omega arith in rw e
 
 pub map-downFrom : {A : Type 0} (f g : ℕ → A) (n : ℕ) → ((i : ℕ) → 1 ≤ i → i ≤ n → f i ≡ g i) → map f (downFrom n) ≡ map g (downFrom n)
 unfolding downFrom

@@ -1,7 +1,6 @@
 pub mod SeqLaws
 pub mod TreePathLaws
 pub mod TombstoneLaws
-pub mod ChunkLaws
 pub mod ViewLaws
 pub mod ViewTheorems
 pub mod PathLaws
@@ -15,7 +14,6 @@ pub mod OrderLaws
 pub mod PruneLaws
 pub mod RevealLaws
 pub mod ListingLaws
-pub mod BodyLaws
 pub mod TurnLaws
 pub mod LineLaws
 pub mod ListingCases

@@ -16,7 +16,7 @@ use Rattle.rules.proofs.StructureLaws.{GoodLog}
 use Rattle.rules.proofs.TreeLaws.{Valid, slot-below, slot-injective}
 use Rattle.rules.specs.Bytes.{all, any, filter, isIn}
 use Rattle.rules.specs.Log.{Log, countsOf, known}
-use Rattle.rules.specs.Op.{Op, isRemove, nodeOf}
+use Rattle.rules.specs.Op.{Op, isRemove, kindOf, nodeOf}
 use Rattle.rules.specs.Replay.{opsWithin, removedIn}
 use Rattle.rules.specs.Tree.{slotOf, slots}
 use Rattle.rules.specs.Views.{tombstone}
@@ -31,6 +31,15 @@ mark-size t r = go (isRemove r)
     go : (b : Bool) → length (cond b (set t (spot (nodeOf r)) 1) t) ≡ length t
     go true = length-set t _ _
     go false = refl
+
+-- the effect of an op, by its kind
+pub mark-remove : (t : List ℕ) (r : Op) → kindOf r ≡ 2 → mark t r ≡ set t (spot (nodeOf r)) 1
+unfolding mark isRemove
+mark-remove t r e = rw e
+
+pub mark-other : (t : List ℕ) (r : Op) → (kindOf r ≡ 2 → ⊥) → mark t r ≡ t
+unfolding mark isRemove
+mark-other t r h = rw (ne-eqb (kindOf r) 2 h)
 
 abbrev marked : List ℕ → ℕ → Bool
 marked t n = not (eqb (getD t (slotOf n) 0) 0)

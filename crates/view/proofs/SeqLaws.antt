@@ -2,15 +2,14 @@
 use Prim.Native.Nat.{_*_, _+_, _-_, _<_, suc, zero, ℕ, _≤_}
 use borrow.Author.Tests.{eq-eqb, eqb-true}
 use lib.Dec.{eqb}
-use lib.ListN.{getD, length}
 use mathlib.Core.Bool.{_&&_, Bool, cond, false, not, or-true, true, _||_}
 use mathlib.Core.List.{List, [], map, map-append, _∷_}
 use mathlib.Core.Logic.{⊎-elim}
-use mathlib.Core.Path.{_≡_, ap, refl, sym, _∙_}
+use mathlib.Core.Path.{_≡_, ap, refl, sym}
 use native.Mathlib.Nat.{add-zero, le-refl}
 use native.Mathlib.Omega.{arith}
 use Rattle.rules.proofs.BoolLaws.{and-both, never, or-cases}
-use Rattle.rules.proofs.ListLaws.{filter-append, map-upFrom, upFrom-add}
+use Rattle.rules.proofs.ListLaws.{filter-append, upFrom-add}
 use Rattle.rules.specs.Bytes.{all, any, concat, filter, isIn, upFrom}
 use Rattle.order.proofs.AllLaws.{All, all-append}
 
@@ -83,13 +82,6 @@ none-from p zero a h = refl
 none-from p (suc n) a h =
     let e : p a ≡ false = rw (← add-zero a) (h 0 (omega arith)) in
     rw e (none-from p n (suc a) (λ i l. let q : suc a + i ≡ a + suc i = omega arith in rw q (h (suc i) (omega arith))))
-
-pub map-getD : {A : Type 0} (d : A) (xs : List A) (a : ℕ) → map (λ s. getD xs (s - a) d) (upFrom a (length xs)) ≡ xs
-unfolding upFrom
-map-getD d [] a = refl
-map-getD d (x ∷ xs) a =
-    let z : a - a ≡ 0 = omega arith in
-    rw z (ap (λ ys. x ∷ ys) (map-upFrom (λ s. getD (x ∷ xs) (s - a) d) (λ s. getD xs (s - suc a) d) (length xs) (suc a) (λ s l u. let e : s - a ≡ suc (s - suc a) = omega arith in rw e) ∙ map-getD d xs (suc a)))
 
 pub upFrom-cons : (a n : ℕ) → upFrom a (suc n) ≡ a ∷ upFrom (suc a) n
 unfolding upFrom

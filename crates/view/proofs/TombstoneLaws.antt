@@ -11,24 +11,22 @@ use native.Mathlib.Decide.{ℕ-discrete}
 use native.Mathlib.Omega.{arith}
 use Rattle.order.proofs.GrowLaws.{known-more, known-reads, names-node}
 use Rattle.order.proofs.LevelLaws.{counted-bound}
-use Rattle.rules.proofs.BoolLaws.{and-left, and-right}
-use Rattle.rules.proofs.ListLaws.{map-upFrom}
+use Rattle.rules.proofs.BoolLaws.{and-left, and-right, map-replicas}
+use Rattle.rules.proofs.FileLaws.{log-eta}
 use Rattle.rules.proofs.StructureLaws.{GoodLog, count-held, good-ops, held-in}
-use Rattle.rules.specs.Bytes.{all, any, concat, filter, isIn, upFrom}
+use Rattle.rules.specs.Bytes.{all, any, concat, filter, isIn}
 use Rattle.rules.specs.Log.{Log, countsOf, known, opAt, opsOf}
-use Rattle.rules.specs.Op.{Op, countIn, isRemove, kindOf, nodeOf, replicas, vectorOf}
+use Rattle.rules.specs.Op.{Op, countIn, isRemove, kindOf, nodeOf, vectorOf}
 use Rattle.rules.specs.Replay.{opsWithin, removedIn}
 use Rattle.rules.specs.Views.{tombstone}
 use Rattle.order.proofs.OnceLaws.{all-greatest}
-use Rattle.view.proofs.SeqLaws.{map-getD}
 
 pub ops-all : (log : Log) → length log ≡ 8 → opsWithin log (countsOf log) ≡ concat log
-unfolding opsWithin replicas opsOf
-ops-all log e =
-    ap concat (map-upFrom (λ s. take (countIn (countsOf log) s) (opsOf log s)) (opsOf log) 8 1 (λ s l u. take-all (countIn (countsOf log) s) (opsOf log s) (omega (arith, count-held log s))) ∙ whole-log)
+unfolding opsWithin
+ops-all log e = ap concat (map-replicas (λ s. take (countIn (countsOf log) s) (opsOf log s)) (opsOf log) (λ s l u. whole s) ∙ log-eta log e)
   where
-    whole-log : map (opsOf log) (upFrom 1 8) ≡ log
-    whole-log = rw (← e) (map-getD [] log 1)
+    whole : (s : ℕ) → take (countIn (countsOf log) s) (opsOf log s) ≡ opsOf log s
+    whole s = take-all (countIn (countsOf log) s) (opsOf log s) (omega (arith, count-held log s))
 
 -- an op that is no remove, or removes a known node
 abbrev pub removesKnown : Log → Op → Bool
