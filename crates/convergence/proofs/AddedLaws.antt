@@ -13,10 +13,10 @@ use Rattle.convergence.proofs.TrackLaws.{OpIn, Tracks, op-in, in-more}
 use Rattle.convergence.specs.Exchange.{has}
 use Rattle.rules.specs.Log.{Extends, Log, opsOf, opAt, countsOf, append}
 use Rattle.rules.proofs.AppendLaws.{seq-positive}
-use Rattle.rules.proofs.BoolLaws.{never, or-cases}
-use Rattle.rules.proofs.ListLaws.{same-eq}
+use Rattle.lists.proofs.BoolLaws.{never, or-cases}
+use Rattle.lists.proofs.ListLaws.{same-eq}
 use Rattle.rules.proofs.StructureLaws.{GoodLog, HeldOp, good-ops, count-held}
-use Rattle.rules.specs.Bytes.{any, concat, same}
+use Rattle.lists.specs.Lists.{any, concat, same}
 use Rattle.rules.specs.Op.{Op, countIn, replicaOf, seqOf}
 
 or-swap : (a b c : Bool) → (a || (b || c)) ≡ (b || (a || c))

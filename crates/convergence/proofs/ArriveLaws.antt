@@ -15,7 +15,7 @@ use Rattle.rules.proofs.DeliverLaws.{Admitted, admitted, appended-log, appended
 use Rattle.rules.proofs.IssueLaws.{allowed, issue-admitted}
 use Rattle.rules.proofs.StructureLaws.{GoodLog, count-held}
 use Rattle.rules.specs.Answer.{accepted, require}
-use Rattle.rules.specs.Bytes.{any, concat, same}
+use Rattle.lists.specs.Lists.{any, concat, same}
 use Rattle.rules.specs.Deliver.{held, deliverAnswer, deliverBuffer}
 use Rattle.rules.specs.Issue.{Request, issued, issueAnswer, issueBuffer}
 use Rattle.rules.specs.Log.{Log, logOf, width, countsOf, fileEnd, append, appended, Extends}
@@ -59,7 +59,8 @@ module _ (f b : List ℕ) (s : ℕ) (r : Op) (back : NextOp (logOf width f) s r)
 
   pub op-adds : Adds b r (deliver r)
   op-adds =
-      delivery-adds b r (back .accepted-by b is-sound (rw one-log (record { counts = λ t l u. le-refl _; ops = λ t k l u lk uk. refl })) (rw one-log new-there) fits)
+      delivery-adds b r (back .accepted-by b is-sound (rw one-log (record { counts = λ t l u. le-refl _; ops = λ t k l u lk uk. refl }))
+      (rw one-log new-there) fits)
 
 ---- one op and then the other
 

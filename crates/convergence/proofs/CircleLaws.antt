@@ -8,9 +8,9 @@ use mathlib.Core.Path.{ap, sym, _≡_, _∙_}
 use native.Mathlib.Decide.{ℕ-discrete, decLe}
 use native.Mathlib.Nat.{le-refl}
 use native.Mathlib.Omega.{arith}
-use Rattle.rules.proofs.BoolLaws.{fails, never, and-both}
+use Rattle.lists.proofs.BoolLaws.{fails, never, and-both}
 use Rattle.rules.proofs.TreeLaws.{up-same, Reaches, still-reaches, up-add, search-for, Valid, above-n, in-climb, climb-in, free-avoids, up, short}
-use Rattle.rules.specs.Bytes.{isIn}
+use Rattle.lists.specs.Lists.{isIn}
 use Rattle.rules.specs.Tree.{atOrBelow, slotOf, path, climb, slots}
 
 -- no root among the first i nodes of a way

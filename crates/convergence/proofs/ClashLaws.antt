@@ -1,43 +1,21 @@
 -- Two moves that are issued from one log: the order of their replay, and what each does. Assumes nothing.
-use Prim.Native.Nat.{ℕ, zero, suc, _≤_, _<_}
+use Prim.Native.Nat.{ℕ, _≤_, _<_}
 use borrow.Author.Tests.{ne-eqb, eq-eqb, lt-ltb, le-ltb}
 use lib.Dec.{eqb, ltb}
 use lib.ListN.{set, getD}
 use mathlib.Core.Bool.{Bool, cond, true, false, or-true}
-use mathlib.Core.List.{append-nil, map, List, [], _++_, _∷_}
+use mathlib.Core.List.{map, List, [], _++_, _∷_}
 use mathlib.Core.Path.{_≡_, _∙_}
-use native.Mathlib.Decide.{ℕ-discrete, decLe}
-use native.Mathlib.Nat.{le-refl}
+use native.Mathlib.Decide.{decLe}
 use native.Mathlib.Omega.{arith}
-use Rattle.rules.proofs.BoolLaws.{never}
-use Rattle.rules.proofs.ListLaws.{concat-none}
-use Rattle.rules.specs.Bytes.{downFrom, concat, upFrom}
+use Rattle.lists.proofs.BoolLaws.{never}
+use Rattle.lists.specs.Lists.{downFrom, concat, upFrom}
 use Rattle.rules.specs.Op.{Op, isMove, nodeOf, parentOf}
 use Rattle.rules.specs.Replay.{State, Stamped, step, outcomeOf, outcomeSlot}
 use Rattle.rules.specs.Tree.{slotOf, atOrBelow}
+use Rattle.lists.proofs.RangeLaws.{two-down}
 
 ---- two entries in the order of a level
-
-module _ {A : Type 0} (F : ℕ → List A) where
-  one-down : (n s : ℕ) → 1 ≤ s → s ≤ n → ((r : ℕ) → 1 ≤ r → r ≤ n → (r ≡ s → ⊥) → F r ≡ [])
-      → concat (map F (downFrom n)) ≡ F s
-  unfolding downFrom concat
-  one-down zero s l u e = absurd (omega arith)
-  one-down (suc n) s l u e = elim (ℕ-discrete s (suc n)) [
-    | yes z ↦ rw (concat-none F n (λ r a b. e r a (omega arith) (λ w. omega arith)), append-nil, z)
-    | no nz ↦ rw (e (suc n) (omega arith) (le-refl _) (λ w. omega arith)) (one-down n s l (omega arith) (λ r a b. e r a (omega arith)))
-  ]
-
-  two-down : (n hi lo : ℕ) → 1 ≤ lo → lo < hi → hi ≤ n → ((r : ℕ) → 1 ≤ r → r ≤ n → (r ≡ hi → ⊥) → (r ≡ lo → ⊥) → F r ≡ [])
-      → concat (map F (downFrom n)) ≡ F hi ++ F lo
-  unfolding downFrom concat
-  two-down zero hi lo l h u e = absurd (omega arith)
-  two-down (suc n) hi lo l h u e = elim (ℕ-discrete hi (suc n)) [
-    | yes z ↦ rw (z, one-down n lo l (omega arith) (λ r a b w. e r a (omega arith) (λ q. omega arith) w))
-    | no nz ↦
-        rw (e (suc n) (omega arith) (le-refl _) (λ w. omega arith) (λ w. omega arith))
-        (two-down n hi lo l h (omega arith) (λ r a b. e r a (omega arith)))
-  ]
 
 -- upward is kind 3, downward 4
 abbrev kind : Bool → ℕ

@@ -20,7 +20,7 @@ use Rattle.order.proofs.LateLaws.{Late, ordered-late, no-entry, late-entry, top
 use Rattle.order.proofs.PlacedLaws.{tables-full, placed-by}
 use Rattle.order.specs.Levels.{entry, level, nextOf, levelKind}
 use Rattle.rules.proofs.AppendLaws.{extends}
-use Rattle.rules.proofs.BoolLaws.{and-both, never}
+use Rattle.lists.proofs.BoolLaws.{and-both, never}
 use Rattle.rules.proofs.IssueLaws.{issue-admitted, allowed}
 use Rattle.rules.proofs.PutOutLaws.{NextOp, put-out-next}
 use Rattle.rules.proofs.SoundLaws.{sound-good}
@@ -32,7 +32,7 @@ use Rattle.rules.specs.Op.{Op, countIn, nodeOf}
 use Rattle.rules.specs.Replay.{parentsOf, State, Stamped, replay, step, outcomesOf, outcomeOf}
 use Rattle.rules.specs.Tree.{slot, slots, slotOf}
 use Rattle.rules.specs.Answer.{accepted}
-use Rattle.rules.specs.Bytes.{concat}
+use Rattle.lists.specs.Lists.{concat}
 use Rattle.rules.specs.Sound.{sound}
 
 -- more is log and the ops of x and y

@@ -7,7 +7,7 @@ use native.Mathlib.Omega.{arith}
 use borrow.Author.Tests.{leb-true}
 use lib.ListN.{length, take, drop, length-append, length-drop}
 use lib.Seq.{drop-at}
-use Rattle.rules.specs.Bytes.{sum}
+use Rattle.lists.specs.Lists.{sum}
 use Rattle.rules.specs.Answer.{Answer, refused, hadIt, done, accepted, ifAccepted}
 use Rattle.rules.specs.Op.{Op}
 use Rattle.rules.specs.Log.{fileOf, fileEnd, logOf, emptyLog, appended, width, countsOf, endOf}
@@ -17,7 +17,7 @@ use Rattle.rules.specs.Issue.{issueAnswer, issueBuffer, issueOut}
 use Rattle.rules.specs.Judge.{judge, judgeAnswer}
 use Rattle.rules.specs.Path.{pathCall, pathAnswer}
 use Rattle.rules.specs.Listing.{listing, listingAnswer}
-use Rattle.rules.proofs.BoolLaws.{never}
+use Rattle.lists.proofs.BoolLaws.{never}
 use Rattle.rules.proofs.DeliverLaws.{Admitted, required, admitted, accepted-same, appended-end, appended-past, appended-length}
 use Rattle.rules.proofs.FileLaws.{counts-logOf, file-end, length-file}
 use Rattle.rules.proofs.IssueLaws.{issue-admitted}
@@ -206,7 +206,8 @@ module _ (x y : Site) (t : Twins x y) where
     same-size = size-calls (c ∷ []) x ∙ t .same-size ∙ sym (size-calls (c ∷ []) y);
   }
 
-twins-calls : (calls : List Call) (x y : Site) → Twins x y → (replies x calls ≡ replies y calls) × (foldl perform x calls .held ≡ foldl perform y calls .held)
+twins-calls : (calls : List Call) (x y : Site) → Twins x y
+    → (replies x calls ≡ replies y calls) × (foldl perform x calls .held ≡ foldl perform y calls .held)
 unfolding replies
 twins-calls [] x y t = (refl, t .same-held)
 twins-calls (c ∷ calls) x y t =

@@ -11,16 +11,17 @@ use borrow.Author.Tests.{eqb-true, eq-eqb}
 use lib.ListN.{length, take, getD, length-append}
 use lib.Seq.{getD-append-seam}
 use lib.Dec.{eqb}
-use Rattle.rules.specs.Bytes.{same, upFrom, concat, any, filter}
+use Rattle.lists.specs.Lists.{same, upFrom, concat, any, filter}
 use Rattle.rules.specs.Op.{Op, replicas, countIn, replicaOf, ownCount, seqOf}
 use Rattle.rules.specs.Log.{Log, opsOf, opAt, countsOf, append, Extends}
 use Rattle.convergence.specs.Exchange.{has, opNumbered, inOrder, arrange}
-use Rattle.rules.proofs.BoolLaws.{never, both-ways, and-left, and-right, and-both, map-replicas, fails, or-cases}
+use Rattle.lists.proofs.BoolLaws.{never, both-ways, and-left, and-right, and-both, fails, or-cases}
+use Rattle.rules.proofs.ReplicaLaws.{map-replicas}
 use Rattle.rules.proofs.AppendLaws.{append-extends, ops-same, ops-other, seq-positive}
 use Rattle.rules.proofs.StructureLaws.{count-held, HeldOps}
-use Rattle.rules.proofs.ListLaws.{same-eq}
+use Rattle.lists.proofs.ListLaws.{same-eq}
 use Rattle.convergence.proofs.HasLaws.{has-head, has-tail, has-last, has-new, has-old, has-at, at-has, has-part, part-has}
-use Rattle.convergence.proofs.UnionLaws.{log-eta}
+use Rattle.rules.proofs.FileLaws.{log-eta}
 
 -- r is the op of its replica and number in the log
 pub record OpIn (log : Log) (r : Op) : Type 0 where
@@ -75,7 +76,8 @@ module _ (log : Log) (held : HeldOps log) (eight : length log ≡ 8) (r : Op) wh
 
 ---- one op more
 
-module _ (log : Log) (r : Op) (eight : length log ≡ 8) (lo : 1 ≤ replicaOf r) (hi : replicaOf r ≤ 8) (next : ownCount r ≡ length (opsOf log (replicaOf r))) where
+module _ (log : Log) (r : Op) (eight : length log ≡ 8) (lo : 1 ≤ replicaOf r) (hi : replicaOf r ≤ 8)
+    (next : ownCount r ≡ length (opsOf log (replicaOf r))) where
   count-new : countIn (countsOf (append log r)) (replicaOf r) ≡ length (opsOf log (replicaOf r)) + 1
   count-new = rw (count-held, ops-same log r eight lo hi, length-append)
 
@@ -96,7 +98,12 @@ module _ (log : Log) (r : Op) (eight : length log ≡ 8) (lo : 1 ≤ replicaOf r
       | yes l ↦ inl (old l)
       | no nl ↦ inr (last e nl)
     ]
-    | no ne ↦ inl (old (rw (count-held log (replicaOf x), ← ops-other log r eight lo hi (replicaOf x) (h .low) ne, ← count-held (append log r) (replicaOf x)) (h .here)))
+    | no ne ↦ inl (old (rw (
+      count-held log (replicaOf x),
+      ← ops-other log r eight lo hi (replicaOf x) (h .low) ne,
+      ← count-held
+          (append log r) (replicaOf x),
+    ) (h .here)))
   ]
     where
       old : seqOf x ≤ countIn (countsOf log) (replicaOf x) → OpIn log x
@@ -131,7 +138,8 @@ module _ (log : Log) (r : Op) (eight : length log ≡ 8) (lo : 1 ≤ replicaOf r
     ];
   }
     where
-      last : (s q : ℕ) → s ≡ replicaOf r → (q ≤ countIn (countsOf log) s → ⊥) → q ≤ countIn (countsOf (append log r)) s → opAt u s q ≡ opAt (append log r) s q
+      last : (s q : ℕ) → s ≡ replicaOf r → (q ≤ countIn (countsOf log) s → ⊥) → q ≤ countIn (countsOf (append log r)) s
+          → opAt u s q ≡ opAt (append log r) s q
       last s q e na uq =
           let a : q ≤ countIn (countsOf log) (replicaOf r) → ⊥ = rw e at na in
           let b : q ≤ countIn (countsOf (append log r)) (replicaOf r) = rw e at uq in
@@ -140,22 +148,27 @@ module _ (log : Log) (r : Op) (eight : length log ≡ 8) (lo : 1 ≤ replicaOf r
 
   pub tracks-append : (ops : List Op) → Tracks log ops → Tracks (append log r) (ops ++ (r ∷ []))
   tracks-append ops t = record {
-    inside = λ x e. ⊎-elim (λ (i : has ops x ≡ true). in-more log (append log r) (append-extends log r eight lo hi) x (t .inside x i)) (λ (i : same x r ≡ true). rw (same-eq x r i) new-in) (or-cases (has ops x) (same x r) (sym (has-last ops r x) ∙ e));
-    outside = λ x i. ⊎-elim (λ (o : OpIn log x). has-old ops (r ∷ []) x (t .outside x o)) (λ (e : x ≡ r). rw e (has-new ops r)) (in-append x i);
+    inside = λ x e. ⊎-elim (λ (i : has ops x ≡ true). in-more log (append log r) (append-extends log r eight lo hi) x (t .inside x i))
+        (λ (i : same x r ≡ true). rw (same-eq x r i) new-in) (or-cases (has ops x) (same x r) (sym (has-last ops r x) ∙ e));
+    outside = λ x i. ⊎-elim (λ (o : OpIn log x). has-old ops (r ∷ []) x (t .outside x o)) (λ (e : x ≡ r). rw e (has-new ops r))
+        (in-append x i);
   }
 
 ---- the arrangement of a list of ops
 
 -- the only op that passes a test
-first-pass : (p : Op → Bool) (r : Op) → p r ≡ true → (ops : List Op) → has ops r ≡ true → ((x : Op) → has ops x ≡ true → p x ≡ true → x ≡ r) → take 1 (filter p ops) ≡ r ∷ []
+first-pass : (p : Op → Bool) (r : Op) → p r ≡ true → (ops : List Op) → has ops r ≡ true → ((x : Op) → has ops x ≡ true → p x ≡ true → x ≡ r)
+    → take 1 (filter p ops) ≡ r ∷ []
 unfolding has any filter
 first-pass p r pr [] e h = never e
 first-pass p r pr (x ∷ ops) e h = go (p x) refl (first-pass p r pr ops)
   where
-    go : (b : Bool) → p x ≡ b → (has ops r ≡ true → ((y : Op) → has ops y ≡ true → p y ≡ true → y ≡ r) → take 1 (filter p ops) ≡ r ∷ []) → take 1 (cond b (x ∷ filter p ops) (filter p ops)) ≡ r ∷ []
+    go : (b : Bool) → p x ≡ b → (has ops r ≡ true → ((y : Op) → has ops y ≡ true → p y ≡ true → y ≡ r) → take 1 (filter p ops) ≡ r ∷ [])
+        → take 1 (cond b (x ∷ filter p ops) (filter p ops)) ≡ r ∷ []
     go true q ih = ap (λ (y : Op). y ∷ []) (h x (has-head x ops) q)
     go false q ih =
-        ih (⊎-elim (λ (z : same r x ≡ true). never (sym q ∙ rw (same-eq r x z) at pr)) (λ (z : has ops r ≡ true). z) (or-cases (same r x) (has ops r) e)) (λ y i. h y (has-tail x ops y i))
+        ih (⊎-elim (λ (z : same r x ≡ true). never (sym q ∙ rw (same-eq r x z) at pr)) (λ (z : has ops r ≡ true). z)
+        (or-cases (same r x) (has ops r) e)) (λ y i. h y (has-tail x ops y i))
 
 none-pass : (p : Op → Bool) (ops : List Op) → ((x : Op) → has ops x ≡ true → p x ≡ false) → filter p ops ≡ []
 unfolding has any filter
@@ -166,7 +179,8 @@ shift : (a i : ℕ) → suc a + i ≡ a + suc i
 shift a i = omega arith
 
 -- numbers from a on: op after op, and then nothing
-collect : (g : ℕ → List Op) (n a : ℕ) (ops : List Op) → length ops ≤ n → ((i : ℕ) → i < length ops → g (a + i) ≡ getD ops i [] ∷ []) → ((i : ℕ) → length ops ≤ i → g (a + i) ≡ []) → concat (map g (upFrom a n)) ≡ ops
+collect : (g : ℕ → List Op) (n a : ℕ) (ops : List Op) → length ops ≤ n → ((i : ℕ) → i < length ops → g (a + i) ≡ getD ops i [] ∷ [])
+    → ((i : ℕ) → length ops ≤ i → g (a + i) ≡ []) → concat (map g (upFrom a n)) ≡ ops
 unfolding concat upFrom
 collect g zero a [] l h k = refl
 collect g zero a (r ∷ ops) l h k = absurd (omega arith)
@@ -175,14 +189,19 @@ collect g (suc n) a [] l h k =
     rw e (collect g n (suc a) [] (omega arith) (λ i j. absurd (omega arith)) (λ i j. rw (shift a i) (k (suc i) (omega arith))))
 collect g (suc n) a (r ∷ ops) l h k =
     let e : g a ≡ r ∷ [] = rw (add-zero a) at (h 0 (omega arith)) in
-    rw (e, collect g n (suc a) ops (omega arith) (λ i j. rw (shift a i) (h (suc i) (omega arith))) (λ i j. rw (shift a i) (k (suc i) (omega arith))))
+    rw (
+      e,
+      collect g n (suc a) ops (omega arith) (λ i j. rw (shift a i) (h (suc i) (omega arith)))
+          (λ i j. rw (shift a i) (k (suc i) (omega arith))),
+    )
 
 module _ (log : Log) (ops : List Op) (t : Tracks log ops) (held : HeldOps log) (s : ℕ) (l : 1 ≤ s) (u : s ≤ 8) where
   numbered : (q : ℕ) → 1 ≤ q → q ≤ countIn (countsOf log) s → opNumbered ops s q ≡ opAt log s q ∷ []
   unfolding opNumbered
   numbered q lq uq =
       let x = held s q l u lq uq in
-      first-pass (λ r. eqb (replicaOf r) s && eqb (seqOf r) q) (opAt log s q) (and-both (eq-eqb _ _ (x .origin)) (eq-eqb _ _ (x .number))) ops (t .outside _ (op-in log held s q l u lq uq)) (λ y i p.
+      first-pass (λ r. eqb (replicaOf r) s && eqb (seqOf r) q) (opAt log s q) (and-both (eq-eqb _ _ (x .origin)) (eq-eqb _ _ (x .number)))
+      ops (t .outside _ (op-in log held s q l u lq uq)) (λ y i p.
       let es : replicaOf y ≡ s = eqb-true _ _ (and-left (eqb (replicaOf y) s) _ p) in
       let eq : seqOf y ≡ q = eqb-true _ _ (and-right (eqb (replicaOf y) s) _ p) in
       sym (rw (es, eq) at (t .inside y i .there)))
@@ -205,7 +224,8 @@ module _ (log : Log) (ops : List Op) (t : Tracks log ops) (held : HeldOps log) (
       (λ i j. unnumbered (1 + i) (omega arith))
 
 -- the arrangement of a log's ops is the log
-pub arrange-log : (log : Log) (ops : List Op) → Tracks log ops → HeldOps log → length log ≡ 8 → ((s : ℕ) → 1 ≤ s → s ≤ 8 → countIn (countsOf log) s ≤ 255) → arrange ops ≡ log
+pub arrange-log : (log : Log) (ops : List Op) → Tracks log ops → HeldOps log → length log ≡ 8
+    → ((s : ℕ) → 1 ≤ s → s ≤ 8 → countIn (countsOf log) s ≤ 255) → arrange ops ≡ log
 unfolding arrange
 arrange-log log ops t held eight full =
     map-replicas (inOrder ops) (opsOf log) (λ s l u. in-order log ops t held s l u (full s l u)) ∙ log-eta log eight

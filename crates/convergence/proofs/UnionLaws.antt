@@ -1,39 +1,27 @@
 -- Equal logs, and the union of two logs that agree. Assumes nothing.
 use mathlib.Core.Path.{_≡_, refl, sym, _∙_}
 use mathlib.Core.Bool.{Bool, true, false, cond}
-use mathlib.Core.List.{List, [], _∷_, map}
+use mathlib.Core.List.{List, [], map}
 use Prim.Native.Nat.{ℕ, _+_, _-_, _≤_}
 use native.Mathlib.Omega.{arith}
 use borrow.Author.Tests.{leb-true, leb-false}
 use lib.ListN.{length, getD}
 use lib.Seq.{ext-getD}
 use lib.Dec.{leb}
-use Rattle.rules.specs.Bytes.{upFrom}
+use Rattle.lists.specs.Lists.{upFrom}
 use Rattle.rules.specs.Op.{Op, replicas, countIn}
 use Rattle.rules.specs.Log.{Log, opsOf, opAt, countsOf, soundOps, Extends}
-use Rattle.rules.proofs.FileLaws.{Wide, WideLog, wide-at}
+use Rattle.rules.proofs.FileLaws.{Wide, WideLog, wide-at, log-eta}
 use Rattle.rules.proofs.AppendLaws.{soundOps-more}
 use Rattle.rules.proofs.OfferLaws.{Agree}
-use Rattle.rules.proofs.BoolLaws.{replica-cases, map-replicas}
+use Rattle.rules.proofs.ReplicaLaws.{replica-cases, map-replicas}
 use Rattle.rules.proofs.StructureLaws.{count-held, GoodLog}
 
 ---- equal logs
 
-pub log-eta : (log : Log) → length log ≡ 8 → map (opsOf log) replicas ≡ log
-unfolding opsOf replicas upFrom
-log-eta [] e = absurd (omega arith)
-log-eta (a ∷ []) e = absurd (omega arith)
-log-eta (a ∷ b ∷ []) e = absurd (omega arith)
-log-eta (a ∷ b ∷ c ∷ []) e = absurd (omega arith)
-log-eta (a ∷ b ∷ c ∷ d ∷ []) e = absurd (omega arith)
-log-eta (a ∷ b ∷ c ∷ d ∷ f ∷ []) e = absurd (omega arith)
-log-eta (a ∷ b ∷ c ∷ d ∷ f ∷ g ∷ []) e = absurd (omega arith)
-log-eta (a ∷ b ∷ c ∷ d ∷ f ∷ g ∷ h ∷ []) e = absurd (omega arith)
-log-eta (a ∷ b ∷ c ∷ d ∷ f ∷ g ∷ h ∷ i ∷ []) e = refl
-log-eta (a ∷ b ∷ c ∷ d ∷ f ∷ g ∷ h ∷ i ∷ j ∷ k) e = absurd (omega arith)
-
 -- a log that holds all of another and no more
-pub extends-equal : (log more : Log) → length log ≡ 8 → length more ≡ 8 → Extends log more → ((s : ℕ) → 1 ≤ s → s ≤ 8 → countIn (countsOf more) s ≤ countIn (countsOf log) s) → log ≡ more
+pub extends-equal : (log more : Log) → length log ≡ 8 → length more ≡ 8 → Extends log more
+    → ((s : ℕ) → 1 ≤ s → s ≤ 8 → countIn (countsOf more) s ≤ countIn (countsOf log) s) → log ≡ more
 unfolding opAt
 extends-equal log more e m x h =
     sym (log-eta log e) ∙ map-replicas (opsOf log) (opsOf more) alike ∙ log-eta more m
@@ -83,20 +71,27 @@ module _ (a b : Log) where
     pub union-left : Extends a (union a b)
     unfolding opAt
     union-left = record {
-      counts = λ s l u. rw (count-held, count-held (union a b) s, union-ops s l u) (longer-is (λ ops. length (opsOf a s) ≤ length ops) (opsOf a s) (opsOf b s) (λ h. omega arith) (λ h. omega arith));
-      ops = λ s q l u lq uq. rw (union-ops s l u) (longer-is (λ ops. getD ops (q - 1) [] ≡ opAt a s q) (opsOf a s) (opsOf b s) (λ h. refl) (λ h. ag s q l u lq uq (omega (arith, count-held a s, count-held b s))));
+      counts = λ s l u. rw (count-held, count-held (union a b) s, union-ops s l u) (longer-is (λ ops. length (opsOf a s) ≤ length ops)
+          (opsOf a s) (opsOf b s) (λ h. omega arith) (λ h. omega arith));
+      ops = λ s q l u lq uq. rw (union-ops s l u) (longer-is (λ ops. getD ops (q - 1) [] ≡ opAt a s q) (opsOf a s) (opsOf b s) (λ h. refl)
+          (λ h. ag s q l u lq uq (omega (arith, count-held a s, count-held b s))));
     }
 
     pub union-right : Extends b (union a b)
     unfolding opAt
     union-right = record {
-      counts = λ s l u. rw (count-held, count-held (union a b) s, union-ops s l u) (longer-is (λ ops. length (opsOf b s) ≤ length ops) (opsOf a s) (opsOf b s) (λ h. omega arith) (λ h. omega arith));
-      ops = λ s q l u lq uq. rw (union-ops s l u) (longer-is (λ ops. getD ops (q - 1) [] ≡ opAt b s q) (opsOf a s) (opsOf b s) (λ h. sym (ag s q l u lq (omega (arith, count-held a s, count-held b s)) uq)) (λ h. refl));
+      counts = λ s l u. rw (count-held, count-held (union a b) s, union-ops s l u) (longer-is (λ ops. length (opsOf b s) ≤ length ops)
+          (opsOf a s) (opsOf b s) (λ h. omega arith) (λ h. omega arith));
+      ops = λ s q l u lq uq. rw (union-ops s l u) (longer-is (λ ops. getD ops (q - 1) [] ≡ opAt b s q) (opsOf a s) (opsOf b s)
+          (λ h. sym (ag s q l u lq (omega (arith, count-held a s, count-held b s)) uq)) (λ h. refl));
     }
 
     pub good-union : GoodLog a → GoodLog b → GoodLog (union a b)
     good-union ha hb = record {
       eight = union-eight;
-      counts = λ s l u. rw (count-held, union-ops s l u) (longer-is (λ ops. length ops ≤ 255) (opsOf a s) (opsOf b s) (λ h. omega (arith, ha .counts s l u, count-held a s)) (λ h. omega (arith, hb .counts s l u, count-held b s)));
-      ops = λ s l u. rw (union-ops s l u) (longer-is (λ ops. soundOps (union a b) s 1 ops ≡ true) (opsOf a s) (opsOf b s) (λ h. soundOps-more a (union a b) union-left s 1 (opsOf a s) (ha .ops s l u)) (λ h. soundOps-more b (union a b) union-right s 1 (opsOf b s) (hb .ops s l u)));
+      counts = λ s l u. rw (count-held, union-ops s l u) (longer-is (λ ops. length ops ≤ 255) (opsOf a s) (opsOf b s)
+          (λ h. omega (arith, ha .counts s l u, count-held a s)) (λ h. omega (arith, hb .counts s l u, count-held b s)));
+      ops = λ s l u. rw (union-ops s l u) (longer-is (λ ops. soundOps (union a b) s 1 ops ≡ true) (opsOf a s) (opsOf b s)
+          (λ h. soundOps-more a (union a b) union-left s 1 (opsOf a s) (ha .ops s l u)) (λ h. soundOps-more b (union a b) union-right s 1
+          (opsOf b s) (hb .ops s l u)));
     }

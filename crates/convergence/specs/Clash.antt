@@ -8,7 +8,7 @@ use mathlib.Core.List.{List, _∷_}
 use mathlib.Core.Path.{_≡_}
 use Rattle.convergence.specs.Exchange.{Call, issue, deliver, answer, bufferAfter, has}
 use Rattle.rules.specs.Answer.{accepted}
-use Rattle.rules.specs.Bytes.{concat}
+use Rattle.lists.specs.Lists.{concat}
 use Rattle.rules.specs.Issue.{Request, move, moveKind, issueAnswer, issueOut}
 use Rattle.rules.specs.Log.{Log, logOf, width, countsOf, fileEnd}
 use Rattle.rules.specs.Op.{Op, countIn}

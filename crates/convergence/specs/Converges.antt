@@ -6,7 +6,7 @@ use mathlib.Core.List.{List, [], _++_}
 use lib.ListN.{length, drop}
 use lib.Dec.{eqb}
 use Rattle.rules.specs.Answer.{Answer, refused, hadIt, done, accepted}
-use Rattle.rules.specs.Bytes.{concat, all}
+use Rattle.lists.specs.Lists.{concat, all}
 use Rattle.rules.specs.Op.{Op}
 use Rattle.rules.specs.Log.{Log, width}
 use Rattle.rules.specs.Tree.{slots}
@@ -39,7 +39,8 @@ pub record Settled (p q : Pair) (xs : List Answered) : Type 0 where
   -- each file is that of all ops that either held before the rounds
   pub files : (d : Side) → q d .buffer ≡ filed (everything p) (p d .buffer)
   -- judging gives both the same tree and outcomes, those of all these ops
-  pub judging : (d : Side) (parents outcomes : List ℕ) → slots ≤ length parents → slots ≤ length outcomes → judge width (q d .buffer) parents outcomes ≡ judged (arrange (everything p)) parents outcomes
+  pub judging : (d : Side) (parents outcomes : List ℕ) → slots ≤ length parents → slots ≤ length outcomes
+      → judge width (q d .buffer) parents outcomes ≡ judged (arrange (everything p)) parents outcomes
   -- every climb reaches the root in no more steps than there are added nodes
   pub tree : IsTree (nodes (arrange (everything p))) (parentsOf (arrange (everything p)))
 

@@ -1,4 +1,5 @@
--- "Two collections that meet": lists of calls and what is held after them; rounds of offers, their answers, and what is missing (the paper's
+-- "Two collections that meet": lists of calls and what is held after them; rounds of offers, their answers, and what is missing (the
+-- paper's
 -- lacking). Assumes nothing.
 use Prim.Native.Nat.{ℕ}
 use mathlib.Core.Path.{_≡_}
@@ -7,7 +8,7 @@ use mathlib.Core.List.{List, [], _∷_, _++_, map, foldl}
 use lib.ListN.{length, take, drop}
 use lib.Dec.{eqb}
 use Rattle.rules.specs.Answer.{Answer, ifAccepted}
-use Rattle.rules.specs.Bytes.{upFrom, same, concat, any, filter}
+use Rattle.lists.specs.Lists.{upFrom, same, concat, any, filter}
 use Rattle.rules.specs.Op.{Op, replicas, replicaOf, seqOf}
 use Rattle.rules.specs.Log.{Log, width, fileEnd, fileOf}
 use Rattle.rules.specs.Deliver.{makeAnswer, makeBuffer, deliverAnswer, deliverBuffer}

@@ -5,7 +5,7 @@ use mathlib.Core.Bool.{true, false}
 use mathlib.Core.List.{List, _∷_}
 use lib.ListN.{length, drop}
 use Rattle.rules.specs.Answer.{Answer, accepted, ifAccepted}
-use Rattle.rules.specs.Bytes.{concat}
+use Rattle.lists.specs.Lists.{concat}
 use Rattle.rules.specs.Op.{Op}
 use Rattle.rules.specs.Log.{width, fileEnd}
 use Rattle.rules.specs.Judge.{judge}
@@ -37,7 +37,8 @@ SameOpsSameFile =
     (f g : List ℕ) (a b : List Call) → 32 ≤ length f → 32 ≤ length g
     → SameHeld (run f a) (run g b) → fileIn (run f a) ≡ fileIn (run g b)
 
--- "each answer and each issued record follow by the rules above from the call and the records held before it"; the buffer's length is part of
+-- "each answer and each issued record follow by the rules above from the call and the records held before it"; the buffer's length is part
+-- of
 -- the call
 abbrev pub HeldSettles : Type 0
 HeldSettles =
@@ -61,7 +62,8 @@ ReadsSettle =
     (f g : List ℕ) (a b : List Call) → 32 ≤ length f → 32 ≤ length g
     → SameHeld (run f a) (run g b) → ReadAlike (run f a .buffer) (run g b .buffer)
 
--- "bytes past the end are neither read nor changed, but for the 14 that an accepted record adds": that they are not read is said above; what
+-- "bytes past the end are neither read nor changed, but for the 14 that an accepted record adds": that they are not read is said above;
+-- what
 -- lies past the end that a call answers is as before, and a call that is not accepted changes nothing
 pub record PastKept (f after : List ℕ) (a : Answer) : Type 0 where
   pub size : length after ≡ length f

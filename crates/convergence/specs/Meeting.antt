@@ -9,7 +9,8 @@ use Rattle.convergence.specs.Clash.{Move, circle, beats, putOut, Issued,
 use Rattle.convergence.specs.Converges.{expected}
 use Rattle.convergence.specs.Exchange.{Side, Round, left, Offer, Pair, Call, issue, deliver, run, right, make, missing, after, answers, acceptedBy, answer, answerTo, acceptances, isSide, arrange, inOrder, everything, other, perform, opNumbered, heldThen, has, onlyIn, bufferAfter, offered}
 use Rattle.rules.specs.Answer.{require}
-use Rattle.rules.specs.Bytes.{wordAt, all, word, upFrom, downFrom, sum, concat, greatest, same, any, filter, isIn}
+use Rattle.rules.specs.Bytes.{wordAt, word}
+use Rattle.lists.specs.Lists.{all, upFrom, downFrom, sum, concat, greatest, same, any, filter, isIn}
 use Rattle.rules.specs.Deliver.{makeAnswer, deliverBuffer, makeBuffer, deliverAnswer, heldAnswer, admitAnswer, held}
 use Rattle.rules.specs.Examples.{p1, adds, p1File, vector}
 use Rattle.rules.specs.Issue.{opBytes, add, move, requestKnown, issued, moveKind, issueAnswer, requestClear, issueBuffer, issueOut}
@@ -81,7 +82,14 @@ pub record Met : Type 0 where
   pub in-turn : acceptedBy right (answers (pair []) (concat rounds)) ≡ a₁ ∷ a₂ ∷ a₃ ∷ []
 
 pub met : Met
-unfolding p1 p1File require wordAt word upFrom downFrom sum greatest same concat all any filter isIn replicas isReplica countIn kindOf replicaOf nodeOf parentOf vectorOf ownCount seqOf nodeNumber isAdd isRemove isMove wellFormed emptyLog opsOf opAt countsOf append countAt startAt headerCounts startOf endOf fileEnd chunks chunksOf logOf headerEntry headerOf fileOf within covered closedAt closed nodeWithin known knownParent namesKnown soundOp soundOps soundLog soundHeader laid structural sound makeAnswer held heldAnswer admitAnswer deliverAnswer slot slotOf parentIn climb path depth atOrBelow opsWithin timestampIn timestamp stamp stamped ofReplica ofKind ofTime byTime ordered start outcomeSlot outcomeOf step replay parentsOf outcomesOf opBytes moveKind issued requestKnown requestClear issueAnswer makeBuffer deliverBuffer appended issueBuffer issueOut answer bufferAfter heldThen perform run has opNumbered inOrder arrange other isSide onlyIn missing answerTo offered after answers acceptances acceptedBy expected everything
+unfolding p1 p1File require wordAt word upFrom downFrom sum greatest same concat all any filter isIn replicas isReplica countIn kindOf
+    replicaOf nodeOf parentOf vectorOf ownCount seqOf nodeNumber isAdd isRemove isMove wellFormed emptyLog opsOf opAt countsOf append
+    countAt startAt headerCounts startOf endOf fileEnd chunks chunksOf logOf headerEntry headerOf fileOf within covered closedAt closed
+    nodeWithin known knownParent namesKnown soundOp soundOps soundLog soundHeader laid structural sound makeAnswer held heldAnswer
+    admitAnswer deliverAnswer slot slotOf parentIn climb path depth atOrBelow opsWithin timestampIn timestamp stamp stamped ofReplica ofKind
+    ofTime byTime ordered start outcomeSlot outcomeOf step replay parentsOf outcomesOf opBytes moveKind issued requestKnown requestClear
+    issueAnswer makeBuffer deliverBuffer appended issueBuffer issueOut answer bufferAfter heldThen perform run has opNumbered inOrder
+    arrange other isSide onlyIn missing answerTo offered after answers acceptances acceptedBy expected everything
 met = record {
   held-left = refl;
   held-right = refl;
@@ -129,14 +137,24 @@ last-first false false c d = refl
 
 -- each way of arriving comes to the same file
 arrived : (h : List ℕ) → h ≡ p1File → BothAdded shared h a₃ b₁
-unfolding p1 p1File require wordAt word upFrom sum same concat all any replicas isReplica countIn kindOf replicaOf nodeOf parentOf vectorOf ownCount seqOf nodeNumber isAdd isRemove wellFormed emptyLog opsOf opAt countsOf append countAt startAt headerCounts startOf endOf fileEnd chunks chunksOf logOf headerEntry headerOf fileOf within covered closedAt closed nodeWithin known knownParent namesKnown soundOp soundOps soundLog soundHeader laid structural sound makeAnswer held heldAnswer admitAnswer deliverAnswer opBytes makeBuffer deliverBuffer appended answer bufferAfter heldThen perform run has
+unfolding p1 p1File require wordAt word upFrom sum same concat all any replicas isReplica countIn kindOf replicaOf nodeOf parentOf vectorOf
+    ownCount seqOf nodeNumber isAdd isRemove wellFormed emptyLog opsOf opAt countsOf append countAt startAt headerCounts startOf endOf
+    fileEnd chunks chunksOf logOf headerEntry headerOf fileOf within covered closedAt closed nodeWithin known knownParent namesKnown soundOp
+    soundOps soundLog soundHeader laid structural sound makeAnswer held heldAnswer admitAnswer deliverAnswer opBytes makeBuffer
+    deliverBuffer appended answer bufferAfter heldThen perform run has
 arrived h e = rw e (record {
   is-sound = refl;
   ops = λ z. last-first (same z a₁) (same z a₂) (same z a₃) (same z b₁);
 })
 
 pub clashed : Clashed
-unfolding p1 p1File require wordAt word upFrom downFrom sum greatest same concat all any filter isIn replicas isReplica countIn kindOf replicaOf nodeOf parentOf vectorOf ownCount seqOf nodeNumber isAdd isRemove isMove wellFormed emptyLog opsOf opAt countsOf append countAt startAt headerCounts startOf endOf fileEnd chunks chunksOf logOf headerEntry headerOf fileOf within covered closedAt closed nodeWithin known knownParent namesKnown soundOp soundOps soundLog soundHeader laid structural sound makeAnswer held heldAnswer admitAnswer deliverAnswer slot slotOf parentIn climb path depth atOrBelow opsWithin timestampIn timestamp stamp stamped ofReplica ofKind ofTime byTime ordered start outcomeSlot outcomeOf step replay parentsOf outcomesOf opBytes moveKind issued requestKnown requestClear issueAnswer makeBuffer deliverBuffer appended issueBuffer issueOut answer bufferAfter heldThen perform run circle beats
+unfolding p1 p1File require wordAt word upFrom downFrom sum greatest same concat all any filter isIn replicas isReplica countIn kindOf
+    replicaOf nodeOf parentOf vectorOf ownCount seqOf nodeNumber isAdd isRemove isMove wellFormed emptyLog opsOf opAt countsOf append
+    countAt startAt headerCounts startOf endOf fileEnd chunks chunksOf logOf headerEntry headerOf fileOf within covered closedAt closed
+    nodeWithin known knownParent namesKnown soundOp soundOps soundLog soundHeader laid structural sound makeAnswer held heldAnswer
+    admitAnswer deliverAnswer slot slotOf parentIn climb path depth atOrBelow opsWithin timestampIn timestamp stamp stamped ofReplica ofKind
+    ofTime byTime ordered start outcomeSlot outcomeOf step replay parentsOf outcomesOf opBytes moveKind issued requestKnown requestClear
+    issueAnswer makeBuffer deliverBuffer appended issueBuffer issueOut answer bufferAfter heldThen perform run circle beats
 clashed = record {
   both-issued = record {
     one-log = refl;

@@ -6,16 +6,17 @@ use mathlib.Core.List.{List, [], _∷_}
 use mathlib.Core.Path.{refl, ap, _≡_, ap₂}
 use native.Mathlib.Nat.{le-of-suc-le-suc, not-suc-le-zero}
 use native.Mathlib.Omega.{arith}
-use Rattle.rules.proofs.BoolLaws.{map-replicas}
+use Rattle.rules.proofs.ReplicaLaws.{map-replicas}
 use Rattle.rules.proofs.StructureLaws.{held-in, good-ops, count-held, GoodLog}
 use Rattle.rules.proofs.TimeLaws.{map-within}
-use Rattle.rules.specs.Bytes.{concat, greatest}
+use Rattle.lists.specs.Lists.{concat, greatest}
 use Rattle.rules.specs.Log.{Log, opAt, covered, opsOf, Extends}
 use Rattle.rules.specs.Op.{Vector, Op, vectorOf, countIn}
 use Rattle.rules.specs.Replay.{opsWithin, timestampIn, timestamp, ordered, stamped, stamp, byTime}
 use Rattle.rules.specs.Tree.{slots}
 
-take-same : (n : ℕ) (xs ys : List Op) → n ≤ length xs → n ≤ length ys → ((i : ℕ) → i < n → getD xs i [] ≡ getD ys i []) → take n xs ≡ take n ys
+take-same : (n : ℕ) (xs ys : List Op) → n ≤ length xs → n ≤ length ys → ((i : ℕ) → i < n → getD xs i [] ≡ getD ys i [])
+    → take n xs ≡ take n ys
 take-same zero xs ys a b e = refl
 take-same (suc n) [] ys a b e = absurd (not-suc-le-zero a)
 take-same (suc n) (x ∷ xs) [] a b e = absurd (not-suc-le-zero b)
@@ -23,11 +24,13 @@ take-same (suc n) (x ∷ xs) (y ∷ ys) a b e =
     ap₂ _∷_ (e 0 (omega arith)) (take-same n xs ys (le-of-suc-le-suc a) (le-of-suc-le-suc b) (λ i h. e (suc i) (omega arith)))
 
 module _ (log more : Log) (x : Extends log more) where
-  part-more : (v : Vector) → covered log v ≡ true → (s : ℕ) → 1 ≤ s → s ≤ 8 → take (countIn v s) (opsOf more s) ≡ take (countIn v s) (opsOf log s)
+  part-more : (v : Vector) → covered log v ≡ true → (s : ℕ) → 1 ≤ s → s ≤ 8
+      → take (countIn v s) (opsOf more s) ≡ take (countIn v s) (opsOf log s)
   unfolding opAt
   part-more v c s l u =
       let h = held-in log v c s l u in
-      take-same (countIn v s) (opsOf more s) (opsOf log s) (omega (arith, x .counts s l u, count-held more s)) (omega (arith, count-held log s)) (λ i b.
+      take-same (countIn v s) (opsOf more s) (opsOf log s) (omega (arith, x .counts s l u, count-held more s))
+      (omega (arith, count-held log s)) (λ i b.
       let k : i + 1 - 1 ≡ i = omega arith in
       rw k at (x .ops s (i + 1) l u (omega arith) (omega arith)))
 
@@ -40,7 +43,8 @@ module _ (log more : Log) (x : Extends log more) where
     unfolding timestampIn
     time-more zero r c = refl
     time-more (suc k) r c =
-        rw (within-more (vectorOf r) c) (ap (λ xs. 1 + greatest xs) (map-within (timestampIn k more) (timestampIn k log) log (vectorOf r) (λ s q l u lq uq.
+        rw (within-more (vectorOf r) c) (ap (λ xs. 1 + greatest xs) (map-within (timestampIn k more) (timestampIn k log) log (vectorOf r)
+        (λ s q l u lq uq.
         time-more k (opAt log s q) (good-ops good s q l u lq (omega (arith, held-in log (vectorOf r) c s l u)) .is-covered))))
 
     pub timestamp-more : (r : Op) → covered log (vectorOf r) ≡ true → timestamp more r ≡ timestamp log r

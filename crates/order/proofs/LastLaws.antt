@@ -2,7 +2,7 @@
 use mathlib.Core.Path.{_≡_}
 use mathlib.Core.Bool.{cond}
 use mathlib.Core.List.{map}
-use Prim.Native.Nat.{ℕ, zero, suc, _+_, _≤_, _<_}
+use Prim.Native.Nat.{ℕ, _≤_}
 use native.Mathlib.Omega.{arith}
 use lib.Dec.{eqb}
 use native.Mathlib.Decide.{ℕ-discrete}
@@ -10,25 +10,11 @@ use borrow.Author.Tests.{eq-eqb, ne-eqb}
 use native.Mathlib.Nat.{le-refl}
 use Rattle.rules.specs.Replay.{timestamp, opsWithin}
 use Rattle.rules.specs.Log.{Log, countsOf}
-use Rattle.rules.specs.Bytes.{upFrom, greatest}
+use Rattle.lists.specs.Lists.{upFrom, greatest}
 use Rattle.rules.specs.Op.{countIn, Vector, replicas}
 use Rattle.rules.proofs.StructureLaws.{held-in, GoodLog}
 use Rattle.order.proofs.LevelLaws.{Cut, counted-value, counted-bound, rising, time-of}
-
--- the greatest value of a function on numbers from a on
-greatest-at : (g : ℕ → ℕ) (n a s : ℕ) → a ≤ s → s < a + n → g s ≤ greatest (map g (upFrom a n))
-unfolding greatest upFrom
-greatest-at g zero a s l u = absurd (omega arith)
-greatest-at g (suc n) a s l u = elim (ℕ-discrete a s) [
-  | yes e ↦ rw e (omega arith)
-  | no ne ↦ omega (arith, greatest-at g n (suc a) s (omega arith) (omega arith))
-]
-
-greatest-all : (g : ℕ → ℕ) (n a b : ℕ) → ((s : ℕ) → a ≤ s → s < a + n → g s ≤ b) → greatest (map g (upFrom a n)) ≤ b
-unfolding greatest upFrom
-greatest-all g zero a b h = omega arith
-greatest-all g (suc n) a b h =
-    omega (arith, h a (le-refl a) (omega arith), greatest-all g n (suc a) b (λ s l u. h s (omega arith) (omega arith)))
+use Rattle.lists.proofs.GreatestLaws.{greatest-all, greatest-at}
 
 module _ (log : Log) (good : GoodLog log) (v : Vector) (is : Cut log v) where
   -- the timestamp of replica s's last op within the vector, 0 where there is none

@@ -11,5 +11,4 @@ pub mod LateLaws
 pub mod PlacedLaws
 pub mod RisingLaws
 pub mod TourLaws
-pub mod AllLaws
 pub mod PlacingLaws

@@ -10,7 +10,7 @@ use Rattle.rules.specs.Log.{Log, logOf}
 use Rattle.rules.specs.TreeClaim.{Trees, IsTree}
 use Rattle.rules.specs.Op.{Vector}
 use Rattle.rules.specs.Replay.{replay, addedIn}
-use Rattle.rules.specs.Bytes.{isIn}
+use Rattle.lists.specs.Lists.{isIn}
 use Rattle.rules.specs.Tree.{slotOf}
 use Rattle.rules.proofs.StructureLaws.{GoodLog, structural-good}
 use Rattle.rules.proofs.TreeLaws.{slot-root, in-climb}

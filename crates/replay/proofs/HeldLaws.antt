@@ -25,7 +25,8 @@ spot {w} {f} x = record {
 }
 
 pub held-op : (w : ℕ) (f : List ℕ) (s q : ℕ) → InFile w f s q → HeldOp (logOf w f) s q (opAt (logOf w f) s q)
-held-op w f s q x = good-ops (structural-good w f (x .is-structural)) s q (x .low) (x .high) (x .first) (rw (counts-in w f s (x .low) (x .high)) (x .last))
+held-op w f s q x = good-ops (structural-good w f (x .is-structural)) s q (x .low) (x .high) (x .first)
+    (rw (counts-in w f s (x .low) (x .high)) (x .last))
 
 pub in-file : (w : ℕ) (f : List ℕ) (v : Vector) → Held w f v → (s q : ℕ) → 1 ≤ s → s ≤ 8 → 1 ≤ q → q ≤ countIn v s → InFile w f s q
 in-file w f v h s q l u lq uq = record {

@@ -43,16 +43,37 @@ two-digits n l h = omega (arith, length-high 4 n l, length-low 3 (n / 10) (omega
 
 pub three-digits : (n : ℕ) → 100 ≤ n → n < 1000 → length (decimal n) ≡ 3
 unfolding decimal
-three-digits n l h = omega (arith, length-high 4 n (omega arith), length-high 3 (n / 10) (omega arith), length-low 2 (n / 10 / 10) (omega arith))
+three-digits n l h = omega (
+  arith,
+  length-high 4 n (omega arith),
+  length-high 3 (n / 10) (omega arith),
+  length-low 2 (n / 10 / 10)
+      (omega arith),
+)
 
 pub four-digits : (n : ℕ) → 1000 ≤ n → n < 10000 → length (decimal n) ≡ 4
 unfolding decimal
-four-digits n l h = omega (arith, length-high 4 n (omega arith), length-high 3 (n / 10) (omega arith), length-high 2 (n / 10 / 10) (omega arith), length-low 1 (n / 10 / 10 / 10) (omega arith))
+four-digits n l h = omega (
+  arith,
+  length-high 4 n (omega arith),
+  length-high 3 (n / 10) (omega arith),
+  length-high 2 (n / 10 / 10)
+      (omega arith),
+  length-low 1 (n / 10 / 10 / 10) (omega arith),
+)
 
 pub five-digits : (n : ℕ) → 10000 ≤ n → n < 100000 → length (decimal n) ≡ 5
 unfolding decimal
 five-digits n l h =
-    omega (arith, length-high 4 n (omega arith), length-high 3 (n / 10) (omega arith), length-high 2 (n / 10 / 10) (omega arith), length-high 1 (n / 10 / 10 / 10) (omega arith), length-low 0 (n / 10 / 10 / 10 / 10) (omega arith))
+    omega (
+      arith,
+      length-high 4 n (omega arith),
+      length-high 3 (n / 10) (omega arith),
+      length-high 2 (n / 10 / 10)
+          (omega arith),
+      length-high 1 (n / 10 / 10 / 10) (omega arith),
+      length-low 0 (n / 10 / 10 / 10 / 10) (omega arith),
+    )
 
 ---- five digits are enough, and they read back
 
@@ -85,7 +106,8 @@ unfolding tens numberOf
 digits-number zero n h = rw (digits-low 0 n (omega arith)) (omega arith)
 digits-number (suc k) n h =
     elim (decLe 10 n) [
-      | yes l ↦ rw (digits-high (suc k) n l, number-last (digits (suc k) (n / 10)) (48 + n % 10), digits-number k (n / 10) (omega arith)) (omega arith)
+      | yes l ↦ rw (digits-high (suc k) n l, number-last (digits (suc k) (n / 10)) (48 + n % 10), digits-number k (n / 10) (omega arith))
+          (omega arith)
       | no l ↦ rw (digits-low (suc k) n (omega arith)) (omega arith)
     ]
 
@@ -94,7 +116,8 @@ unfolding tens
 digits-first zero n l h = rw (digits-low 0 n (omega arith)) (omega arith)
 digits-first (suc k) n l h =
     elim (decLe 10 n) [
-      | yes m ↦ rw (digits-high (suc k) n m, List·getD-append (digits (suc k) (n / 10)) ((48 + n % 10) ∷ []) 0 0 (some-digit k (n / 10))) (digits-first k (n / 10) (omega arith) (omega arith))
+      | yes m ↦ rw (digits-high (suc k) n m, List·getD-append (digits (suc k) (n / 10)) ((48 + n % 10) ∷ []) 0 0 (some-digit k (n / 10)))
+          (digits-first k (n / 10) (omega arith) (omega arith))
       | no m ↦ rw (digits-low (suc k) n (omega arith)) (omega arith)
     ]
 
@@ -122,11 +145,14 @@ unfolding digits
 digits-are zero n i h = absurd (omega arith)
 digits-are (suc k) n i h =
     elim (decLe 10 n) [
-      | yes l ↦ rw (digits-high k n l) (last (digits k (n / 10)) (48 + n % 10) i (digits-are k (n / 10)) (omega arith, omega arith) (rw (digits-high k n l) at h))
-      | no l ↦ let z : i ≡ 0 = omega (arith, length-low k n (omega arith)) in rw (digits-low k n (omega arith), z) (omega arith, omega arith)
+      | yes l ↦ rw (digits-high k n l) (last (digits k (n / 10)) (48 + n % 10) i (digits-are k (n / 10)) (omega arith, omega arith)
+          (rw (digits-high k n l) at h))
+      | no l ↦ let z : i ≡ 0 = omega (arith, length-low k n (omega arith)) in rw (digits-low k n (omega arith), z)
+          (omega arith, omega arith)
     ]
   where
-    last : (ds : List ℕ) (d i : ℕ) → ((j : ℕ) → j < length ds → Digit (getD ds j 0)) → Digit d → i < length (ds ++ (d ∷ [])) → Digit (getD (ds ++ (d ∷ [])) i 0)
+    last : (ds : List ℕ) (d i : ℕ) → ((j : ℕ) → j < length ds → Digit (getD ds j 0)) → Digit d → i < length (ds ++ (d ∷ []))
+        → Digit (getD (ds ++ (d ∷ [])) i 0)
     last ds d i each new h =
         elim (decLe (length ds) i) [
           | yes l ↦ let e : length ds ≡ i = omega (arith, length-append ds (d ∷ [])) in rw (getD-at ds d [] 0 i e) new
@@ -146,7 +172,14 @@ length-line d n removed = rw (length-append, length-append) (omega arith)
 
 decimal-short : (n : ℕ) → n < 10000 → length (decimal n) ≤ 4
 unfolding decimal
-decimal-short n h = omega (arith, digits-last 4 n, digits-last 3 (n / 10), digits-last 2 (n / 10 / 10), length-low 1 (n / 10 / 10 / 10) (omega arith))
+decimal-short n h = omega (
+  arith,
+  digits-last 4 n,
+  digits-last 3 (n / 10),
+  digits-last 2 (n / 10 / 10),
+  length-low 1 (n / 10 / 10 / 10)
+      (omega arith),
+)
 
 -- four digits each for depth and node
 pub line-short : (d n : ℕ) (removed : Bool) → d < 10000 → n < 10000 → length (lineOf d n removed) ≤ 12

@@ -67,7 +67,17 @@ admitted w f r n e =
 pub delivered : (w : ℕ) (f : List ℕ) (r : Op) (n : ℕ) → Admitted w f r n → deliverAnswer w f r ≡ accepted n
 unfolding deliverAnswer admitAnswer require
 delivered w f r n h =
-    rw (h .is-sound, eq-eqb (length r) w (h .long), h .admits .formed, h .admits .new, h .admits .is-covered, h .admits .is-closed, h .admits .names, le-leb _ _ (h .room), h .end)
+    rw (
+      h .is-sound,
+      eq-eqb (length r) w (h .long),
+      h .admits .formed,
+      h .admits .new,
+      h .admits .is-covered,
+      h .admits .is-closed,
+      h .admits .names,
+      le-leb _ _ (h .room),
+      h .end,
+    )
 
 ---- an accepted op leaves a sound log
 

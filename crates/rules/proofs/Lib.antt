@@ -1,5 +1,4 @@
-pub mod BoolLaws
-pub mod ListLaws
+pub mod ReplicaLaws
 pub mod FileLaws
 pub mod StructureLaws
 pub mod AppendLaws

@@ -9,7 +9,7 @@ use Rattle.rules.specs.Sound.{sound}
 use Rattle.rules.specs.Op.{countIn}
 use Rattle.rules.proofs.FileLaws.{WideLog, wide-logOf}
 use Rattle.rules.proofs.StructureLaws.{GoodLog, Laid, file-structural, laid-reads, structural-good, structural-laid}
-use Rattle.rules.proofs.BoolLaws.{replica-cases}
+use Rattle.rules.proofs.ReplicaLaws.{replica-cases}
 
 module _ (w : ℕ) (f : List ℕ) where
   pub sound-structural : sound w f ≡ true → structural w f ≡ true
@@ -34,7 +34,8 @@ pub good-empty : GoodLog emptyLog
 unfolding emptyLog countIn countsOf opsOf soundOps
 good-empty = record {
   eight = refl;
-  counts = replica-cases (λ s. countIn (countsOf emptyLog) s ≤ 255) (lit≤ tt) (lit≤ tt) (lit≤ tt) (lit≤ tt) (lit≤ tt) (lit≤ tt) (lit≤ tt) (lit≤ tt);
+  counts = replica-cases (λ s. countIn (countsOf emptyLog) s ≤ 255) (lit≤ tt) (lit≤ tt) (lit≤ tt) (lit≤ tt) (lit≤ tt) (lit≤ tt) (lit≤ tt)
+      (lit≤ tt);
   ops = replica-cases (λ s. soundOps emptyLog s 1 (opsOf emptyLog s) ≡ true) refl refl refl refl refl refl refl refl;
 }
 

@@ -10,8 +10,10 @@ use lib.Dec.{eqb, leb}
 use native.Mathlib.Nat.{le-refl, not-suc-le-zero, add-zero, add-suc, suc-add, le-of-suc-le-suc}
 use Rattle.rules.specs.Log.{Log, closed, covered, opAt, soundOps, closedAt, countsOf, soundOp, within, countAt, laid, opsOf, structural, soundHeader, soundLog, startAt, logOf, startOf, fileEnd, headerCounts, fileOf, namesKnown}
 use Rattle.rules.specs.Op.{countIn, Op, Vector, replicaOf, seqOf, wellFormed, vectorOf}
-use Rattle.rules.specs.Bytes.{byte, concat}
-use Rattle.rules.proofs.BoolLaws.{all-replicas, and-both, and-left, or-under, replica-passes, and-right}
+use Rattle.rules.specs.Bytes.{byte}
+use Rattle.lists.specs.Lists.{concat}
+use Rattle.rules.proofs.ReplicaLaws.{all-replicas, replica-passes}
+use Rattle.lists.proofs.BoolLaws.{and-both, and-left, or-under, and-right}
 use Rattle.rules.proofs.FileLaws.{length-logOf, counts-logOf, counts-at, fileOf-logOf, header-bytes, WideLog, file-counts, header-starts, file-end, length-file, end-header, logOf-fileOf}
 
 -- what a right layout says
@@ -90,7 +92,8 @@ pub count-held : (log : Log) (s : ℕ) → countIn (countsOf log) s ≡ length (
 unfolding countIn countsOf opsOf
 count-held log s = List·getD-map length log (s - 1) []
 
-soundOps-at : (log : Log) (s q : ℕ) (rs : List Op) (i : ℕ) → soundOps log s q rs ≡ true → i < length rs → soundOp log s (q + i) (getD rs i []) ≡ true
+soundOps-at : (log : Log) (s q : ℕ) (rs : List Op) (i : ℕ) → soundOps log s q rs ≡ true → i < length rs
+    → soundOp log s (q + i) (getD rs i []) ≡ true
 unfolding soundOps
 soundOps-at log s q [] i e h = absurd (not-suc-le-zero h)
 soundOps-at log s q (r ∷ rs) zero e h = rw (add-zero q) (and-left (soundOp log s q r) _ e)

@@ -5,7 +5,7 @@ use mathlib.Core.List.{List, _++_}
 use lib.ListN.{length, drop}
 use lib.Dec.{leb, eqb}
 use Rattle.rules.specs.Answer.{Answer, hadIt, accepted, require, ifAccepted}
-use Rattle.rules.specs.Bytes.{same}
+use Rattle.lists.specs.Lists.{same}
 use Rattle.rules.specs.Op.{Op, countIn, replicaOf, vectorOf, seqOf, wellFormed}
 use Rattle.rules.specs.Log.{Log, emptyLog, opAt, countsOf, fileEnd, logOf, fileOf, appended, covered, closed, namesKnown}
 use Rattle.rules.specs.Sound.{sound}

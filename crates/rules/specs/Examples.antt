@@ -6,7 +6,8 @@ use mathlib.Core.List.{List, [], _∷_, _++_, map}
 use mathlib.Core.Path.{_≡_, refl}
 use native.Mathlib.Nat.{le-of-suc-le-suc, not-suc-le-zero}
 use Rattle.rules.specs.Answer.{Answer, refused, hadIt, done, accepted, require}
-use Rattle.rules.specs.Bytes.{wordAt, word, upFrom, downFrom, sum, greatest, same, concat, all, any, filter, isIn}
+use Rattle.rules.specs.Bytes.{wordAt, word}
+use Rattle.lists.specs.Lists.{upFrom, downFrom, sum, greatest, same, concat, all, any, filter, isIn}
 use Rattle.rules.specs.Deliver.{makeAnswer, held, heldAnswer, admitAnswer, deliverAnswer}
 use Rattle.rules.specs.Issue.{Request, add, remove, move, opBytes, moveKind, issued, requestKnown, requestClear, issueAnswer, issueOut}
 use Rattle.rules.specs.Judge.{judgeAnswer}

@@ -5,7 +5,7 @@ use mathlib.Core.List.{List, [], _∷_, _++_, map}
 use lib.ListN.{length, drop}
 use lib.Dec.{leb, ltb, eqb}
 use Rattle.rules.specs.Answer.{Answer, accepted, require, ifAccepted}
-use Rattle.rules.specs.Bytes.{concat, filter}
+use Rattle.lists.specs.Lists.{concat, filter}
 use Rattle.rules.specs.Log.{Log, fileEnd, logOf}
 use Rattle.rules.specs.Sound.{sound}
 use Rattle.rules.specs.Tree.{slots, parentIn, depth}

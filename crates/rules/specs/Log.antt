@@ -6,7 +6,8 @@ use mathlib.Core.Bool.{Bool, true, cond, _&&_, _||_, not}
 use mathlib.Core.List.{List, [], _∷_, _++_, map}
 use lib.ListN.{length, take, drop, getD, set, replicate}
 use lib.Dec.{leb, eqb}
-use Rattle.rules.specs.Bytes.{wordAt, word, sum, concat, all}
+use Rattle.rules.specs.Bytes.{wordAt, word}
+use Rattle.lists.specs.Lists.{sum, concat, all}
 use Rattle.rules.specs.Op.{Op, Vector, replicas, isReplica, countIn, replicaOf, nodeOf, parentOf, vectorOf, seqOf, nodeNumber, isAdd, isRemove, wellFormed}
 
 -- a list of ops for each of the replicas 1 to 8
@@ -119,7 +120,8 @@ known log v n = nodeWithin v n && isAdd (opAt log (n / 256) (n % 256))
 unfoldable pub knownParent : Log → Vector → ℕ → Bool
 knownParent log v n = eqb n 0 || known log v n
 
--- number 7: of an add the parent is known and the node has its number; of a remove the node is known; of a move node and parent are known, and
+-- number 7: of an add the parent is known and the node has its number; of a remove the node is known; of a move node and parent are known,
+-- and
 -- the parent is not the node
 unfoldable pub namesKnown : Log → Op → Bool
 namesKnown log r =

@@ -4,7 +4,7 @@ use mathlib.Core.Bool.{Bool, cond}
 use mathlib.Core.List.{List, [], _∷_}
 use lib.ListN.{length, getD}
 use lib.Dec.{eqb}
-use Rattle.rules.specs.Bytes.{isIn}
+use Rattle.lists.specs.Lists.{isIn}
 
 -- "seat s, sequence q has slot 255 x (s - 1) + q"; slot 0 is the root
 unfoldable pub slot : ℕ → ℕ → ℕ

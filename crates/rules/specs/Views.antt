@@ -3,7 +3,7 @@ use Prim.Native.Nat.{ℕ}
 use mathlib.Core.Bool.{Bool, _&&_, _||_, not}
 use mathlib.Core.List.{List}
 use lib.Dec.{eqb}
-use Rattle.rules.specs.Bytes.{all, any, isIn}
+use Rattle.lists.specs.Lists.{all, any, isIn}
 use Rattle.rules.specs.Log.{Log, countsOf}
 use Rattle.rules.specs.Tree.{path, atOrBelow}
 use Rattle.rules.specs.Replay.{addedIn, removedIn}

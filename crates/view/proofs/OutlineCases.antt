@@ -66,6 +66,8 @@ outline-size f = go (sound width f) refl
     ]
 
 -- lent so many bytes, the call puts the whole output in front
-pub outline-printed : (f out : List ℕ) → 24492 ≤ length out → (putText (outline width f) out .answer ≡ accepted (length (outline width f))) × (putText (outline width f) out .out ≡ outline width f ++ drop (length (outline width f)) out)
+pub outline-printed : (f out : List ℕ) → 24492 ≤ length out
+    → (putText (outline width f) out .answer ≡ accepted (length (outline width f))) × (putText (outline width f) out .out ≡ outline width f
+    ++ drop (length (outline width f)) out)
 unfolding putText
 outline-printed f out h = let s = outline-size f in rw (text-done (outline width f) out (omega arith)) (refl, refl)

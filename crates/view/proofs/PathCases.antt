@@ -35,6 +35,12 @@ module _ (f out : List ℕ) (n : ℕ) where
       unfolding pathAnswer require pathOf
       path-short h = rw (e, k, lt-leb (length (path (parentsOf (logOf width f)) n)) (length out) (omega (arith, known-way .long)))
 
-      pub path-done : depth (parentsOf (logOf width f)) n < length out → pathAnswer width f (length out) n ≡ accepted (depth (parentsOf (logOf width f)) n + 1)
+      pub path-done : depth (parentsOf (logOf width f)) n < length out
+          → pathAnswer width f (length out) n ≡ accepted (depth (parentsOf (logOf width f)) n + 1)
       unfolding pathAnswer require pathOf
-      path-done h = rw (e, k, le-leb (length (path (parentsOf (logOf width f)) n)) (length out) (omega (arith, known-way .long)), known-way .long)
+      path-done h = rw (
+        e,
+        k,
+        le-leb (length (path (parentsOf (logOf width f)) n)) (length out) (omega (arith, known-way .long)),
+        known-way .long,
+      )

@@ -7,14 +7,14 @@ use mathlib.Core.List.{List}
 use mathlib.Core.Logic.{inl, inr}
 use mathlib.Core.Path.{refl, sym, _∙_, _≡_}
 use Rattle.order.proofs.GrowLaws.{Named}
-use Rattle.rules.proofs.BoolLaws.{and-both, and-left, and-right}
+use Rattle.lists.proofs.BoolLaws.{and-both, and-left, and-right, and-swap}
 use Rattle.rules.proofs.StructureLaws.{GoodLog}
-use Rattle.rules.specs.Bytes.{all, isIn}
+use Rattle.lists.specs.Lists.{all, isIn}
 use Rattle.rules.specs.Log.{Log, countsOf, known}
 use Rattle.rules.specs.Replay.{parentsOf}
 use Rattle.rules.specs.Tree.{atOrBelow, path}
 use Rattle.rules.specs.Views.{View, keeping, nodes, shown, skipping, tombstone}
-use Rattle.view.proofs.SeqLaws.{and-swap, any-more}
+use Rattle.lists.proofs.MemberLaws.{any-more}
 use Rattle.view.proofs.TombstoneLaws.{root-unmarked}
 use Rattle.view.proofs.TreePathLaws.{Under, known-nonzero, nodes-known, path-child, path-closed, path-root}
 
@@ -34,7 +34,8 @@ module _ (log : Log) (good : GoodLog log) where
 
   pub skipping-child : (n c : ℕ) → Node n → Under log good n c → shown skipping log P c ≡ (shown skipping log P n && not (tombstone log c))
   unfolding all
-  skipping-child n c w u = skipping-path c (u .node) ∙ rw (path-child log good n c u, skipping-path n w) (and-swap (not (tombstone log c)) (all (λ m. not (tombstone log m)) (path P n)))
+  skipping-child n c w u = skipping-path c (u .node) ∙ rw (path-child log good n c u, skipping-path n w)
+      (and-swap (not (tombstone log c)) (all (λ m. not (tombstone log m)) (path P n)))
 
   ---- the keeping view
 
@@ -43,7 +44,8 @@ module _ (log : Log) (good : GoodLog log) where
   keeping-child n c u e =
       rw (any-more (λ m. isIn c (path P m) && not (tombstone log m)) (λ m. isIn n (path P m) && not (tombstone log m)) (nodes log) (λ m i h.
       let k : known log (countsOf log) m ≡ true = sym (nodes-known log good m) ∙ i in
-      and-both (rw (u .parent) at (path-closed log good m c (inr k) (and-left (isIn c (path P m)) _ h) (u .below-root))) (and-right (isIn c (path P m)) _ h))
+      and-both (rw (u .parent) at (path-closed log good m c (inr k) (and-left (isIn c (path P m)) _ h) (u .below-root)))
+      (and-right (isIn c (path P m)) _ h))
       (rw (ne-eqb c 0 (u .below-root)) at e)) (or-true (eqb n 0))
 
   pub root-shown : (view : View) → shown view log P 0 ≡ true

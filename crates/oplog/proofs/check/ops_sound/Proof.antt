@@ -4,7 +4,7 @@ use mathlib.Core.Logic.{⊎-elim}
 use native.Mathlib.Omega.{arith}
 use borrow.Author.Tests.{not-true, not-false}
 use denote.Ref.{now}
-use Rattle.rules.specs.Bytes.{all}
+use Rattle.lists.specs.Lists.{all}
 use Rattle.rules.specs.Log.{logOf, soundLog}
 use Rattle.rules.proofs.StructureLaws.{laid-reads}
 use Rattle.oplog.proofs.check.ops_sound.Statement.{statement}

@@ -9,7 +9,7 @@ use Rattle.oplog.specs.Spots.{Spot}
 use Rattle.rules.specs.Op.{countIn, seqOf, replicaOf}
 use Rattle.rules.specs.Deliver.{heldAnswer, held}
 use Rattle.rules.specs.Answer.{require}
-use Rattle.rules.specs.Bytes.{same}
+use Rattle.lists.specs.Lists.{same}
 use Rattle.rules.proofs.AppendLaws.{seq-positive, replica-formed}
 use Rattle.rules.proofs.StructureLaws.{structural-laid}
 use Rattle.oplog.proofs.FieldLaws.{counts-in, op-is}
