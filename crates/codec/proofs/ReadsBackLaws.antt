@@ -6,7 +6,7 @@ use lib.ListN.{length, take}
 use borrow.Author.Tests.{eq-eqb}
 use Rattle.rules.specs.Issue.{Request, add, remove, move, issueOut, opBytes, issued}
 use Rattle.rules.specs.Op.{Op, countIn, seqOf, kindOf, replicaOf, ownCount, vectorOf, nodeOf, parentOf, wellFormed}
-use Rattle.rules.specs.Log.{Log, logOf, countsOf, width}
+use Rattle.rules.specs.File.{Log, logOf, countsOf, width}
 use Rattle.rules.proofs.IssueLaws.{counts-eight, issue-admitted, bytes-node, bytes-vector, bytes-parent}
 use Rattle.rules.proofs.SoundLaws.{sound-good}
 use Rattle.rules.proofs.StructureLaws.{GoodLog}

@@ -12,7 +12,7 @@ use Rattle.codec.specs.Spread.{allMarked, spreadOf, Counts}
 use Rattle.lists.proofs.BoolLaws.{both-ways}
 use Rattle.rules.proofs.FileLaws.{count-map}
 use Rattle.lists.specs.Lists.{upFrom, all}
-use Rattle.rules.specs.Log.{within}
+use Rattle.rules.specs.File.{within}
 use Rattle.rules.specs.Op.{Vector, countIn, replicas}
 use Rattle.lists.proofs.ListLaws.{copy-step}
 

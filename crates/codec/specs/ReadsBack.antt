@@ -6,11 +6,12 @@ use mathlib.Core.List.{List}
 use lib.ListN.{length, take}
 use Rattle.rules.specs.Answer.{accepted}
 use Rattle.rules.specs.Op.{countIn, kindOf, replicaOf, nodeOf, parentOf, vectorOf, seqOf, nodeNumber}
-use Rattle.rules.specs.Log.{Log, countsOf, Extends, width, fileEnd, logOf}
+use Rattle.rules.specs.File.{Log, countsOf, Extends, width, fileEnd, logOf}
 use Rattle.rules.specs.Sound.{sound}
 use Rattle.rules.specs.Deliver.{held, deliverAnswer}
 use Rattle.rules.specs.Replay.{parentsOf}
-use Rattle.rules.specs.Issue.{Request, add, remove, move, moveKind, issueAnswer, issueOut}
+use Rattle.rules.specs.Issue.{Request, add, remove, move, issueAnswer, issueOut}
+use Rattle.rules.specs.Tree.{moveKind}
 use Rattle.codec.specs.declared.op.Fields.{Fields}
 use Rattle.codec.specs.declared.op.Read.the-variants.{Op}
 use Rattle.codec.specs.Read.{readOf}

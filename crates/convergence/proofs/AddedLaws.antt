@@ -11,7 +11,7 @@ use native.Mathlib.Omega.{arith}
 use Rattle.convergence.proofs.HasLaws.{has-append, has-last, has-head, has-tail, has-old}
 use Rattle.convergence.proofs.TrackLaws.{OpIn, Tracks, op-in, in-more}
 use Rattle.convergence.specs.Exchange.{has}
-use Rattle.rules.specs.Log.{Extends, Log, opsOf, opAt, countsOf, append}
+use Rattle.rules.specs.File.{Extends, Log, opsOf, opAt, countsOf, append}
 use Rattle.rules.proofs.AppendLaws.{seq-positive}
 use Rattle.lists.proofs.BoolLaws.{never, or-cases}
 use Rattle.lists.proofs.ListLaws.{same-eq}

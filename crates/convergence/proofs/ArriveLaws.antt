@@ -18,7 +18,7 @@ use Rattle.rules.specs.Answer.{accepted, require}
 use Rattle.lists.specs.Lists.{any, concat, same}
 use Rattle.rules.specs.Deliver.{held, deliverAnswer, deliverBuffer}
 use Rattle.rules.specs.Issue.{Request, issued, issueAnswer, issueBuffer}
-use Rattle.rules.specs.Log.{Log, logOf, width, countsOf, fileEnd, append, appended, Extends}
+use Rattle.rules.specs.File.{Log, logOf, width, countsOf, fileEnd, append, appended, Extends}
 use Rattle.rules.specs.Op.{Op, countIn, replicaOf, seqOf}
 use Rattle.rules.proofs.PutOutLaws.{NextOp}
 use Rattle.rules.specs.Sound.{sound}

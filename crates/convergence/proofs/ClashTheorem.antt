@@ -26,11 +26,11 @@ use Rattle.rules.proofs.PutOutLaws.{NextOp, put-out-next}
 use Rattle.rules.proofs.SoundLaws.{sound-good}
 use Rattle.rules.proofs.StructureLaws.{GoodLog}
 use Rattle.rules.proofs.TreeLaws.{slot-below, slot-injective}
-use Rattle.rules.specs.Issue.{moveKind, issueOut, issueAnswer}
-use Rattle.rules.specs.Log.{Log, countsOf, opAt, logOf, width, fileEnd}
+use Rattle.rules.specs.Tree.{moveKind, slot, slots, slotOf}
+use Rattle.rules.specs.Issue.{issueOut, issueAnswer}
+use Rattle.rules.specs.File.{Log, countsOf, opAt, logOf, width, fileEnd}
 use Rattle.rules.specs.Op.{Op, countIn, nodeOf}
 use Rattle.rules.specs.Replay.{parentsOf, State, Stamped, replay, step, outcomesOf, outcomeOf}
-use Rattle.rules.specs.Tree.{slot, slots, slotOf}
 use Rattle.rules.specs.Answer.{accepted}
 use Rattle.lists.specs.Lists.{concat}
 use Rattle.rules.specs.Sound.{sound}

@@ -9,7 +9,7 @@ use lib.ListN.{length, take, drop, take-append-drop}
 use lib.Seq.{drop-at, take-at}
 use lib.Dec.{lit≤}
 use Rattle.rules.specs.Op.{Op, countIn, replicaOf, seqOf}
-use Rattle.rules.specs.Log.{Log, countsOf, append, fileEnd, logOf, fileOf, emptyLog, appended, width}
+use Rattle.rules.specs.File.{Log, countsOf, append, fileEnd, logOf, fileOf, emptyLog, appended, width}
 use Rattle.rules.specs.Deliver.{makeAnswer, makeBuffer, held, deliverAnswer, deliverBuffer}
 use Rattle.rules.specs.Issue.{issued, issueAnswer, issueBuffer, issueOut}
 use Rattle.convergence.specs.Exchange.{Call, make, issue, deliver, Site, answer, bufferAfter, heldThen, perform, run, standing, has, times, arrange, filed, fileIn}

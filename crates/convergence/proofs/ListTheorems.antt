@@ -10,7 +10,7 @@ use lib.Seq.{drop-at}
 use Rattle.lists.specs.Lists.{sum}
 use Rattle.rules.specs.Answer.{Answer, refused, hadIt, done, accepted, ifAccepted}
 use Rattle.rules.specs.Op.{Op}
-use Rattle.rules.specs.Log.{fileOf, fileEnd, logOf, emptyLog, appended, width, countsOf, endOf}
+use Rattle.rules.specs.File.{fileOf, fileEnd, logOf, emptyLog, appended, width, countsOf, endOf}
 use Rattle.rules.specs.Sound.{sound}
 use Rattle.rules.specs.Deliver.{makeAnswer, makeBuffer, deliverAnswer, deliverBuffer, admitAnswer}
 use Rattle.rules.specs.Issue.{issueAnswer, issueBuffer, issueOut}

@@ -14,11 +14,12 @@ use Rattle.order.proofs.GrowLaws.{Named, Tree, named-valid, parent-reads, known
 use Rattle.rules.proofs.IssueLaws.{counts-eight, bytes-parent, bytes-vector, bytes-node, Allowed}
 use Rattle.rules.proofs.StructureLaws.{GoodLog, counts-covered, counts-closed}
 use Rattle.rules.proofs.TreeLaws.{Valid, Reaches, short, still-reaches, free-avoids}
-use Rattle.rules.specs.Issue.{issued, opBytes, moveKind, requestKnown, requestClear}
-use Rattle.rules.specs.Log.{Log, countsOf, known, logOf}
+use Rattle.rules.specs.Issue.{issued, opBytes, requestKnown, requestClear}
+use Rattle.rules.specs.Tree.{moveKind, depth, slot, slots, atOrBelow, slotOf}
+use Rattle.rules.specs.File.{Log, countsOf, logOf}
+use Rattle.rules.specs.Log.{known}
 use Rattle.rules.specs.Op.{Op, countIn, isMove, nodeOf, parentOf, seqOf, kindOf, ownCount, replicaOf, vectorOf, isReplica}
 use Rattle.rules.specs.Replay.{outcomeSlot, parentsOf, replay}
-use Rattle.rules.specs.Tree.{depth, slot, slots, atOrBelow, slotOf}
 
 ---- one move
 

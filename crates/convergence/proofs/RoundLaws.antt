@@ -13,7 +13,8 @@ use lib.ListN.{length, drop}
 use lib.Seq.{drop-drop}
 use Rattle.lists.specs.Lists.{same, concat, all, any, filter}
 use Rattle.rules.specs.Op.{Op, countIn, replicaOf, vectorOf, seqOf}
-use Rattle.rules.specs.Log.{Log, opAt, countsOf, fileEnd, covered, appended, width, Extends}
+use Rattle.rules.specs.File.{Log, opAt, countsOf, fileEnd, appended, width, Extends}
+use Rattle.rules.specs.Log.{covered}
 use Rattle.rules.specs.Deliver.{held, deliverAnswer}
 use Rattle.convergence.specs.Exchange.{Site, answer, has, Side, left, right, other, isSide, Pair, missing, Offer, Round, answerTo, offered, after, Answered, answers, acceptances, acceptedBy, offers, ValidRound, EachRound, onlyIn}
 use Rattle.convergence.specs.Converges.{expected}

@@ -9,7 +9,7 @@ use Rattle.rules.specs.Op.{Op}
 use Rattle.rules.specs.Deliver.{deliverBuffer}
 use Rattle.convergence.specs.Exchange.{Site, answer, bufferAfter, heldThen, perform, Side, left, right, other, isSide, Pair, missing, Offer, answerTo, offered, after, Answered, answers, acceptances, acceptedBy, onlyIn}
 use Rattle.rules.specs.Answer.{Answer, refused, hadIt, accepted, ifAccepted, done}
-use Rattle.rules.specs.Log.{appended, width}
+use Rattle.rules.specs.File.{appended, width}
 use Rattle.lists.proofs.BoolLaws.{never}
 use Rattle.lists.proofs.FilterLaws.{filter-append}
 

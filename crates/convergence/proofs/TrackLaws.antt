@@ -13,7 +13,7 @@ use lib.Seq.{getD-append-seam}
 use lib.Dec.{eqb}
 use Rattle.lists.specs.Lists.{same, upFrom, concat, any, filter}
 use Rattle.rules.specs.Op.{Op, replicas, countIn, replicaOf, ownCount, seqOf}
-use Rattle.rules.specs.Log.{Log, opsOf, opAt, countsOf, append, Extends}
+use Rattle.rules.specs.File.{Log, opsOf, opAt, countsOf, append, Extends}
 use Rattle.convergence.specs.Exchange.{has, opNumbered, inOrder, arrange}
 use Rattle.lists.proofs.BoolLaws.{never, both-ways, and-left, and-right, and-both, fails, or-cases}
 use Rattle.rules.proofs.ReplicaLaws.{map-replicas}

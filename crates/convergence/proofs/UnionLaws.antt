@@ -10,7 +10,8 @@ use lib.Seq.{ext-getD}
 use lib.Dec.{leb}
 use Rattle.lists.specs.Lists.{upFrom}
 use Rattle.rules.specs.Op.{Op, replicas, countIn}
-use Rattle.rules.specs.Log.{Log, opsOf, opAt, countsOf, soundOps, Extends}
+use Rattle.rules.specs.File.{Log, opsOf, opAt, countsOf, Extends}
+use Rattle.rules.specs.Log.{soundOps}
 use Rattle.rules.proofs.FileLaws.{Wide, WideLog, wide-at, log-eta}
 use Rattle.rules.proofs.AppendLaws.{soundOps-more}
 use Rattle.rules.proofs.OfferLaws.{Agree}

@@ -9,12 +9,12 @@ use mathlib.Core.Path.{_≡_}
 use Rattle.convergence.specs.Exchange.{Call, issue, deliver, answer, bufferAfter, has}
 use Rattle.rules.specs.Answer.{accepted}
 use Rattle.lists.specs.Lists.{concat}
-use Rattle.rules.specs.Issue.{Request, move, moveKind, issueAnswer, issueOut}
-use Rattle.rules.specs.Log.{Log, logOf, width, countsOf, fileEnd}
+use Rattle.rules.specs.Issue.{Request, move, issueAnswer, issueOut}
+use Rattle.rules.specs.Tree.{moveKind, atOrBelow, slot, slotOf}
+use Rattle.rules.specs.File.{Log, logOf, width, countsOf, fileEnd}
 use Rattle.rules.specs.Op.{Op, countIn}
 use Rattle.rules.specs.Replay.{outcomesOf, parentsOf}
 use Rattle.rules.specs.Sound.{sound}
-use Rattle.rules.specs.Tree.{atOrBelow, slot, slotOf}
 
 -- a replica hangs a node under another parent
 pub record Move : Type 0 where

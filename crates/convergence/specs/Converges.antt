@@ -8,7 +8,7 @@ use lib.Dec.{eqb}
 use Rattle.rules.specs.Answer.{Answer, refused, hadIt, done, accepted}
 use Rattle.lists.specs.Lists.{concat, all}
 use Rattle.rules.specs.Op.{Op}
-use Rattle.rules.specs.Log.{Log, width}
+use Rattle.rules.specs.File.{Log, width}
 use Rattle.rules.specs.Tree.{slots}
 use Rattle.rules.specs.Replay.{parentsOf, outcomesOf}
 use Rattle.rules.specs.Judge.{Judgement, judge}

@@ -10,7 +10,7 @@ use lib.Dec.{eqb}
 use Rattle.rules.specs.Answer.{Answer, ifAccepted}
 use Rattle.lists.specs.Lists.{upFrom, same, concat, any, filter}
 use Rattle.rules.specs.Op.{Op, replicas, replicaOf, seqOf}
-use Rattle.rules.specs.Log.{Log, width, fileEnd, fileOf}
+use Rattle.rules.specs.File.{Log, width, fileEnd, fileOf}
 use Rattle.rules.specs.Deliver.{makeAnswer, makeBuffer, deliverAnswer, deliverBuffer}
 use Rattle.rules.specs.Issue.{Request, issueAnswer, issueBuffer, issueOut}
 

@@ -7,7 +7,7 @@ use lib.ListN.{length, drop}
 use Rattle.rules.specs.Answer.{Answer, accepted, ifAccepted}
 use Rattle.lists.specs.Lists.{concat}
 use Rattle.rules.specs.Op.{Op}
-use Rattle.rules.specs.Log.{width, fileEnd}
+use Rattle.rules.specs.File.{width, fileEnd}
 use Rattle.rules.specs.Judge.{judge}
 use Rattle.rules.specs.Path.{pathCall}
 use Rattle.rules.specs.Views.{View}

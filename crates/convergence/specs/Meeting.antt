@@ -13,12 +13,13 @@ use Rattle.rules.specs.Bytes.{wordAt, word}
 use Rattle.lists.specs.Lists.{all, upFrom, downFrom, sum, concat, greatest, same, any, filter, isIn}
 use Rattle.rules.specs.Deliver.{makeAnswer, deliverBuffer, makeBuffer, deliverAnswer, heldAnswer, admitAnswer, held}
 use Rattle.rules.specs.Examples.{p1, adds, p1File, vector}
-use Rattle.rules.specs.Issue.{opBytes, add, move, requestKnown, issued, moveKind, issueAnswer, requestClear, issueBuffer, issueOut}
-use Rattle.rules.specs.Log.{emptyLog, opsOf, opAt, countsOf, append, countAt, startAt, headerCounts, startOf, endOf, fileEnd, chunks, chunksOf, logOf, headerEntry, headerOf, fileOf, within, covered, closedAt, closed, nodeWithin, known, knownParent, namesKnown, soundOp, soundOps, soundLog, soundHeader, laid, structural, appended, width}
+use Rattle.rules.specs.Issue.{opBytes, add, move, requestKnown, issued, issueAnswer, requestClear, issueBuffer, issueOut}
+use Rattle.rules.specs.Tree.{moveKind, climb, path, atOrBelow, slot, slotOf, depth, parentIn}
+use Rattle.rules.specs.File.{emptyLog, opsOf, opAt, countsOf, append, countAt, startAt, headerCounts, startOf, endOf, fileEnd, chunks, chunksOf, logOf, headerEntry, headerOf, fileOf, within, appended, width}
+use Rattle.rules.specs.Log.{covered, closedAt, closed, nodeWithin, known, knownParent, namesKnown, soundOp, soundOps, soundLog, soundHeader, laid, structural}
 use Rattle.rules.specs.Op.{Op, replicas, isReplica, countIn, kindOf, replicaOf, nodeOf, parentOf, vectorOf, ownCount, seqOf, nodeNumber, isAdd, isRemove, isMove, wellFormed}
 use Rattle.rules.specs.Replay.{ofTime, timestampIn, stamped, parentsOf, ofReplica, byTime, ofKind, start, outcomeSlot, outcomeOf, opsWithin, stamp, ordered, outcomesOf, replay, timestamp, step}
 use Rattle.rules.specs.Sound.{sound}
-use Rattle.rules.specs.Tree.{climb, path, atOrBelow, slot, slotOf, depth, parentIn}
 
 -- P1's ops: replica 1 issues the first three, and replica 2, which has the first two, issues the last
 abbrev a₁ : Op

@@ -10,7 +10,8 @@ use native.Mathlib.Nat.{add-zero, mul-le-mul-left, mul-add, mul-one}
 use Rattle.rules.specs.Op.{Vector, countIn, kindOf, nodeOf, parentOf, replicaOf, vectorOf}
 use Rattle.rules.specs.Bytes.{byte, wordAt}
 use Rattle.lists.specs.Lists.{sum}
-use Rattle.rules.specs.Log.{countsOf, laid, opAt, startAt, startOf, fileEnd, logOf, opsOf, within, countAt, endOf, headerCounts}
+use Rattle.rules.specs.File.{countsOf, opAt, startAt, startOf, fileEnd, logOf, opsOf, within, countAt, endOf, headerCounts}
+use Rattle.rules.specs.Log.{laid}
 use Rattle.rules.proofs.StructureLaws.{Laid, laid-reads}
 use Rattle.rules.proofs.FileLaws.{counts-at, counts-logOf, ops-chunksOf, length-counts, chunk-at}
 use Rattle.rules.proofs.CausalLaws.{within-le}

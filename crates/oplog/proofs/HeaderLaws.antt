@@ -9,7 +9,8 @@ use lib.Dec.{leb, eqb}
 use borrow.Author.Tests.{leb-true, eqb-true, le-leb, lt-leb, eq-eqb, ne-eqb}
 use native.Mathlib.Nat.{mul-add, mul-zero, mul-le-mul-left}
 use lib.Seq.{take-all}
-use Rattle.rules.specs.Log.{fileEnd, startAt, soundHeader, startOf, countAt, headerEntry, logOf, headerCounts, headerOf, endOf, soundLog, laid, structural}
+use Rattle.rules.specs.File.{fileEnd, startAt, startOf, countAt, headerEntry, logOf, headerCounts, headerOf, endOf}
+use Rattle.rules.specs.Log.{soundHeader, soundLog, laid, structural}
 use Rattle.rules.specs.Op.{countIn, Vector, replicas}
 use Rattle.rules.specs.Bytes.{wordAt, word}
 use Rattle.lists.specs.Lists.{upFrom, concat, sum}

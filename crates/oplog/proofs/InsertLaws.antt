@@ -8,7 +8,8 @@ use Prim.Native.Nat.{ℕ, zero, suc, _+_, _*_, _-_, _/_, _%_, _≤_, _<_}
 use native.Mathlib.Omega.{arith}
 use native.Mathlib.Numerals.{add-one}
 use native.Mathlib.Nat.{mul-add}
-use Rattle.rules.specs.Log.{endOf, headerEntry, headerCounts, fileEnd, startOf, opsOf, Log, headerOf, countsOf, logOf, append, laid, appended}
+use Rattle.rules.specs.File.{endOf, headerEntry, headerCounts, fileEnd, startOf, opsOf, Log, headerOf, countsOf, logOf, append, appended}
+use Rattle.rules.specs.Log.{laid}
 use Rattle.rules.specs.Op.{countIn, Op, Vector, replicaOf}
 use Rattle.lists.specs.Lists.{upFrom, sum, concat}
 use Rattle.rules.specs.Bytes.{word}

@@ -12,7 +12,8 @@ use native.Mathlib.Decide.{decLe, ℕ-discrete}
 use borrow.Author.Tests.{leb-true, le-leb, lt-leb, lt-ltb, le-ltb}
 use Rattle.lists.specs.Lists.{upFrom, concat, all}
 use Rattle.rules.specs.Op.{Op, replicas}
-use Rattle.rules.specs.Log.{Log, laid, countAt, opsOf, soundLog, soundOps, logOf, soundOp, opAt}
+use Rattle.rules.specs.File.{Log, countAt, opsOf, logOf, opAt}
+use Rattle.rules.specs.Log.{laid, soundLog, soundOps, soundOp}
 use Rattle.lists.proofs.RangeLaws.{map-getD, map-upFrom}
 use Rattle.rules.proofs.FileLaws.{log-eta}
 use Rattle.rules.proofs.ReplicaLaws.{all-alike, map-replicas}

@@ -6,7 +6,8 @@ use Prim.Native.Nat.{ℕ, _+_, _*_, _/_, _%_, _≤_, _<_}
 use native.Mathlib.Omega.{arith}
 use lib.Dec.{eqb}
 use borrow.Author.Tests.{le-leb, lt-leb, lt-ltb, eq-eqb, ne-eqb}
-use Rattle.rules.specs.Log.{Log, closed, opAt, closedAt, known, knownParent, soundOp, nodeWithin, within, namesKnown, covered}
+use Rattle.rules.specs.File.{Log, opAt, within}
+use Rattle.rules.specs.Log.{closed, closedAt, known, knownParent, soundOp, nodeWithin, namesKnown, covered}
 use Rattle.rules.specs.Op.{Op, Vector, replicaOf, countIn, seqOf, isReplica, ownCount, isAdd, vectorOf, wellFormed, isRemove, kindOf, nodeNumber, parentOf, nodeOf}
 use Rattle.codec.specs.Read.{kindFits}
 use Rattle.rules.proofs.ReplicaLaws.{passFrom, pass-all}

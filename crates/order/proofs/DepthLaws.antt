@@ -11,7 +11,7 @@ use borrow.Author.Tests.{eq-eqb, ne-eqb}
 use lib.ListN.{length}
 use Rattle.lists.specs.Lists.{isIn}
 use Rattle.rules.specs.Op.{Vector}
-use Rattle.rules.specs.Log.{Log}
+use Rattle.rules.specs.File.{Log}
 use Rattle.rules.specs.Tree.{slots, parentIn, climb, path, depth}
 use Rattle.rules.specs.Replay.{replay, addedIn}
 use Rattle.rules.proofs.TreeLaws.{up, up-add, Reaches}

@@ -10,7 +10,8 @@ use Rattle.rules.proofs.ReplicaLaws.{map-replicas}
 use Rattle.rules.proofs.StructureLaws.{held-in, good-ops, count-held, GoodLog}
 use Rattle.rules.proofs.TimeLaws.{map-within}
 use Rattle.lists.specs.Lists.{concat, greatest}
-use Rattle.rules.specs.Log.{Log, opAt, covered, opsOf, Extends}
+use Rattle.rules.specs.File.{Log, opAt, opsOf, Extends}
+use Rattle.rules.specs.Log.{covered}
 use Rattle.rules.specs.Op.{Vector, Op, vectorOf, countIn}
 use Rattle.rules.specs.Replay.{opsWithin, timestampIn, timestamp, ordered, stamped, stamp, byTime}
 use Rattle.rules.specs.Tree.{slots}

@@ -9,7 +9,8 @@ use native.Mathlib.Omega.{arith}
 use borrow.Author.Tests.{eq-eqb, eqb-true}
 use lib.Dec.{eqb}
 use mathlib.Core.Logic.{inr}
-use Rattle.rules.specs.Log.{Log, countsOf, known}
+use Rattle.rules.specs.File.{Log, countsOf}
+use Rattle.rules.specs.Log.{known}
 use Rattle.rules.specs.Tree.{climb, parentIn, path, slots}
 use Rattle.lists.specs.Lists.{isIn, concat}
 use Rattle.rules.specs.Listing.{children, preorder}

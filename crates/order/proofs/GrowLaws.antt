@@ -14,7 +14,8 @@ use lib.Dec.{leb, ltb, eqb}
 use lib.Seq.{getD-set-other}
 use Rattle.lists.specs.Lists.{upFrom, downFrom, concat}
 use Rattle.rules.specs.Op.{Op, Vector, replicas, isReplica, countIn, kindOf, replicaOf, nodeOf, parentOf, vectorOf, seqOf, nodeNumber, isAdd, isRemove, isMove, wellFormed}
-use Rattle.rules.specs.Log.{Log, opAt, countsOf, nodeWithin, known, knownParent, namesKnown}
+use Rattle.rules.specs.File.{Log, opAt, countsOf}
+use Rattle.rules.specs.Log.{nodeWithin, known, knownParent, namesKnown}
 use Rattle.rules.specs.Tree.{slotOf, slots, atOrBelow, noParent}
 use Rattle.rules.specs.Replay.{Stamped, State, timestamp, start, outcomeOf, step, replay, ordered}
 use Rattle.lists.proofs.BoolLaws.{and-left, and-right, and-both}

@@ -9,7 +9,7 @@ use native.Mathlib.Decide.{ℕ-discrete}
 use borrow.Author.Tests.{eq-eqb, ne-eqb}
 use native.Mathlib.Nat.{le-refl}
 use Rattle.rules.specs.Replay.{timestamp, opsWithin}
-use Rattle.rules.specs.Log.{Log, countsOf}
+use Rattle.rules.specs.File.{Log, countsOf}
 use Rattle.lists.specs.Lists.{upFrom, greatest}
 use Rattle.rules.specs.Op.{countIn, Vector, replicas}
 use Rattle.rules.proofs.StructureLaws.{held-in, GoodLog}

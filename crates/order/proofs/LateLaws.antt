@@ -20,7 +20,7 @@ use Rattle.lists.proofs.ListLaws.{concat-append}
 use Rattle.rules.proofs.StructureLaws.{GoodLog, good-ops, counts-covered, counts-closed}
 use Rattle.rules.proofs.TimeLaws.{map-within}
 use Rattle.lists.specs.Lists.{greatest, concat, upFrom, filter}
-use Rattle.rules.specs.Log.{Log, countsOf, opAt, opsOf, Extends}
+use Rattle.rules.specs.File.{Log, countsOf, opAt, opsOf, Extends}
 use Rattle.rules.specs.Op.{Vector, countIn, vectorOf, Op, kindOf}
 use Rattle.rules.specs.Replay.{timestamp, ofTime, ordered, opsWithin, ofKind, ofReplica, stamped, Stamped, stamp}
 

@@ -12,7 +12,8 @@ use lib.ListN.{take, getD}
 use lib.Dec.{leb, ltb, eqb, lit≤}
 use Rattle.lists.specs.Lists.{upFrom, sum, greatest, concat, filter}
 use Rattle.rules.specs.Op.{Op, Vector, replicas, countIn, kindOf, replicaOf, vectorOf}
-use Rattle.rules.specs.Log.{Log, opsOf, opAt, countsOf, within, covered, closed}
+use Rattle.rules.specs.File.{Log, opsOf, opAt, countsOf, within}
+use Rattle.rules.specs.Log.{covered, closed}
 use Rattle.rules.specs.Tree.{slots}
 use Rattle.rules.specs.Replay.{Stamped, opsWithin, timestampIn, timestamp, stamp, stamped, ofReplica, ofKind, ofTime, byTime, ordered}
 use Rattle.rules.proofs.ReplicaLaws.{all-replicas, replica-fails, replica-cases}

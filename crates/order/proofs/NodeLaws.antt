@@ -12,7 +12,8 @@ use lib.Dec.{eqb}
 use native.Mathlib.Omega.{arith}
 use Rattle.lists.specs.Lists.{upFrom, concat, filter, any, isIn}
 use Rattle.rules.specs.Op.{Op, Vector, replicas, countIn, nodeOf, nodeNumber, isAdd}
-use Rattle.rules.specs.Log.{Log, opsOf, opAt, countsOf, known}
+use Rattle.rules.specs.File.{Log, opsOf, opAt, countsOf}
+use Rattle.rules.specs.Log.{known}
 use Rattle.rules.specs.Replay.{opsWithin, addedIn}
 use Rattle.lists.proofs.FilterLaws.{filter-append}
 use Rattle.rules.proofs.StructureLaws.{count-held, held-in, GoodLog, good-ops}

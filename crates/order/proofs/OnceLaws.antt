@@ -10,7 +10,7 @@ use borrow.Author.Tests.{le-leb}
 use Rattle.lists.specs.Lists.{filter, all, upFrom, downFrom, concat, greatest}
 use Rattle.rules.specs.Replay.{Stamped, opsWithin, stamp, stamped, ofReplica, ofKind, ofTime, byTime, ordered, timestamp}
 use Rattle.rules.specs.Op.{kindOf, countIn, replicaOf, Op, Vector}
-use Rattle.rules.specs.Log.{Log, opAt}
+use Rattle.rules.specs.File.{Log, opAt}
 use Rattle.rules.proofs.StructureLaws.{HeldOp, held-in, good-ops, GoodLog}
 use Rattle.lists.proofs.BoolLaws.{and-both}
 use Rattle.order.proofs.LevelLaws.{Cut, counted-bound, positive, stamped-times, counted-value}

@@ -12,7 +12,7 @@ use native.Mathlib.Omega.{arith}
 use Rattle.order.proofs.LevelLaws.{stamped-times}
 use Rattle.lists.proofs.GreatestLaws.{greatest-parts, greatest-down, greatest-filter}
 use Rattle.lists.specs.Lists.{greatest}
-use Rattle.rules.specs.Log.{Log}
+use Rattle.rules.specs.File.{Log}
 use Rattle.rules.specs.Op.{Vector, nodeOf, isMove}
 use Rattle.rules.specs.Replay.{Stamped, byTime, step, start, replay, State, ofTime, ordered, ofKind, stamped, ofReplica, timestamp, outcomeOf, opsWithin}
 use Rattle.rules.specs.Tree.{slotOf, slots}

@@ -20,7 +20,7 @@ use Rattle.lists.proofs.BoolLaws.{and-left, never, and-false, and-true}
 use Rattle.rules.proofs.StructureLaws.{GoodLog, good-ops, held-in, structural-good}
 use Rattle.rules.proofs.TreeLaws.{Valid, slot-injective, slot-below}
 use Rattle.lists.specs.Lists.{downFrom, upFrom, filter, concat, any}
-use Rattle.rules.specs.Log.{Log, opAt, opsOf, logOf}
+use Rattle.rules.specs.File.{Log, opAt, opsOf, logOf}
 use Rattle.rules.specs.Op.{Vector, replicas, Op, countIn, isMove, nodeOf, vectorOf}
 use Rattle.rules.specs.Replay.{Stamped, stamped, ofTime, ofReplica, opsWithin, ofKind, stamp, State, step, outcomeOf, ordered, byTime, start}
 use Rattle.rules.specs.Tree.{slotOf}

@@ -11,7 +11,7 @@ use lib.ListN.{length, take, getD, length-take}
 use lib.Seq.{getD-take}
 use Rattle.lists.specs.Lists.{upFrom, concat, filter, any, isIn}
 use Rattle.rules.specs.Op.{Op, Vector, replicas, countIn, nodeOf, nodeNumber, isAdd}
-use Rattle.rules.specs.Log.{Log, opsOf, opAt}
+use Rattle.rules.specs.File.{Log, opsOf, opAt}
 use Rattle.rules.specs.Tree.{slotOf}
 use Rattle.rules.specs.Replay.{opsWithin, addedIn}
 use Rattle.lists.proofs.FilterLaws.{filter-append}

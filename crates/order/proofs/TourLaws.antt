@@ -11,11 +11,13 @@ use native.Mathlib.Omega.{arith}
 use borrow.Author.Tests.{eq-eqb}
 use lib.ListN.{length}
 use Rattle.lists.specs.Lists.{concat, filter, any, isIn}
-use Rattle.rules.specs.Log.{Log, countsOf, logOf, known, knownParent}
+use Rattle.rules.specs.File.{Log, countsOf, logOf}
+use Rattle.rules.specs.Log.{known, knownParent}
 use Rattle.rules.specs.Sound.{sound}
 use Rattle.rules.specs.Tree.{parentIn, slots, depth}
 use Rattle.rules.specs.Replay.{parentsOf, addedIn}
-use Rattle.rules.specs.Views.{nodes, tombstone, View, shown}
+use Rattle.rules.specs.Views.{nodes, View, shown}
+use Rattle.rules.specs.Marks.{tombstone}
 use Rattle.rules.specs.Listing.{children, preorder, line, listingIn, listingOf}
 use Rattle.lists.proofs.BoolLaws.{never, both-ways}
 use Rattle.rules.proofs.StructureLaws.{GoodLog, counts-covered, counts-closed}
@@ -152,7 +154,7 @@ module _ (log : Log) (good : GoodLog log) where
   unfolding line parentsOf
   line-size y w =
       let (a, b, c) = depth-added log good (countsOf log) whole y w in
-      line-short (depth parents y) y (tombstone log y) (omega (arith, c)) (number (named-valid log (countsOf log) y w))
+      line-short (depth parents y) y (tombstone log (countsOf log) y) (omega (arith, c)) (number (named-valid log (countsOf log) y w))
     where
       number : Valid y → y < 10000
       number (inl z) = omega arith

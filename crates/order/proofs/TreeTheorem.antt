@@ -6,7 +6,7 @@ use mathlib.Core.Bool.{true}
 use mathlib.Core.Logic.{inl, inr}
 use native.Mathlib.Omega.{arith}
 use lib.ListN.{length}
-use Rattle.rules.specs.Log.{Log, logOf}
+use Rattle.rules.specs.File.{Log, logOf}
 use Rattle.rules.specs.TreeClaim.{Trees, IsTree}
 use Rattle.rules.specs.Op.{Vector}
 use Rattle.rules.specs.Replay.{replay, addedIn}

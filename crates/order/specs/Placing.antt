@@ -8,7 +8,8 @@ use mathlib.Core.Bool.{Bool, cond, true, _&&_}
 use mathlib.Core.List.{List, [], _∷_, _++_, foldl}
 use mathlib.Core.Path.{_≡_}
 use Rattle.lists.specs.Lists.{any}
-use Rattle.rules.specs.Log.{structural, covered, logOf, closed}
+use Rattle.rules.specs.Log.{structural, covered, closed}
+use Rattle.rules.specs.File.{logOf}
 use Rattle.rules.specs.Op.{Vector, isMove, nodeOf}
 use Rattle.rules.specs.Replay.{State, Stamped, step, outcomeOf, ordered, start}
 use Rattle.rules.specs.Tree.{slotOf}

@@ -14,7 +14,7 @@ use view::listing;
 use view::path;
 ghost use mathlib.Core.Path.{_≡_};
 ghost use Rattle.rules.specs.Issue.{add, remove, move};
-ghost use Rattle.rules.specs.Log.{width};
+ghost use Rattle.rules.specs.File.{width};
 ghost use Rattle.rules.specs.Path.{pathCall};
 ghost use Rattle.view.specs.Answers.{viewOf};
 ghost use Rattle.outline_c.specs.Number.{number, viewFor};

@@ -6,7 +6,8 @@ use Prim.Native.Nat.{ℕ, _≤_}
 use native.Mathlib.Omega.{arith}
 use native.Mathlib.Nat.{le-refl}
 use Rattle.rules.specs.Op.{countIn, Vector}
-use Rattle.rules.specs.Log.{opAt, headerCounts, countsOf, logOf, covered, structural, closed}
+use Rattle.rules.specs.File.{opAt, headerCounts, countsOf, logOf}
+use Rattle.rules.specs.Log.{covered, structural, closed}
 use Rattle.oplog.specs.Spots.{Spot}
 use Rattle.rules.proofs.StructureLaws.{counts-closed, HeldOp, structural-good, laid-reads, good-ops, structural-laid}
 use Rattle.rules.proofs.FileLaws.{counts-at, counts-logOf}

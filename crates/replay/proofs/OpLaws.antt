@@ -11,7 +11,7 @@ use native.Mathlib.Decide.{ℕ-discrete}
 use Rattle.rules.specs.Op.{vectorOf, kindOf, parentOf, nodeNumber, isAdd, nodeOf, isMove, Op}
 use Rattle.rules.specs.Tree.{slotOf, slot}
 use Rattle.rules.specs.Replay.{outcomeOf, outcomeSlot, step}
-use Rattle.rules.specs.Log.{opAt, logOf}
+use Rattle.rules.specs.File.{opAt, logOf}
 use Rattle.rules.proofs.TreeLaws.{slot-below}
 use Rattle.order.proofs.GrowLaws.{names-node, known-reads, names-add}
 use Rattle.oplog.proofs.FieldLaws.{small}

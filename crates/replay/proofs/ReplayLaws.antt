@@ -4,7 +4,8 @@ use mathlib.Core.Bool.{true}
 use mathlib.Core.List.{List, foldl, replicate}
 use Prim.Native.Nat.{ℕ}
 use Rattle.rules.specs.Replay.{State, outcomesOf, parentsOf, replay, start, step}
-use Rattle.rules.specs.Log.{logOf, headerCounts, closed}
+use Rattle.rules.specs.File.{logOf, headerCounts}
+use Rattle.rules.specs.Log.{closed}
 use Rattle.rules.specs.Op.{Vector}
 use Rattle.order.specs.Levels.{levels, nothing}
 use Rattle.order.proofs.LevelLaws.{ordered-levels}

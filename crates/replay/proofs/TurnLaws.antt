@@ -11,7 +11,7 @@ use native.Mathlib.Decide.{decLt}
 use native.Mathlib.Nat.{le-refl}
 use Rattle.rules.specs.Op.{countIn, kindOf, vectorOf, Vector}
 use Rattle.rules.specs.Replay.{Stamped, State, step}
-use Rattle.rules.specs.Log.{opAt, Log, logOf, within}
+use Rattle.rules.specs.File.{opAt, Log, logOf, within}
 use Rattle.lists.specs.Lists.{upFrom, downFrom, concat}
 use Rattle.order.specs.Levels.{levelKind, advancedAt, nextAt, entry, level, levels, nextOf, ready, nothing, advanced}
 use Rattle.rules.proofs.FileLaws.{vector-eta, count-map}

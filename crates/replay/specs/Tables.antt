@@ -6,7 +6,8 @@ use mathlib.Core.List.{List}
 use lib.ListN.{length, getD}
 use lib.Dec.{eqb}
 use Rattle.rules.specs.Op.{Op, Vector, countIn}
-use Rattle.rules.specs.Log.{countAt, structural}
+use Rattle.rules.specs.File.{countAt}
+use Rattle.rules.specs.Log.{structural}
 use Rattle.rules.specs.Tree.{atOrBelow}
 use Rattle.rules.specs.Replay.{State, Stamped}
 

@@ -13,7 +13,8 @@ use Rattle.codec.specs.declared.op.Refusal.{Refusal}
 use Rattle.codec.specs.declared.op.Refusal.the-variants.{Length, Malformed}
 use Rattle.rules.specs.Deliver.{held, admitAnswer, deliverAnswer, heldAnswer, makeAnswer}
 use Rattle.rules.specs.Op.{parentOf, wellFormed, isAdd, replicaOf, nodeOf, seqOf, nodeNumber, kindOf, isRemove, vectorOf, Op}
-use Rattle.rules.specs.Log.{fileOf, fileEnd, namesKnown, headerOf, countsOf, Log, emptyLog, logOf, width, covered, closed, opAt}
+use Rattle.rules.specs.File.{fileOf, fileEnd, headerOf, countsOf, Log, emptyLog, logOf, width, opAt}
+use Rattle.rules.specs.Log.{namesKnown, covered, closed}
 use Rattle.oplog.specs.Spots.{namesBy}
 use Rattle.rules.specs.Answer.{Answer, require, accepted, refused, ifAccepted, hadIt}
 use Rattle.lists.specs.Lists.{concat, same}

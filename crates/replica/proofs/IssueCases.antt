@@ -9,9 +9,10 @@ use lib.Dec.{leb, ltb}
 use borrow.Author.Tests.{leb-true, ltb-true, le-leb, lt-leb, lt-ltb, le-ltb}
 use Rattle.rules.specs.Answer.{Answer, accepted, refused, require}
 use Rattle.rules.specs.Op.{isReplica, countIn, Vector}
-use Rattle.rules.specs.Tree.{atOrBelow, depth}
-use Rattle.rules.specs.Issue.{requestKnown, moveKind, requestClear, Request, issueAnswer}
-use Rattle.rules.specs.Log.{fileEnd, countsOf, Log, logOf, width, nodeWithin, known}
+use Rattle.rules.specs.Tree.{atOrBelow, depth, moveKind}
+use Rattle.rules.specs.Issue.{requestKnown, requestClear, Request, issueAnswer}
+use Rattle.rules.specs.File.{fileEnd, countsOf, Log, logOf, width}
+use Rattle.rules.specs.Log.{nodeWithin, known}
 use Rattle.rules.specs.Replay.{parentsOf}
 use Rattle.rules.specs.Sound.{sound}
 use Rattle.codec.specs.Read.{numberOf}

@@ -7,11 +7,10 @@ use lib.ListN.{length}
 use lib.Dec.{leb, ltb}
 use Rattle.rules.specs.Answer.{Answer, refused, hadIt, done, accepted, require}
 use Rattle.rules.specs.Op.{isReplica, countIn, replicaOf, seqOf, wellFormed}
-use Rattle.rules.specs.Log.{Log, width, countsOf, headerCounts, fileEnd, logOf}
+use Rattle.rules.specs.File.{Log, width, countsOf, headerCounts, fileEnd, logOf}
 use Rattle.rules.specs.Sound.{sound}
-use Rattle.rules.specs.Tree.{atOrBelow}
+use Rattle.rules.specs.Tree.{atOrBelow, moveKind}
 use Rattle.rules.specs.Replay.{parentsOf}
-use Rattle.rules.specs.Issue.{moveKind}
 use Rattle.codec.specs.Read.{numberOf}
 use Rattle.replica.specs.declared.answer.Made.{Made}
 use Rattle.replica.specs.declared.answer.Delivery.{Delivery}

@@ -18,7 +18,7 @@ use oplog::same_op;
 ghost use mathlib.Core.Path.{_≡_};
 ghost use mathlib.Core.Bool.{true, false};
 ghost use Rattle.rules.specs.Answer.{ifAccepted};
-ghost use Rattle.rules.specs.Log.{width, logOf, headerCounts, appended};
+ghost use Rattle.rules.specs.File.{width, logOf, headerCounts, appended};
 ghost use Rattle.rules.specs.Deliver.{held, heldAnswer, admitAnswer};
 ghost use Rattle.codec.specs.Read.{fieldsOf};
 ghost use Rattle.replica.specs.Answers.{deliveryAnswer, Deliverable};

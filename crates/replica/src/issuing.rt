@@ -20,7 +20,7 @@ ghost use mathlib.Core.List.{_++_};
 ghost use Prim.Native.Nat.{_+_, _≤_, _<_};
 ghost use lib.ListN.{length, drop};
 ghost use Rattle.rules.specs.Answer.{Answer, ifAccepted};
-ghost use Rattle.rules.specs.Log.{width, logOf, appended};
+ghost use Rattle.rules.specs.File.{width, logOf, appended};
 ghost use Rattle.rules.specs.Issue.{opBytes, add, remove, move};
 ghost use Rattle.rules.specs.Sound.{sound};
 ghost use Rattle.replica.specs.Answers.{issueAnswerOf, gateAnswer, firstTests, lastTest, kindOrCycle, Issuable};

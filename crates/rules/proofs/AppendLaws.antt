@@ -12,7 +12,8 @@ use lib.Seq.{getD-set-same, getD-set-other}
 use lib.Dec.{leb, eqb}
 use Rattle.lists.specs.Lists.{sum}
 use Rattle.rules.specs.Op.{Op, Vector, isReplica, countIn, replicaOf, nodeOf, parentOf, vectorOf, seqOf, ownCount, wellFormed, isAdd}
-use Rattle.rules.specs.Log.{Log, opsOf, opAt, countsOf, append, Extends, within, covered, closedAt, closed, nodeWithin, known, knownParent, namesKnown, soundOp, soundOps}
+use Rattle.rules.specs.File.{Log, opsOf, opAt, countsOf, append, Extends, within}
+use Rattle.rules.specs.Log.{covered, closedAt, closed, nodeWithin, known, knownParent, namesKnown, soundOp, soundOps}
 use Rattle.rules.specs.Deliver.{held}
 use Rattle.lists.proofs.BoolLaws.{and-left, and-right, and-both, and-under, or-under}
 use Rattle.rules.proofs.ReplicaLaws.{all-replicas, replica-passes, all-alike}

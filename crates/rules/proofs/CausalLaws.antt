@@ -9,7 +9,8 @@ use borrow.Author.Tests.{leb-true, leb-false, ne-eqb}
 use lib.Dec.{leb, lit≤}
 use Rattle.lists.specs.Lists.{upFrom, sum}
 use Rattle.rules.specs.Op.{Vector, replicas, countIn, vectorOf, seqOf, ownCount}
-use Rattle.rules.specs.Log.{Log, opAt, countsOf, within, covered, closedAt, closed}
+use Rattle.rules.specs.File.{Log, opAt, countsOf, within}
+use Rattle.rules.specs.Log.{covered, closedAt, closed}
 use Rattle.rules.proofs.ReplicaLaws.{replica-passes, replica-fails, replica-cases}
 use Rattle.rules.proofs.StructureLaws.{held-in, HeldOps}
 

@@ -9,7 +9,7 @@ use borrow.Author.Tests.{leb-true, eqb-true, le-leb, eq-eqb}
 use lib.ListN.{length, drop, length-append, length-drop}
 use lib.Seq.{drop-at}
 use Rattle.rules.specs.Op.{Op}
-use Rattle.rules.specs.Log.{Log, countsOf, append, endOf, fileEnd, logOf, fileOf, appended}
+use Rattle.rules.specs.File.{Log, countsOf, append, endOf, fileEnd, logOf, fileOf, appended}
 use Rattle.rules.specs.Answer.{Answer, accepted, require}
 use Rattle.rules.specs.Deliver.{admitAnswer, held, heldAnswer, deliverAnswer, deliverBuffer}
 use Rattle.rules.specs.Sound.{sound}

@@ -11,7 +11,7 @@ use lib.Arith.{digits-div, digits-mod}
 use Rattle.rules.specs.Bytes.{byte, wordAt, word}
 use Rattle.lists.specs.Lists.{upFrom, sum, concat}
 use Rattle.rules.specs.Op.{Op, Vector, replicas, countIn}
-use Rattle.rules.specs.Log.{Log, opsOf, opAt, countsOf, countAt, startAt, headerCounts, startOf, endOf, fileEnd, chunks, chunksOf, logOf, headerEntry, headerOf, fileOf}
+use Rattle.rules.specs.File.{Log, opsOf, opAt, countsOf, countAt, startAt, headerCounts, startOf, endOf, fileEnd, chunks, chunksOf, logOf, headerEntry, headerOf, fileOf}
 use Rattle.lists.proofs.ListLaws.{concat-append}
 use Rattle.lists.proofs.RangeLaws.{map-getD}
 use Rattle.lists.proofs.NumberLaws.{mul-step}

@@ -9,7 +9,7 @@ use lib.ListN.{length, take, drop, getD, set}
 use lib.Seq.{drop-drop}
 use Rattle.lists.specs.Lists.{sum, concat}
 use Rattle.rules.specs.Op.{Op, replicaOf}
-use Rattle.rules.specs.Log.{Log, opsOf, countsOf, append, headerCounts, fileEnd, chunksOf, logOf, headerOf, fileOf, appended}
+use Rattle.rules.specs.File.{Log, opsOf, countsOf, append, headerCounts, fileEnd, chunksOf, logOf, headerOf, fileOf, appended}
 use Rattle.rules.proofs.FileLaws.{bodies-chunksOf, length-logOf}
 use Rattle.lists.proofs.ListLaws.{concat-append}
 

@@ -11,11 +11,12 @@ use lib.Seq.{take-all}
 use lib.Dec.{leb, ltb, eqb}
 use Rattle.rules.specs.Bytes.{wordAt, word}
 use Rattle.rules.specs.Op.{Op, Vector, isReplica, countIn, kindOf, replicaOf, nodeOf, parentOf, vectorOf, ownCount, seqOf, nodeNumber, isAdd, isRemove, wellFormed}
-use Rattle.rules.specs.Log.{Log, countsOf, fileEnd, logOf, known, knownParent, namesKnown, width}
+use Rattle.rules.specs.File.{Log, countsOf, fileEnd, logOf, width}
+use Rattle.rules.specs.Log.{known, knownParent, namesKnown}
 use Rattle.rules.specs.Deliver.{held}
-use Rattle.rules.specs.Tree.{depth}
+use Rattle.rules.specs.Tree.{depth, moveKind}
 use Rattle.rules.specs.Replay.{parentsOf}
-use Rattle.rules.specs.Issue.{Request, add, remove, move, opBytes, moveKind, issued, requestKnown, issueAnswer, requestClear}
+use Rattle.rules.specs.Issue.{Request, add, remove, move, opBytes, issued, requestKnown, issueAnswer, requestClear}
 use Rattle.rules.specs.Sound.{sound}
 use Rattle.rules.specs.Answer.{accepted}
 use Rattle.lists.proofs.BoolLaws.{and-both}

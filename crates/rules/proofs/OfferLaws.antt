@@ -10,7 +10,8 @@ use lib.ListN.{length, getD}
 use lib.Dec.{lit≤}
 use Rattle.lists.specs.Lists.{upFrom, sum}
 use Rattle.rules.specs.Op.{Op, Vector, replicas, countIn, replicaOf, vectorOf, seqOf}
-use Rattle.rules.specs.Log.{Log, opsOf, opAt, countsOf, headerCounts, endOf, fileEnd, logOf, covered}
+use Rattle.rules.specs.File.{Log, opsOf, opAt, countsOf, headerCounts, endOf, fileEnd, logOf}
+use Rattle.rules.specs.Log.{covered}
 use Rattle.rules.specs.Answer.{Answer, refused, hadIt, accepted, require}
 use Rattle.rules.specs.Deliver.{admitAnswer, held, heldAnswer, deliverAnswer}
 use Rattle.rules.specs.Sound.{sound}

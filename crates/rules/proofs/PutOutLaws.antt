@@ -7,7 +7,7 @@ use Prim.Native.Nat.{ℕ, _+_, _≤_}
 use lib.ListN.{length, take, drop}
 use Rattle.rules.specs.Answer.{accepted}
 use Rattle.rules.specs.Op.{Op, countIn, replicaOf, seqOf, ownCount, vectorOf}
-use Rattle.rules.specs.Log.{Log, Extends, logOf, countsOf, fileEnd, width}
+use Rattle.rules.specs.File.{Log, Extends, logOf, countsOf, fileEnd, width}
 use Rattle.rules.specs.Sound.{sound}
 use Rattle.rules.specs.Deliver.{held, deliverAnswer}
 use Rattle.rules.specs.Issue.{Request, add, remove, move, opBytes, issued, issueAnswer, issueOut}

@@ -4,7 +4,8 @@ use mathlib.Core.List.{List, _++_}
 use mathlib.Core.Path.{_≡_, refl}
 use mathlib.Core.Bool.{true}
 use lib.Dec.{lit≤}
-use Rattle.rules.specs.Log.{emptyLog, Log, countsOf, fileOf, opsOf, logOf, soundOps, structural}
+use Rattle.rules.specs.File.{emptyLog, Log, countsOf, fileOf, opsOf, logOf}
+use Rattle.rules.specs.Log.{soundOps, structural}
 use Rattle.rules.specs.Sound.{sound}
 use Rattle.rules.specs.Op.{countIn}
 use Rattle.rules.proofs.FileLaws.{WideLog, wide-logOf}

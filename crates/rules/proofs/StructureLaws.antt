@@ -8,7 +8,8 @@ use native.Mathlib.Omega.{arith}
 use borrow.Author.Tests.{leb-true, eqb-true, le-leb, eq-eqb, eqb-false}
 use lib.Dec.{eqb, leb}
 use native.Mathlib.Nat.{le-refl, not-suc-le-zero, add-zero, add-suc, suc-add, le-of-suc-le-suc}
-use Rattle.rules.specs.Log.{Log, closed, covered, opAt, soundOps, closedAt, countsOf, soundOp, within, countAt, laid, opsOf, structural, soundHeader, soundLog, startAt, logOf, startOf, fileEnd, headerCounts, fileOf, namesKnown}
+use Rattle.rules.specs.File.{Log, opAt, countsOf, within, countAt, opsOf, startAt, logOf, startOf, fileEnd, headerCounts, fileOf}
+use Rattle.rules.specs.Log.{closed, covered, soundOps, closedAt, soundOp, laid, structural, soundHeader, soundLog, namesKnown}
 use Rattle.rules.specs.Op.{countIn, Op, Vector, replicaOf, seqOf, wellFormed, vectorOf}
 use Rattle.rules.specs.Bytes.{byte}
 use Rattle.lists.specs.Lists.{concat}

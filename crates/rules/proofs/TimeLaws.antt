@@ -8,7 +8,8 @@ use native.Mathlib.Omega.{arith}
 use lib.ListN.{length, take, getD}
 use Rattle.lists.specs.Lists.{upFrom, greatest, concat}
 use Rattle.rules.specs.Op.{Op, Vector, replicas, countIn, vectorOf}
-use Rattle.rules.specs.Log.{Log, opsOf, opAt, covered, closed}
+use Rattle.rules.specs.File.{Log, opsOf, opAt}
+use Rattle.rules.specs.Log.{covered, closed}
 use Rattle.rules.specs.Replay.{opsWithin, timestampIn, timestamp}
 use Rattle.rules.proofs.StructureLaws.{held-in, HeldOps}
 use Rattle.rules.proofs.CausalLaws.{total, counted-less}

@@ -9,16 +9,18 @@ use Rattle.rules.specs.Answer.{Answer, refused, hadIt, done, accepted, r
 use Rattle.rules.specs.Bytes.{wordAt, word}
 use Rattle.lists.specs.Lists.{upFrom, downFrom, sum, greatest, same, concat, all, any, filter, isIn}
 use Rattle.rules.specs.Deliver.{makeAnswer, held, heldAnswer, admitAnswer, deliverAnswer}
-use Rattle.rules.specs.Issue.{Request, add, remove, move, opBytes, moveKind, issued, requestKnown, requestClear, issueAnswer, issueOut}
+use Rattle.rules.specs.Issue.{Request, add, remove, move, opBytes, issued, requestKnown, requestClear, issueAnswer, issueOut}
+use Rattle.rules.specs.Tree.{moveKind, slots, slot, slotOf, parentIn, climb, path, depth, atOrBelow}
 use Rattle.rules.specs.Judge.{judgeAnswer}
 use Rattle.rules.specs.Listing.{children, preorder, digits, decimal, lineOf, line, listingIn, listingOf, listingAnswer, listing, refusedLine, outline}
-use Rattle.rules.specs.Log.{Log, emptyLog, opsOf, opAt, countsOf, append, countAt, startAt, headerCounts, startOf, endOf, fileEnd, chunks, chunksOf, logOf, headerEntry, headerOf, fileOf, within, covered, closedAt, closed, nodeWithin, known, knownParent, namesKnown, soundOp, soundOps, soundLog, soundHeader, laid, structural, width}
+use Rattle.rules.specs.File.{Log, emptyLog, opsOf, opAt, countsOf, append, countAt, startAt, headerCounts, startOf, endOf, fileEnd, chunks, chunksOf, logOf, headerEntry, headerOf, fileOf, within, width}
+use Rattle.rules.specs.Log.{covered, closedAt, closed, nodeWithin, known, knownParent, namesKnown, soundOp, soundOps, soundLog, soundHeader, laid, structural}
 use Rattle.rules.specs.Op.{Op, Vector, replicas, isReplica, countIn, kindOf, replicaOf, nodeOf, parentOf, vectorOf, ownCount, seqOf, nodeNumber, isAdd, isRemove, isMove, wellFormed}
 use Rattle.rules.specs.Path.{pathOf, pathAnswer, pathCall}
 use Rattle.rules.specs.Replay.{opsWithin, addedIn, removedIn, timestampIn, timestamp, stamp, stamped, ofReplica, ofKind, ofTime, byTime, ordered, start, outcomeSlot, outcomeOf, step, replay, parentsOf, outcomesOf}
 use Rattle.rules.specs.Sound.{sound}
-use Rattle.rules.specs.Tree.{slots, slot, slotOf, parentIn, climb, path, depth, atOrBelow}
-use Rattle.rules.specs.Views.{View, keeping, skipping, nodes, tombstone, shown}
+use Rattle.rules.specs.Views.{View, keeping, skipping, nodes, shown}
+use Rattle.rules.specs.Marks.{tombstone}
 
 -- what a function says of each op of a log, replica by replica
 unfoldable pub ofOps : (ℕ → ℕ → ℕ) → Log → List (List ℕ)

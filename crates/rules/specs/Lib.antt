@@ -1,11 +1,13 @@
 pub mod Answer
 pub mod Bytes
 pub mod Op
+pub mod File
+pub mod Tree
+pub mod Replay
+pub mod Marks
 pub mod Log
 pub mod Sound
 pub mod Deliver
-pub mod Tree
-pub mod Replay
 pub mod Judge
 pub mod Issue
 pub mod Path

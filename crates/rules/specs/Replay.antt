@@ -8,7 +8,7 @@ use lib.ListN.{length, take, getD, set, replicate}
 use lib.Dec.{eqb}
 use Rattle.lists.specs.Lists.{upFrom, downFrom, greatest, concat, filter}
 use Rattle.rules.specs.Op.{Op, Vector, replicas, countIn, kindOf, replicaOf, nodeOf, parentOf, vectorOf, seqOf, isAdd, isRemove, isMove}
-use Rattle.rules.specs.Log.{Log, opsOf, countsOf}
+use Rattle.rules.specs.File.{Log, opsOf, countsOf}
 use Rattle.rules.specs.Tree.{slot, slotOf, slots, noParent, atOrBelow}
 
 ---- the ops of a cut, and timestamps

@@ -11,7 +11,7 @@ use Rattle.rules.proofs.SoundLaws.{sound-good}
 use Rattle.rules.specs.Answer.{accepted, refused, require}
 use Rattle.lists.specs.Lists.{concat, downFrom}
 use Rattle.rules.specs.Listing.{listingAnswer, listingOf}
-use Rattle.rules.specs.Log.{Log, logOf, width}
+use Rattle.rules.specs.File.{Log, logOf, width}
 use Rattle.rules.specs.Replay.{parentsOf}
 use Rattle.rules.specs.Sound.{sound}
 use Rattle.rules.specs.Tree.{slots}

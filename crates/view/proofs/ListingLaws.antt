@@ -17,10 +17,11 @@ use Rattle.rules.proofs.StructureLaws.{GoodLog}
 use Rattle.rules.proofs.TreeLaws.{Valid, slot-root, up}
 use Rattle.lists.specs.Lists.{concat, filter}
 use Rattle.rules.specs.Listing.{children, line, listingIn, listingOf, preorder}
-use Rattle.rules.specs.Log.{Log, countsOf}
+use Rattle.rules.specs.File.{Log, countsOf}
 use Rattle.rules.specs.Replay.{parentsOf}
 use Rattle.rules.specs.Tree.{climb, depth, path, slots}
-use Rattle.rules.specs.Views.{View, keeping, shown, skipping, tombstone}
+use Rattle.rules.specs.Views.{View, keeping, shown, skipping}
+use Rattle.rules.specs.Marks.{tombstone}
 use Rattle.lists.proofs.EachLaws.{Each, each-filter, each-map, map-each}
 use Rattle.view.proofs.LinkLaws.{Chain, Linked, kids, links-right}
 use Rattle.view.proofs.MarkLaws.{mark-tombstone}
@@ -53,7 +54,7 @@ module _ (log : Log) (good : GoodLog log) where
   node-is-valid : (n : ℕ) → Node n → Valid n
   node-is-valid n w = named-valid log (countsOf log) n w
 
-  unmarked-node : (n : ℕ) → Valid n → eqb (entry marks n) 0 ≡ not (tombstone log n)
+  unmarked-node : (n : ℕ) → Valid n → eqb (entry marks n) 0 ≡ not (tombstone log (countsOf log) n)
   unmarked-node n v = rw (← mark-tombstone log good n v) (sym (not-not (eqb (entry marks n) 0)))
 
   -- a node is shown if its parent is and it is not hidden itself

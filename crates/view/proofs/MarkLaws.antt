@@ -15,11 +15,12 @@ use Rattle.lists.proofs.BoolLaws.{and-left, and-right}
 use Rattle.rules.proofs.StructureLaws.{GoodLog}
 use Rattle.rules.proofs.TreeLaws.{Valid, slot-below, slot-injective}
 use Rattle.lists.specs.Lists.{all, any, filter, isIn}
-use Rattle.rules.specs.Log.{Log, countsOf, known}
+use Rattle.rules.specs.File.{Log, countsOf}
+use Rattle.rules.specs.Log.{known}
 use Rattle.rules.specs.Op.{Op, isRemove, kindOf, nodeOf}
 use Rattle.rules.specs.Replay.{opsWithin, removedIn}
 use Rattle.rules.specs.Tree.{slotOf, slots}
-use Rattle.rules.specs.Views.{tombstone}
+use Rattle.rules.specs.Marks.{tombstone}
 use Rattle.view.proofs.SlotLaws.{spot-valid}
 use Rattle.view.proofs.TombstoneLaws.{ops-all, removes-known, removesKnown}
 use Rattle.view.specs.Tables.{entry, mark, marksOf, noMarks, spot}
@@ -76,7 +77,7 @@ module _ (log : Log) (good : GoodLog log) where
       go true e = rw (e, mark-one t r n size v (and-left (removesKnown log r) _ f) e) (or-assoc (marked t n) (eqb n (nodeOf r)) _)
       go false e = rw e
 
-  pub mark-tombstone : (n : ℕ) → Valid n → not (eqb (entry (marksOf log) n) 0) ≡ tombstone log n
+  pub mark-tombstone : (n : ℕ) → Valid n → not (eqb (entry (marksOf log) n) 0) ≡ tombstone log (countsOf log) n
   unfolding marksOf noMarks tombstone removedIn
   mark-tombstone n v =
       rw (spot-valid n v, ← ops-all log (good .eight)) (marks-are (opsWithin log (countsOf log)) (replicate slots 0) n

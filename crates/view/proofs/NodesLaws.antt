@@ -20,7 +20,8 @@ use Rattle.rules.proofs.StructureLaws.{GoodLog, count-held, good-ops}
 use Rattle.rules.proofs.TreeLaws.{Valid}
 use Rattle.lists.specs.Lists.{concat, filter, upFrom}
 use Rattle.rules.specs.Listing.{children}
-use Rattle.rules.specs.Log.{Log, countsOf, known, opAt, opsOf}
+use Rattle.rules.specs.File.{Log, countsOf, opAt, opsOf}
+use Rattle.rules.specs.Log.{known}
 use Rattle.rules.specs.Op.{Op, countIn, isAdd, nodeNumber, nodeOf, replicas}
 use Rattle.rules.specs.Replay.{addedIn, opsWithin, parentsOf}
 use Rattle.rules.specs.Tree.{noParent, parentIn}

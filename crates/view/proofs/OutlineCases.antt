@@ -11,7 +11,7 @@ use native.Mathlib.Omega.{arith}
 use Rattle.order.proofs.TourLaws.{sound-listing}
 use Rattle.rules.specs.Answer.{accepted, refused, require}
 use Rattle.rules.specs.Listing.{listing, listingAnswer, listingOf, outline, refusedLine}
-use Rattle.rules.specs.Log.{fileEnd, logOf, width}
+use Rattle.rules.specs.File.{fileEnd, logOf, width}
 use Rattle.rules.specs.Sound.{sound}
 use Rattle.rules.specs.Views.{View, keeping}
 use Rattle.view.specs.Answers.{putText, textAnswer}

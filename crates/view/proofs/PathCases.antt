@@ -9,7 +9,8 @@ use native.Mathlib.Omega.{arith}
 use Rattle.order.proofs.GrowLaws.{parent-reads}
 use Rattle.rules.proofs.SoundLaws.{sound-good}
 use Rattle.rules.specs.Answer.{accepted, refused, require}
-use Rattle.rules.specs.Log.{countsOf, knownParent, logOf, width}
+use Rattle.rules.specs.File.{countsOf, logOf, width}
+use Rattle.rules.specs.Log.{knownParent}
 use Rattle.rules.specs.Path.{pathAnswer, pathOf}
 use Rattle.rules.specs.Replay.{parentsOf}
 use Rattle.rules.specs.Sound.{sound}

@@ -11,7 +11,7 @@ use Rattle.order.proofs.DepthLaws.{climb-length}
 use Rattle.order.proofs.GrowLaws.{Named, named-valid}
 use Rattle.rules.proofs.StructureLaws.{GoodLog}
 use Rattle.rules.proofs.TreeLaws.{slot-below, up-last}
-use Rattle.rules.specs.Log.{Log, countsOf}
+use Rattle.rules.specs.File.{Log, countsOf}
 use Rattle.rules.specs.Replay.{parentsOf}
 use Rattle.rules.specs.Tree.{climb, depth, path, slots}
 use Rattle.view.proofs.TreePathLaws.{climb-at, root-way, table-size, up-none}

@@ -5,7 +5,7 @@ use mathlib.Core.List.{_++_, List, [], map, _∷_}
 use mathlib.Core.Path.{_≡_, refl, _∙_}
 use Rattle.lists.specs.Lists.{concat, filter}
 use Rattle.rules.specs.Listing.{children, preorder}
-use Rattle.rules.specs.Log.{Log}
+use Rattle.rules.specs.File.{Log}
 use Rattle.lists.proofs.EachLaws.{Each, each-map}
 use Rattle.lists.proofs.FilterLaws.{filter-concat}
 use Rattle.view.proofs.TourLaws.{pre}

@@ -18,10 +18,12 @@ use Rattle.lists.proofs.BoolLaws.{and-both, and-left, and-right, never, or-case
 use Rattle.rules.proofs.StructureLaws.{GoodLog}
 use Rattle.rules.proofs.TreeLaws.{Valid, slot-below, slot-injective, slot-root, up, up-last}
 use Rattle.lists.specs.Lists.{any, isIn, upFrom}
-use Rattle.rules.specs.Log.{Log, countsOf, known}
+use Rattle.rules.specs.File.{Log, countsOf}
+use Rattle.rules.specs.Log.{known}
 use Rattle.rules.specs.Replay.{parentsOf}
 use Rattle.rules.specs.Tree.{atOrBelow, climb, noParent, parentIn, path, slotOf, slots}
-use Rattle.rules.specs.Views.{keeping, shown, tombstone}
+use Rattle.rules.specs.Views.{keeping, shown}
+use Rattle.rules.specs.Marks.{tombstone}
 use Rattle.view.proofs.MarkLaws.{mark-tombstone}
 use Rattle.view.proofs.NodesLaws.{held-parent, nodes-slots, unheld-parent, valid-parent}
 use Rattle.lists.proofs.FilterLaws.{any-map-filter}
@@ -238,7 +240,7 @@ module _ (log : Log) (good : GoodLog log) where
             (slotOf m) 1 0 (slot-below m (inr v)),
       ) (sym (ne-eqb m 0 (λ e. omega arith)))
 
-  unmarked-is : (k : ℕ) → 0 < k → k < 2041 → eqb (getD marks k 0) 0 ≡ not (tombstone log (nodeAt k))
+  unmarked-is : (k : ℕ) → 0 < k → k < 2041 → eqb (getD marks k 0) 0 ≡ not (tombstone log (countsOf log) (nodeAt k))
   unmarked-is k p b = rw (← mark-tombstone log good (nodeAt k) (node-valid k p b), spot-node k p b) (sym (not-not (eqb (getD marks k 0) 0)))
 
   pub keeping-hidden : (m : ℕ) → Valid m → shows-in (hiddenOf P marks keeping) m ≡ shown keeping log P m
@@ -247,6 +249,6 @@ module _ (log : Log) (good : GoodLog log) where
       reveal-slots 2040 1 (omega arith) (omega arith) (set (replicate slots 1) 0 0) (λ m. eqb m 0)
       (length-set {A = ℕ} (replicate slots 1) 0 0 ∙ length-replicate {A = ℕ} slots 1) start-hidden
       (record { has-root = refl; upward = λ c w nz e. absurd (nz (eqb-true c 0 e)) }) m vm
-      ∙ ap (λ (b : Bool). eqb m 0 || b) (sym (ap (any (λ x. isIn m (path P x) && not (tombstone log x))) (nodes-slots log good)
-      ∙ any-map-filter (λ x. isIn m (path P x) && not (tombstone log x)) nodeAt held (λ k. unmarked k && isIn m (path P (nodeAt k))) 2040 1
-      (λ k l u. rw (unmarked-is k l (omega arith)) (turned (held k) (isIn m (path P (nodeAt k))) (not (tombstone log (nodeAt k)))))))
+      ∙ ap (λ (b : Bool). eqb m 0 || b) (sym (ap (any (λ x. isIn m (path P x) && not (tombstone log (countsOf log) x))) (nodes-slots log good)
+      ∙ any-map-filter (λ x. isIn m (path P x) && not (tombstone log (countsOf log) x)) nodeAt held (λ k. unmarked k && isIn m (path P (nodeAt k))) 2040 1
+      (λ k l u. rw (unmarked-is k l (omega arith)) (turned (held k) (isIn m (path P (nodeAt k))) (not (tombstone log (countsOf log) (nodeAt k)))))))

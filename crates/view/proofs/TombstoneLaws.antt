@@ -16,10 +16,11 @@ use Rattle.rules.proofs.ReplicaLaws.{map-replicas}
 use Rattle.rules.proofs.FileLaws.{log-eta}
 use Rattle.rules.proofs.StructureLaws.{GoodLog, count-held, good-ops, held-in}
 use Rattle.lists.specs.Lists.{all, any, concat, filter, isIn}
-use Rattle.rules.specs.Log.{Log, countsOf, known, opAt, opsOf}
+use Rattle.rules.specs.File.{Log, countsOf, opAt, opsOf}
+use Rattle.rules.specs.Log.{known}
 use Rattle.rules.specs.Op.{Op, countIn, isRemove, kindOf, nodeOf, vectorOf}
 use Rattle.rules.specs.Replay.{opsWithin, removedIn}
-use Rattle.rules.specs.Views.{tombstone}
+use Rattle.rules.specs.Marks.{tombstone}
 use Rattle.lists.proofs.GreatestLaws.{all-greatest}
 
 pub ops-all : (log : Log) → length log ≡ 8 → opsWithin log (countsOf log) ≡ concat log
@@ -62,6 +63,6 @@ module _ (log : Log) (good : GoodLog log) where
           let h = known-reads log (countsOf log) (nodeOf r) w .0 in
           rw (ne-eqb 0 (nodeOf r) (λ z. omega (arith, h .low)), ih)
 
-  pub root-unmarked : tombstone log 0 ≡ false
+  pub root-unmarked : tombstone log (countsOf log) 0 ≡ false
   unfolding tombstone removedIn
   root-unmarked = root-in (opsWithin log (countsOf log)) removes-known

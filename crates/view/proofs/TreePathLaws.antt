@@ -19,7 +19,8 @@ use Rattle.rules.proofs.StructureLaws.{GoodLog, counts-closed, counts-covered}
 use Rattle.rules.proofs.TreeLaws.{Reaches, up, up-add}
 use Rattle.lists.specs.Lists.{any, isIn}
 use Rattle.rules.specs.Listing.{children}
-use Rattle.rules.specs.Log.{Log, countsOf, known}
+use Rattle.rules.specs.File.{Log, countsOf}
+use Rattle.rules.specs.Log.{known}
 use Rattle.rules.specs.Replay.{parentsOf}
 use Rattle.rules.specs.Tree.{climb, parentIn, path, slots}
 use Rattle.rules.specs.Views.{nodes}

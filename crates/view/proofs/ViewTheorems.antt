@@ -10,10 +10,12 @@ use Rattle.order.proofs.GrowLaws.{Named, parent-reads}
 use Rattle.lists.proofs.BoolLaws.{and-left, and-right}
 use Rattle.rules.proofs.StructureLaws.{GoodLog, structural-good}
 use Rattle.lists.specs.Lists.{any, isIn}
-use Rattle.rules.specs.Log.{Log, countsOf, known, logOf}
+use Rattle.rules.specs.File.{Log, countsOf, logOf}
+use Rattle.rules.specs.Log.{known}
 use Rattle.rules.specs.Replay.{parentsOf, removedIn}
 use Rattle.rules.specs.Tree.{atOrBelow, parentIn, path}
-use Rattle.rules.specs.Views.{View, keeping, nodes, shown, skipping, tombstone}
+use Rattle.rules.specs.Views.{View, keeping, nodes, shown, skipping}
+use Rattle.rules.specs.Marks.{tombstone}
 use Rattle.lists.proofs.AllLaws.{all-true}
 use Rattle.lists.proofs.MemberLaws.{any-in}
 use Rattle.view.proofs.TreePathLaws.{Under, known-nonzero, named-parent, nodes-known, path-child}
@@ -35,13 +37,13 @@ module _ (log : Log) (good : GoodLog log) where
       (sym (skipping-child log good (parentIn P n) n (named-parent log good n (inr k) (known-nonzero log good n k)) (hangs n k)) ∙ s)
 
   -- an unmarked node is shown by the keeping view
-  unmarked-kept : (n : ℕ) → known log (countsOf log) n ≡ true → tombstone log n ≡ false → shown keeping log P n ≡ true
+  unmarked-kept : (n : ℕ) → known log (countsOf log) n ≡ true → tombstone log (countsOf log) n ≡ false → shown keeping log P n ≡ true
   unfolding shown atOrBelow isIn any
   unmarked-kept n k t =
-      rw (any-in (λ m. isIn n (path P m) && not (tombstone log m)) (nodes log) n (nodes-known log good n ∙ k)
+      rw (any-in (λ m. isIn n (path P m) && not (tombstone log (countsOf log) m)) (nodes log) n (nodes-known log good n ∙ k)
       (rw (path-child log good (parentIn P n) n (hangs n k), eq-eqb n n refl, t))) (or-true (eqb n 0))
 
-  nothing-marked : removedIn log (countsOf log) ≡ [] → (n : ℕ) → tombstone log n ≡ false
+  nothing-marked : removedIn log (countsOf log) ≡ [] → (n : ℕ) → tombstone log (countsOf log) n ≡ false
   unfolding tombstone isIn any
   nothing-marked e n = rw e
 
@@ -49,14 +51,14 @@ module _ (log : Log) (good : GoodLog log) where
   unfolding shown
   all-shown e keeping n (inl z) = rw z
   all-shown e keeping n (inr k) = unmarked-kept n k (nothing-marked e n)
-  all-shown e skipping n w = rw (all-true (λ m. not (tombstone log m)) (path P n) (λ m. rw (nothing-marked e m))) (or-true (eqb n 0))
+  all-shown e skipping n w = rw (all-true (λ m. not (tombstone log (countsOf log) m)) (path P n) (λ m. rw (nothing-marked e m))) (or-true (eqb n 0))
 
   skipping-kept : (n : ℕ) → Named log (countsOf log) n → shown skipping log P n ≡ true → shown keeping log P n ≡ true
   skipping-kept n (inl z) s = rw z (root-shown log good keeping)
   skipping-kept n (inr k) s =
-      let t : not (tombstone log n) ≡ true = and-right (shown skipping log P (parentIn P n)) _
+      let t : not (tombstone log (countsOf log) n) ≡ true = and-right (shown skipping log P (parentIn P n)) _
       (sym (skipping-child log good (parentIn P n) n (named-parent log good n (inr k) (known-nonzero log good n k)) (hangs n k)) ∙ s) in
-      unmarked-kept n k (not-true (tombstone log n) t)
+      unmarked-kept n k (not-true (tombstone log (countsOf log) n) t)
 
 pub parents-shown : ParentsShown
 parents-shown w f s view n k e = parent-shown (logOf w f) (structural-good w f s) view n k e

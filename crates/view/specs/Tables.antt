@@ -6,7 +6,7 @@ use lib.ListN.{getD, set, replicate}
 use lib.Dec.{ltb, eqb}
 use Rattle.lists.specs.Lists.{upFrom, downFrom, concat}
 use Rattle.rules.specs.Op.{Op, nodeOf, isRemove}
-use Rattle.rules.specs.Log.{Log}
+use Rattle.rules.specs.File.{Log}
 use Rattle.rules.specs.Tree.{slotOf, slots, noParent}
 use Rattle.rules.specs.Replay.{parentsOf}
 use Rattle.rules.specs.Views.{View, keeping, skipping}

@@ -13,7 +13,7 @@ ghost use mathlib.Core.Path.{_≡_};
 ghost use mathlib.Core.Bool.{true};
 ghost use Prim.Native.Nat.{_≤_};
 ghost use lib.ListN.{length, take};
-ghost use Rattle.rules.specs.Log.{width, logOf};
+ghost use Rattle.rules.specs.File.{width, logOf};
 ghost use Rattle.rules.specs.Sound.{sound};
 ghost use Rattle.view.specs.Answers.{listedAnswer, viewOf};
 ghost use Rattle.view.specs.Tables.{noMarks, marksOf, orderOf};

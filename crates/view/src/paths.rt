@@ -11,7 +11,7 @@ ghost use mathlib.Core.Path.{_≡_};
 ghost use mathlib.Core.List.{_++_};
 ghost use Prim.Native.Nat.{_+_, _<_};
 ghost use lib.ListN.{length, drop};
-ghost use Rattle.rules.specs.Log.{width};
+ghost use Rattle.rules.specs.File.{width};
 ghost use Rattle.rules.specs.Path.{pathCall};
 ghost use Rattle.view.specs.Answers.{listedAnswer, Way};
 ghost use Rattle.rules.specs.Tree as tree;

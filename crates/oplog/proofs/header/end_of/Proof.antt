@@ -4,7 +4,7 @@ use Prim.Native.Nat.{_*_, _≤_}
 use native.Mathlib.Omega.{arith}
 use borrow.Author.Needs.{needs}
 use denote.Ref.{now}
-use Rattle.rules.specs.Log.{startAt, headerCounts, startOf, countAt}
+use Rattle.rules.specs.File.{startAt, headerCounts, startOf, countAt}
 use Rattle.oplog.proofs.header.end_of.Statement.{statement}
 use Rattle.oplog.proofs.HeaderLaws.{header-reads, start-after}
 use Rattle.lists.proofs.NumberLaws.{product-small}

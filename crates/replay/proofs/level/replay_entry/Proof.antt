@@ -5,7 +5,7 @@ use native.Mathlib.Omega.{arith}
 use lib.ListN.{getD}
 use borrow.Author.Needs.{needs}
 use denote.Ref.{now}
-use Rattle.rules.specs.Log.{opAt, logOf}
+use Rattle.rules.specs.File.{opAt, logOf}
 use Rattle.rules.specs.Op.{countIn, kindOf}
 use Rattle.order.specs.Levels.{entry}
 use Rattle.oplog.proofs.FieldLaws.{kind-is}

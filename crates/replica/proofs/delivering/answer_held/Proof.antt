@@ -4,7 +4,7 @@ use Prim.Native.Nat.{_≤_}
 use native.Mathlib.Omega.{arith}
 use borrow.Author.Tests.{leb-true}
 use denote.Ref.{now}
-use Rattle.rules.specs.Log.{opAt, countsOf, logOf, width}
+use Rattle.rules.specs.File.{opAt, countsOf, logOf, width}
 use Rattle.oplog.specs.Spots.{Spot}
 use Rattle.rules.specs.Op.{countIn, seqOf, replicaOf}
 use Rattle.rules.specs.Deliver.{heldAnswer, held}

@@ -9,7 +9,7 @@ use Rattle.oplog.proofs.MarkerLaws.{Onward, Walk, left, left-end, left-next, le
 use Rattle.rules.proofs.FileLaws.{length-logOf}
 use Rattle.rules.proofs.StructureLaws.{laid-reads}
 use Rattle.lists.specs.Lists.{concat}
-use Rattle.rules.specs.Log.{logOf, opAt, width}
+use Rattle.rules.specs.File.{logOf, opAt, width}
 use Rattle.view.proofs.marking.mark_ops.Statement.{statement}
 use Rattle.view.specs.Tables.{mark}
 use Rattle.view.proofs.marking.mark_ops.Tie as tie
