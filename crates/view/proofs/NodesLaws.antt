@@ -26,7 +26,6 @@ use Rattle.rules.specs.Op.{Op, countIn, isAdd, nodeNumber, nodeOf, replicas}
 use Rattle.rules.specs.Replay.{addedIn, opsWithin, parentsOf}
 use Rattle.rules.specs.Tree.{noParent, parentIn}
 use Rattle.rules.specs.Views.{nodes}
-use Rattle.view.proofs.NodesLaws.{blocks}
 use Rattle.lists.proofs.FilterLaws.{filter-map-filter, map-filter-concat, none-from}
 use Rattle.view.proofs.SlotLaws.{node-nonzero, node-slot, seat-node, slot-node}
 use Rattle.view.proofs.TreePathLaws.{named-parent, table-size, whole}
