@@ -28,7 +28,8 @@ use Rattle.rules.proofs.FileLaws.{WideLog}
 use Rattle.order.proofs.TreeTheorem.{is-tree}
 use Rattle.convergence.proofs.HasLaws.{has-append, has-old, times-append, times-once, none-onlyIn}
 use Rattle.convergence.proofs.UnionLaws.{extends-equal, longer, longer-is, union, union-ops, union-left, union-right, good-union, union-wide}
-use Rattle.convergence.proofs.TrackLaws.{OpIn, in-more, Tracks, op-in, tracks-listed, arrange-log}
+use Rattle.rules.proofs.InLaws.{OpIn, in-more, op-in}
+use Rattle.convergence.proofs.TrackLaws.{Tracks, tracks-listed, arrange-log}
 use Rattle.convergence.proofs.KeptLaws.{logIn, Kept, kept-good, kept-ops, kept-end, kept-run, kept-standing, kept-wide}
 use Rattle.convergence.proofs.ListTheorems.{kept-stored}
 use Rattle.convergence.proofs.SideLaws.{both, missing-from}

@@ -28,7 +28,7 @@ use Rattle.rules.proofs.FileLaws.{length-logOf, WideLog}
 use Rattle.lists.proofs.ListLaws.{same-refl, same-eq}
 use Rattle.rules.proofs.StructureLaws.{HeldOp, GoodLog, HeldOps}
 use Rattle.convergence.proofs.HasLaws.{has-old, times-some, onlyIn-less, onlyIn-same, some-onlyIn}
-use Rattle.convergence.proofs.TrackLaws.{OpIn, in-more, append-within, op-in}
+use Rattle.rules.proofs.InLaws.{OpIn, in-more, append-within, op-in}
 use Rattle.convergence.proofs.KeptLaws.{logIn, Kept, kept-ops, kept-grown, grown-new, kept-good}
 use Rattle.convergence.proofs.SideLaws.{both, side-self, side-other, side-eq, missing-from, delivered, offered-to, offered-other, offered-same, answers-append, after-append, acceptedBy-append, acceptances-append}
 

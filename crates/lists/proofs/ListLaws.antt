@@ -108,3 +108,11 @@ drop-more xs ys i e = sym (drop-drop 1 i xs) ∙ ap (drop 1) e ∙ drop-drop 1 i
 pub drop-replicate : (n a : ℕ) → drop n (replicate (suc n) a) ≡ a ∷ []
 drop-replicate zero a = refl
 drop-replicate (suc n) a = drop-replicate n a
+
+pub take-same : {A : Type 0} (d : A) (n : ℕ) (xs ys : List A) → n ≤ length xs → n ≤ length ys → ((i : ℕ) → i < n → getD xs i d ≡ getD ys i d)
+    → take n xs ≡ take n ys
+take-same d zero xs ys a b e = refl
+take-same d (suc n) [] ys a b e = absurd (not-suc-le-zero a)
+take-same d (suc n) (x ∷ xs) [] a b e = absurd (not-suc-le-zero b)
+take-same d (suc n) (x ∷ xs) (y ∷ ys) a b e =
+    ap₂ _∷_ (e 0 (omega arith)) (take-same d n xs ys (le-of-suc-le-suc a) (le-of-suc-le-suc b) (λ i h. e (suc i) (omega arith)))

@@ -6,7 +6,6 @@ pub mod NodeLaws
 pub mod DepthLaws
 pub mod TreeTheorem
 pub mod FuelLaws
-pub mod ExtendLaws
 pub mod LateLaws
 pub mod PlacedLaws
 pub mod RisingLaws
