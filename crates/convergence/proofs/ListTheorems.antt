@@ -21,7 +21,7 @@ use Rattle.lists.proofs.BoolLaws.{never}
 use Rattle.rules.proofs.DeliverLaws.{Admitted, required, admitted, accepted-same, appended-end, appended-past, appended-length}
 use Rattle.rules.proofs.FileLaws.{counts-logOf, file-end, length-file}
 use Rattle.rules.proofs.IssueLaws.{issue-admitted}
-use Rattle.rules.proofs.SoundLaws.{good-empty, wide-empty}
+use Rattle.rules.proofs.SoundLaws.{wide-empty, sound-empty}
 use Rattle.convergence.specs.Exchange.{Call, make, issue, deliver, Site, answer, bufferAfter, heldThen, perform, lent, run, outAfter, Reply, reply, replies, fileIn, has, Agreed}
 use Rattle.convergence.specs.Lists.{Stored, SameHeld, ReadAlike, PastKept, ListsFile, SameOpsSameFile, HeldSettles, CallsSettle, ReadsSettle, CallsKeepPast}
 use Rattle.convergence.proofs.TrackLaws.{Tracks, tracks-listed, arrange-log}
@@ -128,7 +128,7 @@ made-leaves f n e =
     let l : 32 ≤ length f = leb-true 32 (length f) long in
     rw (← accepted-same 32 n end) (
       rw (length-append, empty-length, length-drop) (omega arith),
-      file-end width emptyLog (drop 32 f) (good-empty .eight) ∙ empty-end,
+      file-end width emptyLog (drop 32 f) (sound-empty .good .eight) ∙ empty-end,
       drop-at (fileOf width emptyLog) (drop 32 f) 32 empty-length,
     )
 

@@ -13,7 +13,7 @@ use lib.ListN.{length, drop}
 use lib.Seq.{drop-drop}
 use Rattle.lists.specs.Lists.{same, concat, all, any, filter}
 use Rattle.rules.specs.Op.{Op, countIn, replicaOf, vectorOf, seqOf}
-use Rattle.rules.specs.File.{Log, opAt, countsOf, fileEnd, appended, width, Extends}
+use Rattle.rules.specs.File.{Log, opAt, countsOf, fileEnd, appended, width, Extends, largest}
 use Rattle.rules.specs.Log.{covered}
 use Rattle.rules.specs.Deliver.{held, deliverAnswer}
 use Rattle.convergence.specs.Exchange.{Site, answer, has, Side, left, right, other, isSide, Pair, missing, Offer, Round, answerTo, offered, after, Answered, answers, acceptances, acceptedBy, offers, ValidRound, EachRound, onlyIn}
@@ -26,11 +26,12 @@ use Rattle.rules.proofs.OfferLaws.{Agree, Offered, early, offered-in-full, had,
 use Rattle.rules.proofs.CausalLaws.{Missing, total, some-ready}
 use Rattle.rules.proofs.FileLaws.{length-logOf, WideLog}
 use Rattle.lists.proofs.ListLaws.{same-refl, same-eq}
-use Rattle.rules.proofs.StructureLaws.{HeldOp, GoodLog, HeldOps}
+use Rattle.rules.proofs.StructureLaws.{HeldOp, HeldOps}
 use Rattle.convergence.proofs.HasLaws.{has-old, times-some, onlyIn-less, onlyIn-same, some-onlyIn}
 use Rattle.rules.proofs.InLaws.{OpIn, in-more, append-within, op-in}
 use Rattle.convergence.proofs.KeptLaws.{logIn, Kept, kept-ops, kept-grown, grown-new, kept-good}
 use Rattle.convergence.proofs.SideLaws.{both, side-self, side-other, side-eq, missing-from, delivered, offered-to, offered-other, offered-same, answers-append, after-append, acceptedBy-append, acceptances-append}
+use Rattle.rules.proofs.SoundLaws.{SoundLog}
 
 -- a side in the rounds: its log lies within u, and past its file are the bytes of f, the buffer before the rounds
 pub record Stands (u : Log) (f : List ℕ) (x : Site) : Type 0 where
@@ -89,15 +90,15 @@ unfolding all
 all-append [] b e h = h
 all-append (x ∷ a) b e h = and-both (and-left (expected (x .answered)) _ e) (all-append a b (and-right (expected (x .answered)) _ e) h)
 
-module _ (u : Log) (gu : GoodLog u) (wu : WideLog width u) (base : Side → List ℕ) (big : (d : Side) → 28592 ≤ length (base d)) where
+module _ (u : Log) (su : SoundLog u) (wu : WideLog width u) (base : Side → List ℕ) (big : (d : Side) → largest width ≤ length (base d)) where
   ---- one offer
 
   pub offer-answer : (d : Side) (x : Site) → Stands u (base d) x → (r : Op) → OpIn u r
       → Offered (logIn x) r (fileEnd width (x .buffer) + width) (deliverAnswer width (x .buffer) r)
   offer-answer d x s r i =
       let agree : Agree u (logIn x) = λ t q l h lq uq vq. sym (s .inside .ops t q l h lq vq) in
-      let room : 28592 ≤ length (x .buffer) = omega (arith, s .size, big d) in
-      rw (i .there) at (offered-in-full width u gu wu (x .buffer) (s .kept .is-sound) agree (replicaOf r) (seqOf r) (i .low) (i .high)
+      let room : largest width ≤ length (x .buffer) = omega (arith, s .size, big d) in
+      rw (i .there) at (offered-in-full width u su wu (x .buffer) (s .kept .is-sound) agree (replicaOf r) (seqOf r) (i .low) (i .high)
       (seq-positive r) (i .here) room)
 
   stands-grown : (d : Side) (x : Site) → Stands u (base d) x → (r : Op) → OpIn u r → (n : ℕ) → Admitted width (x .buffer) r n

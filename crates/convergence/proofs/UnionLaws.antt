@@ -17,6 +17,7 @@ use Rattle.rules.proofs.AppendLaws.{soundOps-more}
 use Rattle.rules.proofs.OfferLaws.{Agree}
 use Rattle.rules.proofs.ReplicaLaws.{replica-cases, map-replicas}
 use Rattle.rules.proofs.StructureLaws.{count-held, GoodLog}
+use Rattle.rules.proofs.SoundLaws.{SoundLog}
 
 ---- equal logs
 
@@ -87,7 +88,7 @@ module _ (a b : Log) where
           (λ h. sym (ag s q l u lq (omega (arith, count-held a s, count-held b s)) uq)) (λ h. refl));
     }
 
-    pub good-union : GoodLog a → GoodLog b → GoodLog (union a b)
+    good-union : GoodLog a → GoodLog b → GoodLog (union a b)
     good-union ha hb = record {
       eight = union-eight;
       counts = λ s l u. rw (count-held, union-ops s l u) (longer-is (λ ops. length ops ≤ 255) (opsOf a s) (opsOf b s)
@@ -96,3 +97,7 @@ module _ (a b : Log) where
           (λ h. soundOps-more a (union a b) union-left s 1 (opsOf a s) (ha .ops s l u)) (λ h. soundOps-more b (union a b) union-right s 1
           (opsOf b s) (hb .ops s l u)));
     }
+
+    -- and it is sound if they are
+    pub sound-union : SoundLog a → SoundLog b → SoundLog (union a b)
+    sound-union ha hb = record { good = good-union (ha .good) (hb .good) }
