@@ -27,7 +27,7 @@ use Rattle.lists.proofs.BoolLaws.{both-ways, or-cases}
 use Rattle.rules.proofs.FileLaws.{WideLog}
 use Rattle.order.proofs.TreeTheorem.{is-tree}
 use Rattle.convergence.proofs.HasLaws.{has-append, has-old, times-append, times-once, none-onlyIn}
-use Rattle.convergence.proofs.UnionLaws.{extends-equal, longer, longer-is, union, union-ops, union-left, union-right, union-wide, sound-union}
+use Rattle.rules.proofs.UnionLaws.{extends-equal, longer, longer-is, union, union-ops, union-left, union-right, union-wide, sound-union}
 use Rattle.rules.proofs.InLaws.{OpIn, in-more, op-in}
 use Rattle.convergence.proofs.TrackLaws.{Tracks, tracks-listed, arrange-log}
 use Rattle.convergence.proofs.KeptLaws.{logIn, Kept, kept-good, kept-ops, kept-end, kept-run, kept-standing, kept-wide, kept-sound}

@@ -57,7 +57,8 @@ module _ (log : Log) (r : Op) (eight : length log ≡ 8) (lo : 1 ≤ replicaOf r
   pub tracks-append : (ops : List Op) → Tracks log ops → Tracks (append log r) (ops ++ (r ∷ []))
   tracks-append ops t = record {
     inside = λ x e. ⊎-elim (λ (i : has ops x ≡ true). in-more log (append log r) (append-extends log r eight lo hi) x (t .inside x i))
-        (λ (i : same x r ≡ true). rw (same-eq x r i) (new-in log r eight lo hi next)) (or-cases (has ops x) (same x r) (sym (has-last ops r x) ∙ e));
+        (λ (i : same x r ≡ true). rw (same-eq x r i) (new-in log r eight lo hi next))
+        (or-cases (has ops x) (same x r) (sym (has-last ops r x) ∙ e));
     outside = λ x i. ⊎-elim (λ (o : OpIn log x). has-old ops (r ∷ []) x (t .outside x o)) (λ (e : x ≡ r). rw e (has-new ops r))
         (in-append log r eight lo hi next x i);
   }

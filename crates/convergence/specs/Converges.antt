@@ -1,5 +1,5 @@
 -- What two logs come to when they meet: demand 3 as one statement. Assumes nothing.
-use Prim.Native.Nat.{ℕ, _≤_, _*_, _+_}
+use Prim.Native.Nat.{ℕ, _≤_}
 use mathlib.Core.Path.{_≡_}
 use mathlib.Core.Bool.{Bool, true, false, cond, _&&_, not}
 use mathlib.Core.List.{List, [], _++_}

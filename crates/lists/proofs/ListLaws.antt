@@ -109,7 +109,8 @@ pub drop-replicate : (n a : ℕ) → drop n (replicate (suc n) a) ≡ a ∷ []
 drop-replicate zero a = refl
 drop-replicate (suc n) a = drop-replicate n a
 
-pub take-same : {A : Type 0} (d : A) (n : ℕ) (xs ys : List A) → n ≤ length xs → n ≤ length ys → ((i : ℕ) → i < n → getD xs i d ≡ getD ys i d)
+pub take-same : {A : Type 0} (d : A) (n : ℕ) (xs ys : List A) → n ≤ length xs → n ≤ length ys
+    → ((i : ℕ) → i < n → getD xs i d ≡ getD ys i d)
     → take n xs ≡ take n ys
 take-same d zero xs ys a b e = refl
 take-same d (suc n) [] ys a b e = absurd (not-suc-le-zero a)

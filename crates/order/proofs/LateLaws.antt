@@ -9,7 +9,7 @@ use mathlib.Core.Logic.{⊎-elim}
 use mathlib.Core.Path.{ap, _∙_, _≡_, ap₂, sym}
 use native.Mathlib.Decide.{decLe}
 use native.Mathlib.Omega.{arith}
-use Rattle.order.proofs.GrowLaws.{entry-ready, entry-none}
+use Rattle.order.proofs.RunLaws.{entry-ready, entry-none}
 use Rattle.order.proofs.LevelLaws.{AtLevel, time-of, counted-value, Cut, equation, off-time, of-replica, by-time-more, matches, stamped-times, one-level, counted-bound, status}
 use Rattle.order.specs.Levels.{level, nextOf, entry}
 use Rattle.rules.proofs.AppendLaws.{closed-more}

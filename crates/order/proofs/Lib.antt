@@ -1,6 +1,7 @@
 pub mod LevelLaws
 pub mod LastLaws
 pub mod GrowLaws
+pub mod RunLaws
 pub mod OnceLaws
 pub mod NodeLaws
 pub mod DepthLaws

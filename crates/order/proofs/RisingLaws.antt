@@ -17,10 +17,10 @@ use Rattle.rules.specs.Replay.{opsWithin, addedIn}
 use Rattle.lists.proofs.FilterLaws.{filter-append}
 use Rattle.rules.proofs.StructureLaws.{count-held, held-in, GoodLog, good-ops}
 use Rattle.lists.proofs.BoolLaws.{never}
-use Rattle.rules.proofs.TreeLaws.{Valid, slot-below, slot-injective}
+use Rattle.rules.proofs.SlotLaws.{Valid, slot-below, slot-injective}
 use Rattle.lists.proofs.NumberLaws.{pigeonhole}
 use Rattle.order.proofs.LevelLaws.{Cut}
-use Rattle.order.proofs.GrowLaws.{names-add}
+use Rattle.rules.proofs.KnownLaws.{names-add}
 use Rattle.lists.proofs.MemberLaws.{isIn-cases, isIn-filter, isIn-at, isIn-concat, isIn-cons, isIn-here, isIn-there}
 
 ---- rising numbers

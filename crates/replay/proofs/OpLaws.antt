@@ -12,8 +12,9 @@ use Rattle.rules.specs.Op.{vectorOf, kindOf, parentOf, nodeNumber, isAdd, nodeO
 use Rattle.rules.specs.Tree.{slotOf, slot}
 use Rattle.rules.specs.Replay.{outcomeOf, outcomeSlot, step}
 use Rattle.rules.specs.File.{opAt, logOf}
-use Rattle.rules.proofs.TreeLaws.{slot-below}
-use Rattle.order.proofs.GrowLaws.{names-node, known-reads, names-add}
+use Rattle.rules.proofs.SlotLaws.{slot-below}
+use Rattle.rules.proofs.KnownLaws.{names-node, known-reads}
+use Rattle.rules.proofs.KnownLaws.{names-add}
 use Rattle.oplog.proofs.FieldLaws.{small}
 use Rattle.replay.specs.Tables.{InFile, stampedAt, outcomeBy, tables, hangs, moves}
 use Rattle.replay.proofs.HeldLaws.{spot, held-op}

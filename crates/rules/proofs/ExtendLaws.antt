@@ -1,4 +1,5 @@
--- One fact for a part and for the whole: two logs that hold the same within a closed cut replay it alike. A log that holds more is one case,
+-- One fact for a part and for the whole: two logs that hold the same within a closed cut replay it alike. A log that holds more is one
+-- case,
 -- two logs that agree are another.
 use Prim.Native.Nat.{ℕ, suc, zero, _≤_, _+_, _-_}
 use borrow.Author.Tests.{le-leb}
@@ -57,7 +58,8 @@ module _ (log more : Log) (v : Vector) (a : Alike log more v) where
 
 module _ (log more : Log) (ops : HeldOps log) where
   -- the vector of an op within the cut
-  pub inner-alike : (v : Vector) → Alike log more v → (s q : ℕ) → 1 ≤ s → s ≤ 8 → 1 ≤ q → q ≤ countIn v s → Alike log more (vectorOf (opAt log s q))
+  pub inner-alike : (v : Vector) → Alike log more v → (s q : ℕ) → 1 ≤ s → s ≤ 8 → 1 ≤ q → q ≤ countIn v s
+      → Alike log more (vectorOf (opAt log s q))
   inner-alike v a s q l u lq uq =
       let x = ops s q l u lq (omega (arith, held-in log v (a .here) s l u)) in
       let le : Le (vectorOf (opAt log s q)) v = counted-le log ops v (a .here) (a .is-closed) s q l u lq uq in
@@ -72,7 +74,8 @@ module _ (log more : Log) (ops : HeldOps log) where
   unfolding timestampIn
   time-alike zero r a = refl
   time-alike (suc k) r a =
-      rw (within-alike log more (vectorOf r) a) (ap (λ xs. 1 + greatest xs) (map-within (timestampIn k more) (timestampIn k log) log (vectorOf r) (λ s q l u lq uq.
+      rw (within-alike log more (vectorOf r) a) (ap (λ xs. 1 + greatest xs) (map-within (timestampIn k more) (timestampIn k log) log
+      (vectorOf r) (λ s q l u lq uq.
       time-alike k (opAt log s q) (inner-alike (vectorOf r) a s q l u lq uq))))
 
   pub timestamp-alike : (r : Op) → Alike log more (vectorOf r) → timestamp more r ≡ timestamp log r

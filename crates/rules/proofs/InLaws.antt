@@ -37,7 +37,8 @@ op-in log h s q l u lq uq = let x = h s q l u lq uq in record {
 
 ---- one op more
 
-module _ (log : Log) (r : Op) (eight : length log ≡ 8) (lo : 1 ≤ replicaOf r) (hi : replicaOf r ≤ 8) (next : ownCount r ≡ length (opsOf log (replicaOf r))) where
+module _ (log : Log) (r : Op) (eight : length log ≡ 8) (lo : 1 ≤ replicaOf r) (hi : replicaOf r ≤ 8)
+    (next : ownCount r ≡ length (opsOf log (replicaOf r))) where
   pub count-new : countIn (countsOf (append log r)) (replicaOf r) ≡ length (opsOf log (replicaOf r)) + 1
   count-new = rw (count-held, ops-same log r eight lo hi, length-append)
 
@@ -58,7 +59,12 @@ module _ (log : Log) (r : Op) (eight : length log ≡ 8) (lo : 1 ≤ replicaOf r
       | yes l ↦ inl (old l)
       | no nl ↦ inr (last e nl)
     ]
-    | no ne ↦ inl (old (rw (count-held log (replicaOf x), ← ops-other log r eight lo hi (replicaOf x) (h .low) ne, ← count-held (append log r) (replicaOf x)) (h .here)))
+    | no ne ↦ inl (old (rw (
+      count-held log (replicaOf x),
+      ← ops-other log r eight lo hi (replicaOf x) (h .low) ne,
+      ← count-held
+          (append log r) (replicaOf x),
+    ) (h .here)))
   ]
     where
       old : seqOf x ≤ countIn (countsOf log) (replicaOf x) → OpIn log x
@@ -93,7 +99,8 @@ module _ (log : Log) (r : Op) (eight : length log ≡ 8) (lo : 1 ≤ replicaOf r
     ];
   }
     where
-      last : (s q : ℕ) → s ≡ replicaOf r → (q ≤ countIn (countsOf log) s → ⊥) → q ≤ countIn (countsOf (append log r)) s → opAt u s q ≡ opAt (append log r) s q
+      last : (s q : ℕ) → s ≡ replicaOf r → (q ≤ countIn (countsOf log) s → ⊥) → q ≤ countIn (countsOf (append log r)) s
+          → opAt u s q ≡ opAt (append log r) s q
       last s q e na uq =
           let a : q ≤ countIn (countsOf log) (replicaOf r) → ⊥ = rw e at na in
           let b : q ≤ countIn (countsOf (append log r)) (replicaOf r) = rw e at uq in

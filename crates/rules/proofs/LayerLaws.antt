@@ -53,7 +53,8 @@ module _ (T : Log → Op → Bool) (local : Local T) (log more : Log) (g : GoodL
       rw (x .ops s q l u lq uq) (layer-same (opAt log s q) (o .is-covered) (o .is-closed) ∙ h s q l u lq uq)
 
 -- one op more
-module _ (T : Log → Op → Bool) (local : Local T) (log : Log) (g : GoodLog log) (h : Every (T log) log) (r : Op) (lo : 1 ≤ replicaOf r) (hi : replicaOf r ≤ 8) (c : covered log (vectorOf r) ≡ true) (cl : closed log (vectorOf r) ≡ true) (t : T log r ≡ true) where
+module _ (T : Log → Op → Bool) (local : Local T) (log : Log) (g : GoodLog log) (h : Every (T log) log) (r : Op) (lo : 1 ≤ replicaOf r)
+    (hi : replicaOf r ≤ 8) (c : covered log (vectorOf r) ≡ true) (cl : closed log (vectorOf r) ≡ true) (t : T log r ≡ true) where
   more : Extends log (append log r)
   more = append-extends log r (g .eight) lo hi
 
@@ -66,7 +67,8 @@ module _ (T : Log → Op → Bool) (local : Local T) (log : Log) (g : GoodLog lo
           let d = rw (e, count-held, ops-same log r (g .eight) lo hi, length-append) at uq in
           let n = rw (e, count-held) at new in
           let k : q - 1 ≡ length (opsOf log (replicaOf r)) = omega arith in
-          rw (e, ops-same log r (g .eight) lo hi, k, getD-append-seam (opsOf log (replicaOf r)) r [] []) (layer-same T local log (append log r) g h more r c cl ∙ t)
+          rw (e, ops-same log r (g .eight) lo hi, k, getD-append-seam (opsOf log (replicaOf r)) r [] [])
+          (layer-same T local log (append log r) g h more r c cl ∙ t)
       | no ne ↦ absurd (new (rw (count-held, ← ops-other log r (g .eight) lo hi s l ne, ← count-held (append log r) s) uq))
     ]
   ]

@@ -13,5 +13,11 @@ pub mod InsertLaws
 pub mod OfferLaws
 pub mod IssueLaws
 pub mod PutOutLaws
+pub mod SlotLaws
+pub mod ClimbLaws
 pub mod TreeLaws
+pub mod CircleLaws
+pub mod KnownLaws
+pub mod StepLaws
+pub mod UnionLaws
 pub mod DecimalLaws

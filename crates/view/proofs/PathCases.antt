@@ -6,7 +6,7 @@ use mathlib.Core.Bool.{false, true}
 use mathlib.Core.List.{List}
 use mathlib.Core.Path.{_≡_}
 use native.Mathlib.Omega.{arith}
-use Rattle.order.proofs.GrowLaws.{parent-reads}
+use Rattle.rules.proofs.KnownLaws.{parent-reads}
 use Rattle.rules.proofs.SoundLaws.{sound-good}
 use Rattle.rules.specs.Answer.{accepted, refused, require}
 use Rattle.rules.specs.File.{countsOf, logOf, width}

@@ -9,9 +9,12 @@ use native.Mathlib.Decide.{ℕ-discrete, decLe}
 use native.Mathlib.Nat.{le-refl}
 use native.Mathlib.Omega.{arith}
 use Rattle.lists.proofs.BoolLaws.{fails, never, and-both}
-use Rattle.rules.proofs.TreeLaws.{up-same, Reaches, still-reaches, up-add, search-for, Valid, above-n, in-climb, climb-in, free-avoids, up, short}
+use Rattle.rules.proofs.TreeLaws.{up-same, still-reaches, above-n, free-avoids}
+use Rattle.rules.proofs.ClimbLaws.{Reaches, up-add, in-climb, climb-in, up, short}
+use Rattle.lists.proofs.NumberLaws.{search-for}
+use Rattle.rules.proofs.SlotLaws.{Valid}
 use Rattle.lists.specs.Lists.{isIn}
 use Rattle.rules.specs.Tree.{atOrBelow, slotOf, path, climb, slots}
 
 -- no root among the first i nodes of a way
 abbrev NoRoot : List ℕ → ℕ → ℕ → Type 0
