@@ -13,8 +13,7 @@ use Rattle.rules.specs.Tree.{slotOf, slot}
 use Rattle.rules.specs.Replay.{outcomeOf, outcomeSlot, step}
 use Rattle.rules.specs.File.{opAt, logOf}
 use Rattle.rules.proofs.SlotLaws.{slot-below}
-use Rattle.rules.proofs.KnownLaws.{names-node, known-reads}
-use Rattle.rules.proofs.KnownLaws.{names-add}
+use Rattle.rules.proofs.KnownLaws.{names-node, known-reads, names-add}
 use Rattle.oplog.proofs.FieldLaws.{small}
 use Rattle.replay.specs.Tables.{InFile, stampedAt, outcomeBy, tables, hangs, moves}
 use Rattle.replay.proofs.HeldLaws.{spot, held-op}

@@ -10,8 +10,7 @@ use mathlib.Core.Logic.{inl, inr, _⊎_}
 use mathlib.Core.Path.{ap, refl, sym, _∙_, _≡_}
 use native.Mathlib.Nat.{add-zero, le-of-suc-le-suc, not-suc-le-zero}
 use native.Mathlib.Omega.{arith}
-use Rattle.rules.proofs.KnownLaws.{Named, known-of, known-reads, named-valid}
-use Rattle.rules.proofs.KnownLaws.{names-add}
+use Rattle.rules.proofs.KnownLaws.{Named, known-of, known-reads, named-valid, names-add}
 use Rattle.order.proofs.NodeLaws.{added-is}
 use Rattle.order.proofs.TreeTheorem.{is-tree}
 use Rattle.replay.proofs.ClimbLaws.{parent-read}
