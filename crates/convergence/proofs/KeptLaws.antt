@@ -5,7 +5,7 @@ use mathlib.Core.List.{List, [], _∷_, _++_, foldl}
 use Prim.Native.Nat.{ℕ, _+_, _≤_, _<_}
 use native.Mathlib.Omega.{arith}
 use borrow.Author.Tests.{leb-false, le-leb}
-use lib.ListN.{length, take, drop, take-append-drop}
+use lib.ListN.{length, take, drop}
 use lib.Seq.{drop-at, take-at}
 use lib.Dec.{lit≤}
 use Rattle.rules.specs.Op.{Op, countIn, replicaOf, seqOf}
@@ -171,11 +171,6 @@ unfolding standing
 kept-standing x rest k =
     let g = kept-sound x k in
     rw (kept-front x k) (kept-file (logIn x) rest (x .held) g (kept-wide x k) (k .tracks) (k .once))
-
--- a buffer stands for itself: what lies past the file is its own
-pub standing-own : (x : Site) → standing x (drop (fileEnd width (x .buffer)) (x .buffer)) ≡ x
-unfolding standing fileIn
-standing-own x = rw (take-append-drop (fileEnd width (x .buffer)) (x .buffer))
 
 pub kept-filed : (x : Site) → Kept x → x .buffer ≡ filed (x .held) (x .buffer)
 unfolding filed

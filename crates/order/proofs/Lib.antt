@@ -12,3 +12,5 @@ pub mod PlacedLaws
 pub mod RisingLaws
 pub mod TourLaws
 pub mod PlacingLaws
+pub mod DecimalLaws
+pub mod ClaimTheorems

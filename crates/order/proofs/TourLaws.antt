@@ -32,7 +32,8 @@ use Rattle.order.proofs.NodeLaws.{added-is}
 use Rattle.order.proofs.DepthLaws.{depth-added}
 use Rattle.order.proofs.FuelLaws.{child-named}
 use Rattle.lists.proofs.MemberLaws.{isIn-filter, isIn-here, isIn-there, isIn-cons, isIn-concat, concat-isIn, filter-isIn, concat-length}
-use Rattle.order.proofs.RisingLaws.{Rising, rising-filter, added-rises, Distinct, distinct-concat, distinct-length}
+use Rattle.order.proofs.RisingLaws.{Rising, rising-filter, added-rises, distinct-concat, distinct-length}
+use Rattle.order.specs.Claims.{Distinct}
 use Rattle.lists.proofs.FilterLaws.{filter-length}
 
 module _ (log : Log) (good : GoodLog log) where

@@ -11,7 +11,7 @@ use lib.Seq.{drop-at}
 use Rattle.rules.specs.Op.{Op}
 use Rattle.rules.specs.File.{Log, countsOf, append, endOf, fileEnd, logOf, fileOf, appended}
 use Rattle.rules.specs.Answer.{Answer, accepted, require}
-use Rattle.rules.specs.Deliver.{admitAnswer, held, heldAnswer, deliverAnswer, deliverBuffer}
+use Rattle.rules.specs.Deliver.{admitAnswer, held, heldAnswer, deliverAnswer}
 use Rattle.rules.specs.Sound.{sound}
 use Rattle.rules.proofs.FileLaws.{WideLog, logOf-fileOf, file-end, length-file, counts-logOf}
 use Rattle.rules.proofs.AppendLaws.{wide-append, Admits, in-range, sum-append}
@@ -125,8 +125,3 @@ module _ (w : ℕ) (f : List ℕ) (r : Op) (n : ℕ) (h : Admitted w f r n) wher
   pub appended-sound : sound w (appended w f r) ≡ true
   unfolding appended
   appended-sound = sound-file w (append old r) rest sound-new wide-new
-
--- delivering keeps soundness
-pub deliver-sound : (w : ℕ) (f r : List ℕ) (n : ℕ) → deliverAnswer w f r ≡ accepted n → sound w (deliverBuffer w f r) ≡ true
-unfolding deliverBuffer
-deliver-sound w f r n e = rw e (appended-sound w f r n (admitted w f r n e))
