@@ -3,7 +3,7 @@ use mathlib.Core.Path.{_≡_, refl, sym}
 use mathlib.Core.Bool.{true, false}
 use Prim.Native.Nat.{ℕ}
 use Rattle.rules.specs.Answer.{Answer, refused, hadIt, done, accepted, ifAccepted}
-use Rattle.rules.proofs.BoolLaws.{never}
+use Rattle.lists.proofs.BoolLaws.{never}
 use Rattle.codec.specs.Answers.{isAccepted}
 
 module _ {A : Type 0} (new old : A) where

@@ -2,10 +2,10 @@
 use Prim.Native.Nat.{ℕ}
 use mathlib.Core.Bool.{Bool, true, false}
 use Rattle.rules.specs.Answer.{Answer, refused, hadIt, done, accepted}
-use Rattle.codec.specs.declared.answer.Answer as code
 use Rattle.codec.specs.declared.answer.Answer.the-variants.{Refused, HadIt, Done, Accepted}
 use Rattle.codec.specs.declared.answer.Refusal.{Refusal}
 use Rattle.codec.specs.declared.answer.Refusal.the-variants.{Unsound, Length, Malformed, Conflict, Early, NotClosed, Unknown, NoRoom, Exhausted, Cycle}
+use Rattle.codec.specs.declared.answer.Answer as code
 
 -- the document's number of each refusal
 abbrev pub numberOf : Refusal → ℕ

@@ -1,106 +1,198 @@
--- A walk through all ops with a marker: what is left of the test at a marker. Assumes nothing.
-use mathlib.Core.Path.{_≡_, sym, _∙_}
+-- A walk through all ops with a marker, in file order. E says something of replica s's op number q; what is left at a marker is what E says
+-- of the ops from there on. Assumes nothing.
+use mathlib.Core.Path.{_≡_, refl, sym, ap, _∙_}
 use mathlib.Core.Bool.{Bool, true, false, cond, _&&_, and-assoc}
-use mathlib.Core.List.{List}
-use Prim.Native.Nat.{ℕ, _+_, _*_, _-_, _≤_, _<_}
+use mathlib.Core.List.{List, [], _∷_, _++_, map}
+use Prim.Native.Nat.{ℕ, zero, suc, _+_, _*_, _-_, _≤_, _<_}
 use native.Mathlib.Omega.{arith}
-use lib.ListN.{length}
+use native.Mathlib.Numerals.{add-one}
+use lib.ListN.{length, getD}
 use lib.Dec.{leb}
-use native.Mathlib.Decide.{decLe}
-use borrow.Author.Tests.{le-leb, lt-leb, lt-ltb, le-ltb}
-use Rattle.rules.specs.Log.{Log, laid, countAt, opsOf, soundLog, soundOps, logOf, soundOp, opAt}
-use Rattle.rules.proofs.BoolLaws.{passFrom, pass-all, pass-turn, pass-end, and-true}
+use native.Mathlib.Decide.{decLe, ℕ-discrete}
+use borrow.Author.Tests.{leb-true, le-leb, lt-leb, lt-ltb, le-ltb}
+use Rattle.lists.specs.Lists.{upFrom, concat, all}
+use Rattle.rules.specs.Op.{Op, replicas}
+use Rattle.rules.specs.File.{Log, countAt, opsOf, logOf, opAt}
+use Rattle.rules.specs.Log.{laid, soundLog, soundOps, soundOp}
+use Rattle.lists.proofs.RangeLaws.{map-getD, map-upFrom}
+use Rattle.rules.proofs.FileLaws.{log-eta}
+use Rattle.rules.proofs.ReplicaLaws.{all-alike, map-replicas}
 use Rattle.rules.proofs.StructureLaws.{count-held, laid-reads}
 use Rattle.oplog.specs.declared.marker.Marker.{Marker}
-use Rattle.oplog.specs.Spots.{nextOf}
-use Rattle.oplog.proofs.TestLaws.{opsFrom, ops-all, ops-end, ops-turn}
+use Rattle.oplog.specs.Spots.{Spot, nextOf}
 use Rattle.oplog.proofs.FieldLaws.{counts-in}
 
-module _ (log : Log) where
-  -- the ops of a replica pass
-  rowPasses : ℕ → Bool
-  rowPasses s = soundOps log s 1 (opsOf log s)
+-- the op passes all tests; every test passes
+abbrev pub soundAt : Log → ℕ → ℕ → Bool
+soundAt log s q = soundOp log s q (opAt log s q)
 
-  -- the ops of replica s from q on, and those of the replicas above
-  pub remaining : ℕ → ℕ → Bool
-  remaining s q = cond (leb s 8) (opsFrom log s (q - 1) && passFrom rowPasses s) true
+abbrev pub every : List Bool → Bool
+every bs = all (λ b. b) bs
 
-  rows : (s : ℕ) → s ≤ 8 → passFrom rowPasses s ≡ remaining (s + 1) 1
-  unfolding remaining rowPasses
-  rows s h = elim (decLe (s + 1) 8) [
-    | yes l ↦ rw (le-leb (s + 1) 8 l, ← ops-all log (s + 1), pass-turn rowPasses s (omega arith))
-    | no l ↦ rw (lt-leb (s + 1) 8 (omega arith), pass-end rowPasses s (omega arith))
+module _ {A : Type 0} (log : Log) (E : ℕ → ℕ → A) where
+  -- the ops of replica s from number q on; those of the replicas above it
+  row : ℕ → ℕ → List A
+  row s q = map (E s) (upFrom q (length (opsOf log s) + 1 - q))
+
+  above : ℕ → List A
+  above s = concat (map (λ r. row r 1) (upFrom (s + 1) (8 - s)))
+
+  pub left : ℕ → ℕ → List A
+  left s q = cond (leb s 8) (row s q ++ above s) []
+
+  pub left-end : (s q : ℕ) → 8 < s → left s q ≡ []
+  unfolding left
+  left-end s q h = rw (lt-leb s 8 h)
+
+  above-next : (s : ℕ) → s ≤ 8 → above s ≡ left (s + 1) 1
+  unfolding above left upFrom concat
+  above-next s h = elim (decLe (s + 1) 8) [
+    | yes l ↦ let e : 8 - s ≡ suc (8 - (s + 1)) = omega arith in rw (le-leb (s + 1) 8 l, e, ← add-one (s + 1))
+    | no l ↦ let e : 8 - s ≡ 0 = omega arith in rw (lt-leb (s + 1) 8 (omega arith), e)
   ]
 
-  pub remaining-first : soundLog log ≡ remaining 1 1
-  unfolding soundLog rowPasses
-  remaining-first = pass-all rowPasses ∙ rows 0 (omega arith)
-
-  pub remaining-end : (s q : ℕ) → 8 < s → remaining s q ≡ true
-  unfolding remaining
-  remaining-end s q h = rw (lt-leb s 8 h)
+  left-first : concat (map (λ s. row s 1) replicas) ≡ left 1 1
+  unfolding replicas above
+  left-first = above-next 0 (omega arith)
 
   module _ (s q : ℕ) (h : s ≤ 8) (lq : 1 ≤ q) where
-    turn-at : q ≤ length (opsOf log s) → opsFrom log s (q - 1) ≡ (soundOp log s q (opAt log s q) && opsFrom log s q)
-    turn-at u =
-        let e : q - 1 + 1 ≡ q = omega arith in
-        rw e at (ops-turn log s (q - 1) (omega arith))
+    left-more : q < length (opsOf log s) → left s q ≡ E s q ∷ left s (q + 1)
+    unfolding left row upFrom
+    left-more u =
+        let e : length (opsOf log s) + 1 - q ≡ suc (length (opsOf log s) + 1 - (q + 1)) = omega arith in
+        rw (le-leb s 8 h, e, ← add-one q)
 
-    pub remaining-fail : q ≤ length (opsOf log s) → soundOp log s q (opAt log s q) ≡ false → remaining s q ≡ false
-    unfolding remaining
-    remaining-fail u e = rw (le-leb s 8 h, turn-at u, e)
+    left-last : q ≡ length (opsOf log s) → left s q ≡ E s q ∷ left (s + 1) 1
+    unfolding left row upFrom
+    left-last u =
+        let e : length (opsOf log s) + 1 - q ≡ suc zero = omega arith in
+        rw (← above-next s h, le-leb s 8 h, e)
 
-    pub remaining-more : q < length (opsOf log s) → remaining s q ≡ (soundOp log s q (opAt log s q) && remaining s (q + 1))
-    unfolding remaining
-    remaining-more u =
-        let e : q + 1 - 1 ≡ q = omega arith in
-        rw (le-leb s 8 h, turn-at (omega arith), e, and-assoc)
+    left-none : length (opsOf log s) < q → left s q ≡ left (s + 1) 1
+    unfolding left row upFrom
+    left-none u =
+        let e : length (opsOf log s) + 1 - q ≡ 0 = omega arith in
+        rw (← above-next s h, le-leb s 8 h, e)
 
-    pub remaining-last : length (opsOf log s) ≤ q → remaining s q ≡ (cond (leb q (length (opsOf log s))) (soundOp log s q (opAt log s q)) true && remaining (s + 1) 1)
-    unfolding remaining
-    remaining-last u = elim (decLe q (length (opsOf log s))) [
-      | yes l ↦ rw (le-leb s 8 h, le-leb q (length (opsOf log s)) l, turn-at l, ops-end log s q u, and-true, rows s h)
-      | no l ↦ rw (le-leb s 8 h, lt-leb q (length (opsOf log s)) (omega arith), ops-end log s (q - 1) (omega arith), rows s h)
-    ]
+---- a turn of the walk
 
--- what a turn of the walk leaves, where the op at the marker passes or is not there
-pub record Turn (log : Log) (m m′ : Marker) : Type 0 where
-  pub low : 1 ≤ m′ .sequence
-  pub high : m′ .sequence ≤ 255
-  pub from : 1 ≤ m′ .replica
-  pub to : m′ .replica ≤ 9
-  pub same : remaining log (m .replica) (m .sequence) ≡ remaining log (m′ .replica) (m′ .sequence)
-  pub less : (10 - m′ .replica) * 256 - m′ .sequence < (10 - m .replica) * 256 - m .sequence
+-- a marker on its way, or past the last op
+pub record Walk (m : Marker) : Type 0 where
+  pub first : 1 ≤ m .sequence
+  pub last : m .sequence ≤ 255
+  pub low : 1 ≤ m .replica
+  pub high : m .replica ≤ 9
 
-module _ (w : ℕ) (f : List ℕ) (good : laid w f ≡ true) (m m′ : Marker) (l : 1 ≤ m .replica) (u : m .replica ≤ 8) (lo : 1 ≤ m .sequence) (hi : m .sequence ≤ 255) where
-  held-count : length (opsOf (logOf w f) (m .replica)) ≡ countAt f (m .replica)
-  held-count = sym (count-held (logOf w f) (m .replica)) ∙ counts-in w f (m .replica) l u
+-- falls with every step
+abbrev pub togo : Marker → ℕ
+togo m = (10 - m .replica) * 256 - m .sequence
 
-  pub turn : cond (leb (m .sequence) (countAt f (m .replica))) (soundOp (logOf w f) (m .replica) (m .sequence) (opAt (logOf w f) (m .replica) (m .sequence))) true ≡ true → m′ ≡ nextOf f m → Turn (logOf w f) m m′
-  turn t e =
+pub record Onward (m m′ : Marker) : Type 0 where
+  pub at : Walk m′
+  pub less : togo m′ < togo m
+
+module _ (w : ℕ) (f : List ℕ) (good : laid w f ≡ true) (m m′ : Marker) (e : m′ ≡ nextOf f m) (at : Walk m) (u : m .replica ≤ 8) where
+  abbrev isHeld : Bool
+  isHeld = leb (m .sequence) (countAt f (m .replica))
+
+  -- the op at the marker is there
+  pub spot-at : 14 ≤ w → isHeld ≡ true → Spot w f (m .replica) (m .sequence)
+  spot-at h t = record {
+    wide = h;
+    is-laid = good;
+    low = at .low;
+    high = u;
+    first = at .first;
+    last = leb-true _ _ t;
+  }
+
+  pub onward : Onward m m′
+  onward = rw e (elim (decLe (m .sequence + 1) (countAt f (m .replica))) [
+    | yes h ↦
+        let k : countAt f (m .replica) ≤ 255 = laid-reads w f good .counts (m .replica) (at .low) u in
+        rw (lt-ltb (m .sequence) (countAt f (m .replica)) (omega arith)) (record {
+          at = record { first = omega arith; last = omega arith; low = at .low; high = omega arith };
+          less = omega (arith, at);
+        })
+    | no h ↦ rw (le-ltb (m .sequence) (countAt f (m .replica)) (omega arith)) (record {
+      at = record { first = omega arith; last = omega arith; low = omega arith; high = omega arith };
+      less = omega (arith, at);
+    })
+  ])
+
+  -- the op at the marker comes first, if it is there
+  pub left-next : {A : Type 0} (E : ℕ → ℕ → A) → let rest = left (logOf w f) E (m′ .replica) (m′ .sequence) in
+      left (logOf w f) E (m .replica) (m .sequence) ≡ cond isHeld (E (m .replica) (m .sequence) ∷ rest) rest
+  left-next E =
       let s : ℕ = m .replica in
       let q : ℕ = m .sequence in
-      let n = held-count in
-      rw e (elim (decLe (q + 1) (countAt f s)) [
-        | yes h ↦
-            let k : countAt f s ≤ 255 = laid-reads w f good .counts s l u in
-            let le : q ≤ countAt f s = omega arith in
-            rw (lt-ltb q (countAt f s) (omega arith)) (record {
-              low = omega arith;
-              high = omega arith;
-              from = l;
-              to = omega arith;
-              same = remaining-more (logOf w f) s q u lo (omega arith) ∙ rw (rw (le-leb q (countAt f s) le) at t);
-              less = omega arith;
-            })
-        | no h ↦
-            let le : countAt f s ≤ q = omega arith in
-            rw (le-ltb q (countAt f s) le) (record {
-              low = omega arith;
-              high = omega arith;
-              from = omega arith;
-              to = omega arith;
-              same = remaining-last (logOf w f) s q u lo (omega arith) ∙ rw (n, t);
-              less = omega arith;
-            })
+      let n : ℕ = countAt f s in
+      let l : length (opsOf (logOf w f) s) ≡ n = sym (count-held (logOf w f) s) ∙ counts-in w f s (at .low) u in
+      rw e (elim (decLe (q + 1) n) [
+        | yes h ↦ rw (lt-ltb q n (omega arith), le-leb q n (omega arith)) (left-more (logOf w f) E s q u (at .first) (omega arith))
+        | no h ↦ rw (le-ltb q n (omega arith)) (elim (ℕ-discrete q n) [
+          | yes z ↦ rw (le-leb q n (omega arith)) (left-last (logOf w f) E s q u (at .first) (omega arith))
+          | no nz ↦ rw (lt-leb q n (omega arith)) (left-none (logOf w f) E s q u (at .first) (omega arith))
+        ])
       ])
+
+  pub tests-next : let log = logOf w f in every (left log (soundAt log) (m .replica) (m .sequence))
+      ≡ (cond isHeld (soundAt log (m .replica) (m .sequence)) true && every (left log (soundAt log) (m′ .replica) (m′ .sequence)))
+  unfolding all
+  tests-next = ap every (left-next (soundAt (logOf w f))) ∙ go isHeld _ _
+    where
+      go : (h b : Bool) (bs : List Bool) → every (cond h (b ∷ bs) bs) ≡ (cond h b true && every bs)
+      go true b bs = refl
+      go false b bs = refl
+
+---- what the walk of a whole log says
+
+-- all ops
+ops-row : (log : Log) (s : ℕ) → row log (opAt log) s 1 ≡ opsOf log s
+unfolding row opAt
+ops-row log s =
+    let n : length (opsOf log s) + 1 - 1 ≡ length (opsOf log s) = omega arith in
+    rw n (map-getD [] (opsOf log s) 1)
+
+pub left-ops : (log : Log) → length log ≡ 8 → concat log ≡ left log (opAt log) 1 1
+left-ops log e =
+    sym (ap concat (map-replicas (λ s. row log (opAt log) s 1) (opsOf log) (λ s l u. ops-row log s) ∙ log-eta log e))
+    ∙ left-first log (opAt log)
+
+-- the tests of all ops
+every-append : (bs cs : List Bool) → every (bs ++ cs) ≡ (every bs && every cs)
+unfolding all
+every-append [] cs = refl
+every-append (b ∷ bs) cs = rw (every-append bs cs) (sym (and-assoc b (every bs) (every cs)))
+
+every-concat : (F : ℕ → List Bool) (ss : List ℕ) → every (concat (map F ss)) ≡ all (λ s. every (F s)) ss
+unfolding all concat
+every-concat F [] = refl
+every-concat F (s ∷ ss) = rw (every-append (F s) (concat (map F ss)), every-concat F ss)
+
+module _ (log : Log) (s : ℕ) where
+  abbrev testIn : List Op → ℕ → ℕ → Bool
+  testIn rs q i = soundOp log s i (getD rs (i - q) [])
+
+  tests : (q : ℕ) (rs : List Op) → soundOps log s q rs ≡ every (map (testIn rs q) (upFrom q (length rs)))
+  unfolding soundOps upFrom all
+  tests q [] = refl
+  tests q (r ∷ rs) =
+      let z : q - q ≡ 0 = omega arith in
+      rw (z, tests (suc q) rs, map-upFrom (testIn (r ∷ rs) q) (testIn rs (suc q)) (length rs) (suc q) (λ i l u. next i l))
+    where
+      next : (i : ℕ) → suc q ≤ i → testIn (r ∷ rs) q i ≡ testIn rs (suc q) i
+      next i l = let e : i - q ≡ suc (i - suc q) = omega arith in rw e
+
+sound-row : (log : Log) (s : ℕ) → soundOps log s 1 (opsOf log s) ≡ every (row log (soundAt log) s 1)
+unfolding row opAt
+sound-row log s =
+    let n : length (opsOf log s) + 1 - 1 ≡ length (opsOf log s) = omega arith in
+    rw n (tests log s 1 (opsOf log s))
+
+pub left-sound : (log : Log) → soundLog log ≡ every (left log (soundAt log) 1 1)
+unfolding soundLog
+left-sound log =
+    all-alike _ _ (λ s l u. sound-row log s)
+    ∙ sym (every-concat (λ s. row log (soundAt log) s 1) replicas)
+    ∙ ap every (left-first log (soundAt log))

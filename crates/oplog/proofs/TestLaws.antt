@@ -1,19 +1,18 @@
 -- The tests of an op against a log, as the code makes them. Assumes nothing.
-use mathlib.Core.Path.{_≡_, refl, sym, ap}
-use mathlib.Core.Bool.{Bool, true, false, _&&_, not}
-use mathlib.Core.List.{[]}
-use Prim.Native.Nat.{ℕ, _+_, _*_, _-_, _/_, _%_, _≤_, _<_}
+use mathlib.Core.Path.{_≡_, refl}
+use mathlib.Core.Logic.{_⊎_, ⊎-elim}
+use mathlib.Core.Bool.{true, false, _&&_}
+use Prim.Native.Nat.{ℕ, _+_, _*_, _/_, _%_, _≤_, _<_}
 use native.Mathlib.Omega.{arith}
-use lib.ListN.{length, drop, getD, drop-of-length-le}
 use lib.Dec.{eqb}
 use borrow.Author.Tests.{le-leb, lt-leb, lt-ltb, eq-eqb, ne-eqb}
-use native.Mathlib.Numerals.{add-one}
-use lib.Seq.{drop-cons}
-use Rattle.rules.specs.Log.{Log, closed, soundOps, opAt, opsOf, closedAt, known, knownParent, soundOp, nodeWithin, within, namesKnown, covered}
+use Rattle.rules.specs.File.{Log, opAt, within}
+use Rattle.rules.specs.Log.{closed, closedAt, known, knownParent, soundOp, nodeWithin, namesKnown, covered}
 use Rattle.rules.specs.Op.{Op, Vector, replicaOf, countIn, seqOf, isReplica, ownCount, isAdd, vectorOf, wellFormed, isRemove, kindOf, nodeNumber, parentOf, nodeOf}
 use Rattle.codec.specs.Read.{kindFits}
-use Rattle.rules.proofs.BoolLaws.{passFrom, and-true, pass-all}
-use Rattle.oplog.specs.Spots.{namesBy}
+use Rattle.rules.proofs.ReplicaLaws.{passFrom, pass-all}
+use Rattle.lists.proofs.BoolLaws.{and-true}
+use Rattle.oplog.specs.Spots.{namesBy, moveNames}
 
 ---- known nodes
 
@@ -56,9 +55,13 @@ module _ (log : Log) (v : Vector) (kind node parent own : ℕ) where
   unfolding namesBy
   names-remove e = rw e (and-true _)
 
-  pub names-move : (kind ≡ 1 → ⊥) → (kind ≡ 2 → ⊥) → namesBy log v kind node parent own ≡ (known log v node && (knownParent log v parent && not (eqb parent node)))
-  unfolding namesBy
-  names-move a b = rw (ne-eqb kind 1 a, ne-eqb kind 2 b)
+  -- any other kind is read as a move
+  pub names-move : (kind < 1) ⊎ (2 < kind) → namesBy log v kind node parent own ≡ moveNames log v node parent
+  unfolding namesBy moveNames
+  names-move h =
+      let a : kind ≡ 1 → ⊥ = ⊎-elim (λ l e. omega arith) (λ l e. omega arith) h in
+      let b : kind ≡ 2 → ⊥ = ⊎-elim (λ l e. omega arith) (λ l e. omega arith) h in
+      rw (ne-eqb kind 1 a, ne-eqb kind 2 b)
 
 ---- closed vectors
 
@@ -87,23 +90,18 @@ module _ (log : Log) (s q : ℕ) (r : Op) where
     unfolding soundOp seqOf ownCount
     sound-number ne = rw (e, eq-eqb s s refl, ne-eqb (countIn (vectorOf r) s + 1) q ne)
 
-    pub sound-rest : countIn (vectorOf r) s + 1 ≡ q → 1 ≤ s → s ≤ 8 → q ≤ 255 → soundOp log s q r ≡ (((kindFits (kindOf r) (parentOf r) && covered log (vectorOf r)) && closed log (vectorOf r)) && namesBy log (vectorOf r) (kindOf r) (nodeOf r) (parentOf r) (256 * s + q))
+    pub sound-rest : countIn (vectorOf r) s + 1 ≡ q → 1 ≤ s → s ≤ 8 → q ≤ 255
+        → soundOp log s q r ≡ (((kindFits (kindOf r) (parentOf r) && covered log (vectorOf r)) && closed log (vectorOf r))
+        && namesBy log (vectorOf r) (kindOf r) (nodeOf r) (parentOf r) (256 * s + q))
     unfolding soundOp seqOf ownCount wellFormed isReplica isRemove namesKnown isAdd nodeNumber namesBy
-    sound-rest n l u h = rw (e, eq-eqb s s refl, n, eq-eqb q q refl, le-leb 1 s l, le-leb s 8 u, lt-ltb (countIn (vectorOf r) s) 255 (omega arith), and-true)
-
----- the ops of a replica
-
-unfoldable pub opsFrom : Log → ℕ → ℕ → Bool
-opsFrom log s i = soundOps log s (i + 1) (drop i (opsOf log s))
-
-pub ops-all : (log : Log) (s : ℕ) → soundOps log s 1 (opsOf log s) ≡ opsFrom log s 0
-unfolding opsFrom
-ops-all log s = refl
-
-pub ops-turn : (log : Log) (s i : ℕ) → i < length (opsOf log s) → opsFrom log s i ≡ (soundOp log s (i + 1) (opAt log s (i + 1)) && opsFrom log s (i + 1))
-unfolding opsFrom soundOps opAt
-ops-turn log s i h = let e : i + 1 - 1 ≡ i = omega arith in rw (e, drop-cons (opsOf log s) i [] h, ← add-one (i + 1)) (ap (λ (j : ℕ). soundOp log s (i + 1) (getD (opsOf log s) i []) && soundOps log s (i + 1 + 1) (drop j (opsOf log s))) (sym (add-one i)))
-
-pub ops-end : (log : Log) (s i : ℕ) → length (opsOf log s) ≤ i → opsFrom log s i ≡ true
-unfolding opsFrom soundOps
-ops-end log s i h = rw (drop-of-length-le (opsOf log s) h)
+    sound-rest n l u h = rw (
+      e,
+      eq-eqb s s refl,
+      n,
+      eq-eqb q q refl,
+      le-leb 1 s l,
+      le-leb s 8 u,
+      lt-ltb (countIn (vectorOf r) s) 255
+          (omega arith),
+      and-true,
+    )

@@ -6,7 +6,8 @@ use mathlib.Core.List.{List, _++_}
 use lib.ListN.{take, drop}
 use lib.Dec.{eqb, ltb}
 use Rattle.rules.specs.Op.{Vector, countIn}
-use Rattle.rules.specs.Log.{Log, countAt, headerCounts, startOf, laid, known, knownParent}
+use Rattle.rules.specs.File.{Log, countAt, headerCounts, startOf}
+use Rattle.rules.specs.Log.{laid, known, knownParent}
 use Rattle.oplog.specs.declared.marker.Marker.{Marker}
 
 -- where the body of replica s's op q starts
@@ -33,6 +34,10 @@ unfoldable pub namesBy : Log → Vector → ℕ → ℕ → ℕ → ℕ → Bool
 namesBy log v kind node parent own =
     cond (eqb kind 1) (knownParent log v parent && eqb node own)
     (known log v node && (eqb kind 2 || knownParent log v parent && not (eqb parent node)))
+
+-- number 7 of a move: node and parent are known, and the parent is not the node
+unfoldable pub moveNames : Log → Vector → ℕ → ℕ → Bool
+moveNames log v node parent = known log v node && (knownParent log v parent && not (eqb parent node))
 
 -- the next marker in file order
 abbrev pub nextOf : List ℕ → Marker → Marker

@@ -11,11 +11,11 @@ use codec::within;
 use codec::word_at;
 ghost use mathlib.Core.Path.{_≡_};
 ghost use mathlib.Core.Bool.{true};
-ghost use Prim.Native.Nat.{ℕ, _+_, _-_, _*_, _≤_, _<_};
-ghost use lib.ListN.{length};
+ghost use Prim.Native.Nat.{_≤_};
+ghost use Rattle.rules.specs.File.{logOf, opAt, headerCounts};
+ghost use Rattle.rules.specs.Log.{known, knownParent, closedAt, closed, soundOp, soundLog, laid};
+ghost use Rattle.oplog.specs.Spots.{Spot, Counted, moveNames, namesBy};
 ghost use Rattle.rules.specs.Log as log;
-ghost use Rattle.rules.specs.Log.{logOf, opAt, headerCounts, known, knownParent, closedAt, closed, soundOp, soundLog, laid};
-ghost use Rattle.oplog.specs.Spots.{Spot, Counted, namesBy};
 
 // Whether an add within the vector made the node.
 pub fn known_in(file: &[u8], v: [u8; 8], n: u16, width: usize) -> bool
@@ -51,7 +51,22 @@ pub fn known_parent(file: &[u8], v: [u8; 8], n: u16, width: usize) -> bool
     known_in(file, v, n, width)
 }
 
-// Whether what an op names is known (number 7).
+// Whether what a move names is known, and is not one node.
+fn move_known(file: &[u8], v: [u8; 8], node: u16, parent: u16, width: usize) -> bool
+    requires { ⌜ Counted width (now file) v ⌝ }
+    ensures { λ r. ⌜ r ≡ moveNames (logOf width (now (file .entry))) v node parent ⌝ }
+{
+    if !known_in(file, v, node, width) {
+        return false;
+    }
+    if !known_parent(file, v, parent, width) {
+        return false;
+    }
+    parent != node
+}
+
+// Whether what an op names is known (number 7). Number 3 is tested before, so no op with an invalid
+// kind gets here; the definition would read it as a move.
 pub fn names_known(
     file: &[u8],
     v: [u8; 8],
@@ -74,14 +89,11 @@ pub fn names_known(
         2 => {
             return known_in(file, v, node, width);
         }
-        0 | 3..=255 => {
-            if !known_in(file, v, node, width) {
-                return false;
-            }
-            if !known_parent(file, v, parent, width) {
-                return false;
-            }
-            return parent != node;
+        3 | 4 => {
+            return move_known(file, v, node, parent, width);
+        }
+        0 | 5..=255 => {
+            return move_known(file, v, node, parent, width);
         }
     }
 }

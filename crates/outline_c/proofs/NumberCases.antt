@@ -2,11 +2,9 @@
 use Prim.Native.Nat.{ℕ, _+_, _≤_}
 use borrow.Author.Needs.{needs}
 use lib.ListN.{length}
-use mathlib.Core.Bool.{Bool}
 use mathlib.Core.List.{List}
-use mathlib.Core.Path.{_≡_, ap, _∙_}
+use mathlib.Core.Path.{_≡_, ap}
 use Rattle.codec.specs.Answers.{answerOf, numberOf}
-use Rattle.codec.specs.declared.answer.Answer as code
 use Rattle.codec.specs.declared.answer.Answer.the-variants.{Refused, HadIt, Done, Accepted}
 use Rattle.codec.specs.declared.answer.Refusal.{Refusal}
 use Rattle.rules.specs.Answer.{Answer}
@@ -14,11 +12,12 @@ use Rattle.rules.specs.Deliver.{Result, make, deliver}
 use Rattle.rules.specs.Issue.{Issued, Request, issue}
 use Rattle.rules.specs.Judge.{Judgement, judge}
 use Rattle.rules.specs.Listing.{listing}
-use Rattle.rules.specs.Log.{width}
+use Rattle.rules.specs.File.{width}
 use Rattle.rules.specs.Path.{Written, pathCall}
 use Rattle.rules.specs.Views.{View}
 use Rattle.outline_c.specs.Number.{number, fits, ofResult, ofIssued, ofJudgement, ofWritten}
 use Rattle.outline_c.proofs.FitLaws.{make-fits, deliver-fits, issue-fits, judge-fits, path-fits, listing-fits, value-fits}
+use Rattle.codec.specs.declared.answer.Answer as code
 
 ---- the number of an answer
 

@@ -1,21 +1,23 @@
 -- The cases of delivering, as the code meets them. Assumes nothing.
-use mathlib.Core.Path.{_≡_, refl, sym, ap, _∙_}
+use mathlib.Core.Path.{_≡_, sym, ap, _∙_}
 use mathlib.Core.Bool.{Bool, true, false, cond}
 use mathlib.Core.List.{List}
-use Prim.Native.Nat.{ℕ, _+_, _≤_, _<_}
+use Prim.Native.Nat.{ℕ, _≤_}
 use native.Mathlib.Omega.{arith}
 use lib.ListN.{length, take, drop}
 use lib.Dec.{leb, eqb}
 use borrow.Author.Needs.{needs}
 use borrow.Author.Tests.{eq-eqb, leb-true}
 use Rattle.rules.specs.Answer.{Answer, hadIt, ifAccepted, refused, require}
-use Rattle.rules.specs.Bytes.{same}
+use Rattle.lists.specs.Lists.{same}
 use Rattle.rules.specs.Deliver.{Result, held, heldAnswer, admitAnswer, deliver, deliverAnswer, deliverBuffer}
-use Rattle.rules.specs.Log.{width, appended, closed, countsOf, covered, headerCounts, logOf, namesKnown, opAt, within}
+use Rattle.rules.specs.File.{width, appended, countsOf, headerCounts, logOf, opAt, within}
+use Rattle.rules.specs.Log.{closed, covered, namesKnown}
 use Rattle.rules.specs.Op.{Vector, countIn, isAdd, isRemove, isReplica, replicaOf, seqOf, vectorOf, wellFormed}
 use Rattle.rules.specs.Sound.{sound}
 use Rattle.rules.proofs.AppendLaws.{replica-formed, seq-next, seq-positive}
-use Rattle.rules.proofs.BoolLaws.{in-replicas, tested}
+use Rattle.rules.proofs.ReplicaLaws.{in-replicas}
+use Rattle.lists.proofs.BoolLaws.{tested}
 use Rattle.rules.proofs.DeliverLaws.{admitted}
 use Rattle.rules.proofs.FileLaws.{counts-logOf}
 use Rattle.rules.proofs.StructureLaws.{count-held}
@@ -30,7 +32,7 @@ use Rattle.codec.specs.declared.op.Read.{Read}
 use Rattle.codec.specs.declared.op.Read.the-variants.{Op, Refused}
 use Rattle.codec.proofs.AnswerLaws.{accepted-with, if-accepted, if-not-accepted}
 use Rattle.codec.proofs.ReadLaws.{reads}
-use Rattle.replica.specs.Adding.{lastTest, Acceptable, Tallied}
+use Rattle.replica.specs.Adding.{lastTest, Acceptable}
 use Rattle.replica.specs.Delivering.{namesIn, Readable, Again, Fresh}
 use Rattle.replica.proofs.SoundCases.{laid-of, tallied}
 

@@ -6,33 +6,34 @@ use Prim.Native.Nat.{ℕ, _+_, _≤_, _<_, _/_}
 use native.Mathlib.Omega.{arith}
 use lib.ListN.{length, take, drop}
 use lib.Seq.{take-at}
-use lib.Dec.{leb, ltb, eqb}
+use lib.Dec.{ltb, eqb}
 use borrow.Author.Needs.{needs}
 use borrow.Author.Tests.{leb-true, ltb-true, lt-ltb, le-ltb, lt-leb, le-leb}
 use Rattle.rules.specs.Answer.{Answer, refused, require}
 use Rattle.rules.specs.Bytes.{word}
-use Rattle.rules.specs.Issue as rules
-use Rattle.rules.specs.Issue.{Request, add, remove, move, Issued, issueAnswer, issueBuffer, issueOut, issued, moveKind, opBytes, requestClear, requestKnown}
-use Rattle.rules.specs.Log.{Log, width, appended, countsOf, headerCounts, known, knownParent, logOf, nodeWithin}
+use Rattle.rules.specs.Issue.{Request, add, remove, move, Issued, issueAnswer, issueBuffer, issueOut, issued, opBytes, requestClear, requestKnown}
+use Rattle.rules.specs.Tree.{moveKind, atOrBelow, depth}
+use Rattle.rules.specs.File.{Log, width, appended, countsOf, headerCounts, logOf}
+use Rattle.rules.specs.Log.{known, knownParent, nodeWithin}
 use Rattle.rules.specs.Op.{Vector, countIn, isReplica, nodeNumber, replicaOf}
 use Rattle.rules.specs.Replay.{parentsOf}
 use Rattle.rules.specs.Sound.{sound}
-use Rattle.rules.specs.Tree.{atOrBelow, depth}
-use Rattle.rules.proofs.BoolLaws.{tested}
+use Rattle.lists.proofs.BoolLaws.{tested}
 use Rattle.rules.proofs.FileLaws.{counts-logOf, length-counts}
 use Rattle.rules.proofs.SoundLaws.{sound-structural}
 use Rattle.codec.specs.Answers.{isAccepted, numberOf}
 use Rattle.codec.specs.declared.answer.Refusal.{Refusal}
 use Rattle.codec.specs.declared.answer.Refusal.the-variants.{Unknown, Exhausted, Cycle}
 use Rattle.codec.proofs.AnswerLaws.{if-accepted, if-not-accepted}
-use Rattle.replica.specs.Adding.{lastTest, Acceptable, Tallied}
-use Rattle.replica.specs.Issuing.{requestOf, bytesOf, movedIn, clearedOp, drafted, added, putOut, Lent, Ready, Writable, Named}
+use Rattle.replica.specs.Adding.{lastTest, Acceptable}
+use Rattle.replica.specs.Issuing.{requestOf, bytesOf, movedIn, clearedOp, drafted, withOp, putOut, Lent, Ready, Writable, KnownRequest}
 use Rattle.replica.specs.declared.request.Draft.{Draft}
 use Rattle.replica.specs.declared.request.Drafted.{Drafted}
 use Rattle.replica.specs.declared.request.Drafted.the-variants.{Op, Refused}
-use Rattle.replica.specs.declared.request.Request as code
 use Rattle.replica.specs.declared.request.Request.the-variants.{Add, Remove, Move}
 use Rattle.replica.proofs.SoundCases.{counted, has-room, tallied}
+use Rattle.rules.specs.Issue as rules
+use Rattle.replica.specs.declared.request.Request as code
 
 -- what a call hands back
 abbrev handed : Answer → (buffer out : List ℕ) → Issued
@@ -129,8 +130,8 @@ module _ (f : List ℕ) (s : ℕ) (q : Request) (v : Vector) (is : v ≡ headerC
     unfolding drafted
     unknown e = rw (counts-logOf width f, ← is, a, e)
 
-    pub named : sound width f ≡ true → isReplica s ≡ true → requestKnown (logOf width f) q ≡ true → Named f v s q
-    named b r e = record { tallied = tallied f b v is; is-replica = r; names = e }
+    pub known-request : sound width f ≡ true → isReplica s ≡ true → requestKnown (logOf width f) q ≡ true → KnownRequest f v s q
+    known-request b r e = record { tallied = tallied f b v is; is-replica = r; names = e }
 
     pub drafts :
         requestKnown (logOf width f) q ≡ true → (r : Drafted) → r ≡ clearedOp (logOf width f) s q →
@@ -164,7 +165,7 @@ module _ (f : List ℕ) (v : Vector) (e : v ≡ headerCounts f) (k s n p : ℕ) 
 
   pub all-added :
       (out : List ℕ) → t ≡ drop 14 out → (b : List ℕ) → b ≡ appended width f (take 14 o) →
-      (b, o) ≡ added f out (opBytes k s n p (headerCounts f))
+      (b, o) ≡ withOp f out (opBytes k s n p (headerCounts f))
   all-added out m b x = rw (x, written, ← e, w, m)
 
 ---- the last test, 8; a is what it says
@@ -178,7 +179,7 @@ module _ (f : List ℕ) (a : Answer) (is : a ≡ lastTest f) where
     pub writable : (room s : ℕ) → Ready f room s → Writable f room s
     writable room s r = record { ready = r; end = has-room f a is h }
 
-    pub put-added : (b o out op : List ℕ) → (b, o) ≡ added f out op → handed a b o ≡ putOut f out op
+    pub put-added : (b o out op : List ℕ) → (b, o) ≡ withOp f out op → handed a b o ≡ putOut f out op
     unfolding putOut
     put-added b o out op e =
         rw (← is, if-accepted (appended width f op) f a h, if-accepted (op ++ drop width out) out a h)
@@ -277,7 +278,7 @@ pub ruleset requests = (add-known, remove-known, move-known, node-unknown, paren
 
 pub ruleset moves = (upward, downward, move-cycle, move-op, move-now, cleared-move, move-names)
 
-pub ruleset drafting = (moves, add-op, remove-op, exhausted, unknown, named, drafts)
+pub ruleset drafting = (moves, add-op, remove-op, exhausted, unknown, known-request, drafts)
 
 pub ruleset issues = (acceptable, all-added, put-kept, writable, put-added, issue-refused, ready, issue-put, issue-unsound, issue-short, no-replica)
 

@@ -8,11 +8,11 @@ use borrow.Author.Needs.{needs}
 use borrow.Author.Tests.{le-leb, lt-leb}
 use Rattle.rules.specs.Answer.{Answer, done, refused, require}
 use Rattle.rules.specs.Judge.{Judgement, judgeAnswer, judge}
-use Rattle.rules.specs.Log.{width, logOf}
+use Rattle.rules.specs.File.{width, logOf}
 use Rattle.rules.specs.Replay.{parentsOf, outcomesOf}
 use Rattle.rules.specs.Sound.{sound}
 use Rattle.rules.specs.Tree.{slots}
-use Rattle.rules.proofs.BoolLaws.{tested}
+use Rattle.lists.proofs.BoolLaws.{tested}
 use Rattle.rules.proofs.SoundLaws.{sound-structural}
 
 -- what a call hands back

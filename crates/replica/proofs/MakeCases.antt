@@ -6,9 +6,9 @@ use lib.ListN.{length, replicate, drop}
 use borrow.Author.Needs.{needs}
 use borrow.Author.Tests.{le-leb, lt-leb}
 use Rattle.rules.specs.Answer.{Answer, accepted, refused, require}
-use Rattle.rules.specs.Bytes.{concat}
+use Rattle.lists.specs.Lists.{concat}
 use Rattle.rules.specs.Deliver.{Result, make, makeAnswer, makeBuffer}
-use Rattle.rules.specs.Log.{width, countsOf, emptyLog, fileOf, headerOf}
+use Rattle.rules.specs.File.{width, countsOf, emptyLog, fileOf, headerOf}
 
 empty-file : (w : ℕ) (t : List ℕ) → headerOf w (replicate 8 0) ++ t ≡ fileOf w emptyLog ++ t
 unfolding fileOf countsOf emptyLog concat

@@ -8,10 +8,12 @@ use lib.ListN.{length}
 use borrow.Author.Needs.{needs}
 use borrow.Author.Tests.{le-leb, lt-leb, leb-true}
 use Rattle.rules.specs.Answer.{Answer, accepted, refused, require}
-use Rattle.rules.specs.Log.{width, countAt, covered, fileEnd, headerCounts, laid, logOf, soundHeader, startOf}
+use Rattle.rules.specs.File.{width, countAt, fileEnd, headerCounts, logOf, startOf}
+use Rattle.rules.specs.Log.{covered, laid, soundHeader}
 use Rattle.rules.specs.Op.{Vector, replicaOf}
 use Rattle.rules.specs.Sound.{sound}
-use Rattle.rules.proofs.BoolLaws.{replica-low, replica-high, tested}
+use Rattle.rules.proofs.ReplicaLaws.{replica-low, replica-high}
+use Rattle.lists.proofs.BoolLaws.{tested}
 use Rattle.rules.proofs.DeliverLaws.{required}
 use Rattle.rules.proofs.FileLaws.{counts-logOf}
 use Rattle.rules.proofs.SoundLaws.{sound-structural, sound-laid}

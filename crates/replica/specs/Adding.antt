@@ -6,7 +6,7 @@ use mathlib.Core.List.{List}
 use lib.ListN.{length}
 use lib.Dec.{leb}
 use Rattle.rules.specs.Answer.{Answer, accepted, require}
-use Rattle.rules.specs.Log.{width, countsOf, fileEnd, logOf}
+use Rattle.rules.specs.File.{width, countsOf, fileEnd, logOf}
 use Rattle.rules.specs.Op.{Vector, countIn, isReplica, replicaOf}
 use Rattle.rules.specs.Sound.{sound}
 

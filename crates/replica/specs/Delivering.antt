@@ -5,7 +5,7 @@ use mathlib.Core.Bool.{Bool, true, false}
 use mathlib.Core.List.{List}
 use lib.ListN.{length}
 use Rattle.rules.specs.Deliver.{held}
-use Rattle.rules.specs.Log.{Log, width, logOf}
+use Rattle.rules.specs.File.{Log, width, logOf}
 use Rattle.rules.specs.Op.{Vector, nodeNumber, wellFormed}
 use Rattle.rules.specs.Sound.{sound}
 use Rattle.oplog.specs.Spots.{namesBy}

@@ -6,7 +6,7 @@ use oplog::append_op;
 use oplog::end_of;
 ghost use mathlib.Core.Path.{_≡_};
 ghost use mathlib.Core.Bool.{true};
-ghost use Rattle.rules.specs.Log.{width, appended};
+ghost use Rattle.rules.specs.File.{width, appended};
 ghost use Rattle.rules.specs.Sound.{sound};
 ghost use Rattle.codec.specs.Answers.{answerOf};
 ghost use Rattle.replica.specs.Adding.{lastTest, Acceptable};

@@ -21,11 +21,11 @@ ghost use mathlib.Core.Path.{_≡_};
 ghost use mathlib.Core.Bool.{true};
 ghost use lib.Dec.{leb};
 ghost use Rattle.rules.specs.Op.{isReplica, countIn};
-ghost use Rattle.rules.specs.Log.{width, logOf};
-ghost use Rattle.rules.specs.Deliver as rules;
+ghost use Rattle.rules.specs.File.{width, logOf};
 ghost use Rattle.oplog.specs.Spots.{Counted};
 ghost use Rattle.codec.specs.Answers.{answerOf};
 ghost use Rattle.replica.specs.Delivering.{namesIn, Readable, Again, Fresh};
+ghost use Rattle.rules.specs.Deliver as rules;
 
 // The answer where an op of this replica and sequence is held: the same, or another.
 fn answer_held(file: &[u8], fields: Fields, op: &[u8]) -> Answer

@@ -22,15 +22,15 @@ ghost use mathlib.Core.Bool.{true};
 ghost use Prim.Native.Nat.{_+_};
 ghost use lib.ListN.{length};
 ghost use lib.Dec.{ltb};
-ghost use Rattle.rules.specs.Issue as rules;
-ghost use Rattle.rules.specs.Issue.{add, remove, move, requestKnown, moveKind};
-ghost use Rattle.rules.specs.Log.{width, logOf, headerCounts};
+ghost use Rattle.rules.specs.Issue.{add, remove, move, requestKnown};
+ghost use Rattle.rules.specs.Tree.{moveKind, slots};
+ghost use Rattle.rules.specs.File.{width, logOf, headerCounts};
 ghost use Rattle.rules.specs.Op.{isReplica, countIn, nodeNumber};
 ghost use Rattle.rules.specs.Replay.{parentsOf};
-ghost use Rattle.rules.specs.Tree.{slots};
 ghost use Rattle.codec.specs.Answers.{answerOf};
 ghost use Rattle.replica.specs.Adding.{Tallied};
-ghost use Rattle.replica.specs.Issuing.{requestOf, bytesOf, movedIn, clearedOp, drafted, added, putOut, Issuer, Lent, Ready, Writable, Named, Movable, InTree};
+ghost use Rattle.replica.specs.Issuing.{requestOf, bytesOf, movedIn, clearedOp, drafted, withOp, putOut, Issuer, Lent, Ready, Writable, KnownRequest, Movable, InTree};
+ghost use Rattle.rules.specs.Issue as rules;
 
 // Whether a number is a replica's.
 fn is_replica(s: u8) -> bool
@@ -121,7 +121,7 @@ fn draft_move_now(file: &[u8], node: u16, parent: u16) -> Drafted
 
 // Number 10 of a request whose names are known, and the op to issue.
 fn draft_known(file: &[u8], counts: [u8; 8], replica: u8, request: Request) -> Drafted
-    requires { ⌜ Named (now file) counts replica (requestOf request) ⌝ }
+    requires { ⌜ KnownRequest (now file) counts replica (requestOf request) ⌝ }
     ensures { λ r. ⌜ r ≡ clearedOp (logOf width (now (file .entry))) replica (requestOf request) ⌝ }
 {
     match request {
@@ -161,7 +161,7 @@ fn draft(file: &[u8], replica: u8, request: Request) -> Drafted
 fn write_out(buf: &mut [u8], replica: u8, draft: Draft, out: &mut [u8])
     requires { ⌜ Writable (now buf) (length (now out)) replica ⌝ }
     ensures { λ _. ⌜ (now (buf .exit), now (out .exit))
-        ≡ added (now (buf .entry)) (now (out .entry)) (bytesOf replica draft (headerCounts (now (buf .entry)))) ⌝ }
+        ≡ withOp (now (buf .entry)) (now (out .entry)) (bytesOf replica draft (headerCounts (now (buf .entry)))) ⌝ }
 {
     let counts = counts_of(buf, WIDTH);
     write_op(out, draft.kind, replica, draft.node, draft.parent, counts);

@@ -3,9 +3,9 @@ use codec::Answer;
 use codec::Refusal;
 use oplog::write_header;
 ghost use mathlib.Core.Path.{_≡_};
-ghost use Rattle.rules.specs.Log.{width};
-ghost use Rattle.rules.specs.Deliver as rules;
+ghost use Rattle.rules.specs.File.{width};
 ghost use Rattle.codec.specs.Answers.{answerOf};
+ghost use Rattle.rules.specs.Deliver as rules;
 
 // Makes an empty log in a buffer.
 pub fn make(buf: &mut [u8]) -> Answer

@@ -1,7 +1,5 @@
-pub mod SeqLaws
 pub mod TreePathLaws
 pub mod TombstoneLaws
-pub mod ChunkLaws
 pub mod ViewLaws
 pub mod ViewTheorems
 pub mod PathLaws
@@ -16,7 +14,6 @@ pub mod PruneLaws
 pub mod PutCases
 pub mod RevealLaws
 pub mod ListingLaws
-pub mod BodyLaws
 pub mod TurnLaws
 pub mod LineLaws
 pub mod ListingCases

@@ -7,12 +7,12 @@ use mathlib.Core.Bool.{false, true}
 use mathlib.Core.List.{_++_, List, foldl}
 use mathlib.Core.Path.{ap, refl, sym, _∙_, _≡_}
 use native.Mathlib.Omega.{arith}
-use Rattle.rules.proofs.BoolLaws.{tested}
+use Rattle.lists.proofs.BoolLaws.{tested}
 use Rattle.rules.proofs.SoundLaws.{sound-good}
 use Rattle.rules.specs.Answer.{accepted, refused, require}
-use Rattle.rules.specs.Bytes.{concat, downFrom}
+use Rattle.lists.specs.Lists.{concat, downFrom}
 use Rattle.rules.specs.Listing.{listing, listingAnswer, listingOf}
-use Rattle.rules.specs.Log.{Log, logOf, width}
+use Rattle.rules.specs.File.{Log, logOf, width}
 use Rattle.rules.specs.Path.{Written}
 use Rattle.rules.specs.Replay.{parentsOf}
 use Rattle.rules.specs.Sound.{sound}

@@ -11,10 +11,10 @@ use native.Mathlib.Decide.{ℕ-discrete}
 use native.Mathlib.Omega.{arith}
 use Rattle.oplog.proofs.HeaderLaws.{end-is}
 use Rattle.order.proofs.TourLaws.{sound-listing}
-use Rattle.rules.proofs.BoolLaws.{tested}
+use Rattle.lists.proofs.BoolLaws.{tested}
 use Rattle.rules.specs.Answer.{accepted}
 use Rattle.rules.specs.Listing.{listing, listingOf, outline, refusedLine}
-use Rattle.rules.specs.Log.{fileEnd, headerCounts, logOf, startOf, width}
+use Rattle.rules.specs.File.{fileEnd, headerCounts, logOf, startOf, width}
 use Rattle.rules.specs.Path.{Written}
 use Rattle.rules.specs.Sound.{sound}
 use Rattle.rules.specs.Views.{keeping}

@@ -6,13 +6,14 @@ use mathlib.Core.Bool.{false, true}
 use mathlib.Core.List.{_++_, List}
 use mathlib.Core.Path.{sym, _∙_, _≡_}
 use native.Mathlib.Omega.{arith}
-use Rattle.order.proofs.GrowLaws.{parent-reads}
+use Rattle.rules.proofs.KnownLaws.{parent-reads}
 use Rattle.replica.proofs.SoundCases.{counted, tallied}
-use Rattle.rules.proofs.BoolLaws.{tested}
+use Rattle.lists.proofs.BoolLaws.{tested}
 use Rattle.rules.proofs.FileLaws.{counts-logOf}
 use Rattle.rules.proofs.SoundLaws.{sound-good, sound-structural}
 use Rattle.rules.specs.Answer.{Answer, accepted, refused, require}
-use Rattle.rules.specs.Log.{headerCounts, knownParent, logOf, width}
+use Rattle.rules.specs.File.{headerCounts, logOf, width}
+use Rattle.rules.specs.Log.{knownParent}
 use Rattle.rules.specs.Op.{Vector}
 use Rattle.rules.specs.Path.{Written, pathAnswer, pathCall, pathOf}
 use Rattle.rules.specs.Replay.{parentsOf}

@@ -6,7 +6,8 @@ use mathlib.Core.List.{List, _++_}
 use lib.ListN.{length, getD, drop}
 use lib.Dec.{leb}
 use Rattle.rules.specs.Answer.{Answer, accepted, require, ifAccepted}
-use Rattle.rules.specs.Log.{width, countsOf, knownParent, logOf}
+use Rattle.rules.specs.File.{width, countsOf, logOf}
+use Rattle.rules.specs.Log.{knownParent}
 use Rattle.rules.specs.Path.{Written}
 use Rattle.rules.specs.Sound.{sound}
 use Rattle.rules.specs.Views.{View, keeping, skipping}

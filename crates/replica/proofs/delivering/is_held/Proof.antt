@@ -2,7 +2,7 @@
 use native.Mathlib.Omega.{arith}
 use borrow.Author.Needs.{needs}
 use Rattle.rules.specs.Op.{countIn}
-use Rattle.rules.proofs.BoolLaws.{replica-low, replica-high}
+use Rattle.rules.proofs.ReplicaLaws.{replica-low, replica-high}
 use Rattle.replica.proofs.delivering.is_held.Statement.{statement}
 use Rattle.replica.proofs.delivering.is_held.Tie as tie
 

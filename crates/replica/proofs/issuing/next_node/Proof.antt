@@ -5,7 +5,7 @@ use Prim.Native.Nat.{_-_}
 use lib.ListN.{getD}
 use borrow.Author.Needs.{needs}
 use Rattle.rules.specs.Op.{countIn, nodeNumber}
-use Rattle.rules.proofs.BoolLaws.{replica-low, replica-high}
+use Rattle.rules.proofs.ReplicaLaws.{replica-low, replica-high}
 use Rattle.replica.proofs.issuing.next_node.Statement.{statement}
 use Rattle.replica.proofs.issuing.next_node.Tie as tie
 
