@@ -35,7 +35,9 @@ pub marks-made : (log : Log) (t : List ℕ) → t ≡ noMarks → foldl mark t (
 unfolding marksOf
 marks-made log t e = rw e
 
-pub order-made : (log : Log) (view : View) (parents marks : List ℕ) (l : Links) → parents ≡ parentsOf log → marks ≡ marksOf log → l ≡ foldl (linkSlot parents (hiddenOf parents marks view)) noLinks (downFrom 2040) → tourOf l ≡ orderOf log view
+pub order-made :
+    (log : Log) (view : View) (parents marks : List ℕ) (l : Links) → parents ≡ parentsOf log → marks ≡ marksOf log →
+    l ≡ foldl (linkSlot parents (hiddenOf parents marks view)) noLinks (downFrom 2040) → tourOf l ≡ orderOf log view
 unfolding orderOf linksOf
 order-made log view parents marks l p m e = rw (e, p, m)
 

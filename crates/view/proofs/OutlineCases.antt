@@ -76,8 +76,8 @@ outline-size f = go (sound width f) refl
 -- lent so many bytes, the call puts the whole output in front
 pub outline-printed :
     (f out : List ℕ) → 24492 ≤ length out →
-    _≡_ {A = Written} (record { answer = accepted (length (outline width f)); out = outline width f ++ drop (length (outline width f)) out })
-    (putIn (outline width f) out)
+    let text = outline width f in
+    _≡_ {A = Written} (record { answer = accepted (length text); out = text ++ drop (length text) out }) (putIn text out)
 outline-printed f out h = let s = outline-size f in put-all (outline width f) out _ refl (omega arith) _ refl
 
 ---- what the code of printing needs: search printing

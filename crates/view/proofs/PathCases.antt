@@ -72,5 +72,6 @@ module _ (f out : List ℕ) (n : ℕ) where
   path-now p t is x e = e ∙ rw (is, p .is-sound, p .is-known)
 
 ---- what the code of paths needs: search paths
-pub ruleset paths =
-    (needs, tested, sound-structural, tallied, counted, steps-way, path-short, path-put, path-unsound, path-unknown, present, way-now, path-now)
+pub ruleset tables = (steps-way, path-short, path-put, way-now, path-now)
+
+pub ruleset paths = (needs, tested, sound-structural, tallied, counted, tables, path-unsound, path-unknown, present)
