@@ -2,6 +2,7 @@ use crate::soundness::WIDTH;
 use crate::soundness::is_sound;
 use codec::Answer;
 use codec::Refusal;
+use replay::SLOTS;
 use replay::replay_all;
 ghost use mathlib.Core.Path.{_≡_};
 ghost use Rattle.rules.specs.File.{width};
@@ -17,13 +18,13 @@ pub fn judge(file: &[u8], parents: &mut [u16], outcomes: &mut [u8]) -> Answer
     if !is_sound(file) {
         return Answer::Refused(Refusal::Unsound);
     }
-    if parents.len() < 2041 {
+    if parents.len() < SLOTS {
         return Answer::Refused(Refusal::Length);
     }
-    if outcomes.len() < 2041 {
+    if outcomes.len() < SLOTS {
         return Answer::Refused(Refusal::Length);
     }
-    let n = 2041;
+    let n = SLOTS;
     replay_all(file, &mut parents[..n], &mut outcomes[..n], WIDTH);
     Answer::Done
 }
