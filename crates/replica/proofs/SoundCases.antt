@@ -32,6 +32,9 @@ module _ (f : List ℕ) (a : sound width f ≡ true) where
   pub header-of : (32 ≤ length f) × (soundHeader width f ≡ true)
   header-of = (sound-laid width f a .header, laid-header width f laid-of)
 
+  pub end-asks : (32 ≤ length f) × (width ≤ 255) × (soundHeader width f ≡ true) × (1 ≤ 8) × (8 ≤ 8)
+  end-asks = (header-of .0, omega arith, header-of .1, omega arith, omega arith)
+
   pub tallied : (u : Vector) → u ≡ headerCounts f → Tallied f u
   tallied u e = record { is-sound = a; counts = e ∙ sym (counts-logOf width f) }
 
