@@ -1,3 +1,4 @@
 pub mod VectorLaws
 pub mod ReadLaws
 pub mod WriteLaws
+pub mod ReadsBackLaws

@@ -31,7 +31,8 @@ regroup false b c d = refl
 -- the test of form, in the order in which the reader makes it
 pub formed-is : (b : List ℕ) → wellFormed b ≡ (isReplica (replicaOf b) && ltb (ownCount b) 255 && kindFits (kindOf b) (parentOf b))
 unfolding wellFormed isRemove
-formed-is b = regroup (isReplica (replicaOf b)) (leb 1 (kindOf b) && leb (kindOf b) 4) (ltb (ownCount b) 255) (not (eqb (kindOf b) 2) || eqb (parentOf b) 0)
+formed-is b = regroup (isReplica (replicaOf b)) (leb 1 (kindOf b) && leb (kindOf b) 4) (ltb (ownCount b) 255)
+    (not (eqb (kindOf b) 2) || eqb (parentOf b) 0)
 
 module _ (w : ℕ) (b : List ℕ) where
   pub read-length : (length b ≡ w → ⊥) → readOf w b ≡ Refused Length
@@ -51,12 +52,25 @@ module _ (w : ℕ) (b : List ℕ) where
       pub read-own : 254 < byte b (5 + replicaOf b) → readOf w b ≡ Refused Malformed
       unfolding readOf isReplica
       read-own h =
-          rw (eq-eqb (length b) w e, formed-is b, le-leb 1 (replicaOf b) l, le-leb (replicaOf b) 8 u, le-ltb (ownCount b) 255 (omega (arith, own-byte b l u)))
+          rw (
+            eq-eqb (length b) w e,
+            formed-is b,
+            le-leb 1 (replicaOf b) l,
+            le-leb (replicaOf b) 8 u,
+            le-ltb (ownCount b) 255
+                (omega (arith, own-byte b l u)),
+          )
 
       module _ (h : byte b (5 + replicaOf b) ≤ 254) where
         formed : wellFormed b ≡ kindFits (kindOf b) (parentOf b)
         unfolding isReplica
-        formed = rw (formed-is b, le-leb 1 (replicaOf b) l, le-leb (replicaOf b) 8 u, lt-ltb (ownCount b) 255 (omega (arith, own-byte b l u)))
+        formed = rw (
+          formed-is b,
+          le-leb 1 (replicaOf b) l,
+          le-leb (replicaOf b) 8 u,
+          lt-ltb (ownCount b) 255
+              (omega (arith, own-byte b l u)),
+        )
 
         pub read-kind : kindFits (kindOf b) (parentOf b) ≡ false → readOf w b ≡ Refused Malformed
         unfolding readOf
@@ -76,7 +90,8 @@ pub reads : (w : ℕ) (b : List ℕ) (x : Fields) → readOf w b ≡ Op x → Re
 unfolding readOf
 reads w b x = go (eqb (length b) w) refl (wellFormed b) refl
   where
-    go : (a : Bool) → eqb (length b) w ≡ a → (c : Bool) → wellFormed b ≡ c → cond a (cond c (Op (fieldsOf b)) (Refused Malformed)) (Refused Length) ≡ Op x → Reads w b x
+    go : (a : Bool) → eqb (length b) w ≡ a → (c : Bool) → wellFormed b ≡ c
+        → cond a (cond c (Op (fieldsOf b)) (Refused Malformed)) (Refused Length) ≡ Op x → Reads w b x
     go true ea true ec e = record { long = eqb-true _ _ ea; formed = ec; fields = cc }
     go true ea false ec e = let z : _≡_ {A = ℕ} 0 1 = cc in absurd (omega arith)
     go false ea c ec e = let z : _≡_ {A = ℕ} 0 1 = cc in absurd (omega arith)

@@ -3,23 +3,18 @@ use Prim.Native.Nat.{ℕ, _+_, _-_, _<_, _*_, _/_, _%_, _≤_}
 use borrow.Author.Tests.{lt-leb, le-leb, eq-eqb, ne-eqb}
 use lib.Dec.{leb, eqb}
 use lib.ListN.{length, take, getD, set}
-use lib.Seq.{take-suc, take-suc-set}
 use mathlib.Core.Bool.{_&&_, Bool, and-eq-true-iff, true}
 use mathlib.Core.List.{List, map}
 use mathlib.Core.Path.{_≡_, refl, sym, _∙_}
 use native.Mathlib.Decide.{decLe}
-use native.Mathlib.Numerals.{add-one}
 use native.Mathlib.Omega.{arith}
 use Rattle.codec.specs.Spread.{allMarked, spreadOf, Counts}
-use Rattle.rules.proofs.BoolLaws.{both-ways}
+use Rattle.lists.proofs.BoolLaws.{both-ways}
 use Rattle.rules.proofs.FileLaws.{count-map}
-use Rattle.rules.specs.Bytes.{upFrom, all}
-use Rattle.rules.specs.Log.{within}
+use Rattle.lists.specs.Lists.{upFrom, all}
+use Rattle.rules.specs.File.{within}
 use Rattle.rules.specs.Op.{Vector, countIn, replicas}
-
--- a turn of a loop that copies s to the front of v
-pub copy-step : (v s : List ℕ) (i x : ℕ) → take i v ≡ take i s → i < length v → i < length s → x ≡ getD s i 0 → take (i + 1) (set v i x) ≡ take (i + 1) s
-copy-step v s i x e hv hs ex = rw (add-one, take-suc-set, take-suc s i 0, e, ex)
+use Rattle.lists.proofs.ListLaws.{copy-step}
 
 pub length-eight : (F : ℕ → ℕ) → length (map F replicas) ≡ 8
 unfolding replicas upFrom
@@ -30,9 +25,11 @@ unfolding countIn
 count-of v i = let e : i + 1 - 1 ≡ i = omega arith in rw e
 
 -- a turn of a loop that fills a vector by a rule
-pub build-step : (F : ℕ → ℕ) (v : List ℕ) (i x : ℕ) → take i v ≡ take i (map F replicas) → i < 8 → length v ≡ 8 → x ≡ F (i + 1) → take (i + 1) (set v i x) ≡ take (i + 1) (map F replicas)
+pub build-step : (F : ℕ → ℕ) (v : List ℕ) (i x : ℕ) → take i v ≡ take i (map F replicas) → i < 8 → length v ≡ 8 → x ≡ F (i + 1)
+    → take (i + 1) (set v i x) ≡ take (i + 1) (map F replicas)
 build-step F v i x e h l ex =
-    copy-step v (map F replicas) i x e (omega arith) (omega (arith, length-eight F)) (ex ∙ sym (count-map F (i + 1) (omega arith) (omega arith)) ∙ count-of (map F replicas) i)
+    copy-step v (map F replicas) i x e (omega arith) (omega (arith, length-eight F))
+    (ex ∙ sym (count-map F (i + 1) (omega arith) (omega arith)) ∙ count-of (map F replicas) i)
 
 ---- a comparison of four counts at once
 
@@ -50,16 +47,30 @@ high-mark x h = elim (decLe 256 x) [
 ]
 
 -- the parts above it
-above-low : (x n : ℕ) → x < 512 → ((x + 65536 * n) / 16777216 ≡ n / 256) × ((x + 65536 * n) / 1099511627776 ≡ n / 16777216) × ((x + 65536 * n) / 72057594037927936 ≡ n / 1099511627776)
+above-low : (x n : ℕ) → x < 512 → ((x + 65536 * n) / 16777216 ≡ n / 256) × ((x + 65536 * n) / 1099511627776 ≡ n / 16777216)
+    × ((x + 65536 * n) / 72057594037927936 ≡ n / 1099511627776)
 above-low x n h = (omega arith, omega arith, omega arith)
 
-marks-of : (x y z w : ℕ) → x < 512 → y < 512 → z < 512 → w < 512 → allMarked (spreadOf x y z (w + 4096)) ≡ (leb 256 x && (leb 256 y && (leb 256 z && leb 256 w)))
+marks-of : (x y z w : ℕ) → x < 512 → y < 512 → z < 512 → w < 512
+    → allMarked (spreadOf x y z (w + 4096)) ≡ (leb 256 x && (leb 256 y && (leb 256 z && leb 256 w)))
 unfolding allMarked spreadOf
 marks-of x y z w a b c d =
     let first = above-low x (y + 65536 * (z + 65536 * (w + 4096))) a in
     let second = above-low y (z + 65536 * (w + 4096)) b in
     let third = above-low z (w + 4096) c in
-    rw (first .0, first .1, first .2, second .0, second .1, third .0, low-mark x (y + 65536 * (z + 65536 * (w + 4096))) a, low-mark y (z + 65536 * (w + 4096)) b, low-mark z (w + 4096) c, high-mark w d)
+    rw (
+      first .0,
+      first .1,
+      first .2,
+      second .0,
+      second .1,
+      third .0,
+      low-mark x (y + 65536 * (z + 65536 * (w + 4096))) a,
+      low-mark y
+          (z + 65536 * (w + 4096)) b,
+      low-mark z (w + 4096) c,
+      high-mark w d,
+    )
 
 reaches : (u v : ℕ) → v < 256 → leb 256 (u + 256 - v) ≡ leb v u
 reaches u v h = elim (decLe v u) [
@@ -72,17 +83,28 @@ unfolding spreadOf
 spread-most a b c d h = omega (arith, h .first, h .second, h .third, h .fourth)
 
 module _ (a b c d p q r s : ℕ) (hi : Counts a b c d) (lo : Counts p q r s) where
-  pub spread-less : spreadOf a b c d + 1224980198173180160 - spreadOf p q r s ≡ spreadOf (a + 256 - p) (b + 256 - q) (c + 256 - r) (d + 256 - s + 4096)
+  pub spread-less : spreadOf a b c d + 1224980198173180160 - spreadOf p q r s ≡ spreadOf (a + 256 - p) (b + 256 - q) (c + 256 - r)
+      (d + 256 - s + 4096)
   unfolding spreadOf
   spread-less = omega (arith, lo .first, lo .second, lo .third, lo .fourth)
 
   pub four-reach : allMarked (spreadOf a b c d + 1224980198173180160 - spreadOf p q r s) ≡ (leb p a && (leb q b && (leb r c && leb s d)))
   four-reach =
-      rw (spread-less, marks-of (a + 256 - p) (b + 256 - q) (c + 256 - r) (d + 256 - s) (omega (arith, hi .first)) (omega (arith, hi .second)) (omega (arith, hi .third)) (omega (arith, hi .fourth)), reaches a p (lo .first), reaches b q (lo .second), reaches c r (lo .third), reaches d s (lo .fourth))
+      rw (
+        spread-less,
+        marks-of (a + 256 - p) (b + 256 - q) (c + 256 - r) (d + 256 - s) (omega (arith, hi .first))
+            (omega (arith, hi .second)) (omega (arith, hi .third)) (omega (arith, hi .fourth)),
+        reaches a p (lo .first),
+        reaches b q
+            (lo .second),
+        reaches c r (lo .third),
+        reaches d s (lo .fourth),
+      )
 
 ---- and of eight
 
-eight : (a b c d e f g h : Bool) → (a && (b && (c && (d && (e && (f && (g && (h && true)))))))) ≡ ((a && (c && (e && g))) && (b && (d && (f && h))))
+eight : (a b c d e f g h : Bool) → (a && (b && (c && (d && (e && (f && (g && (h && true)))))))) ≡ ((a && (c && (e && g)))
+    && (b && (d && (f && h))))
 eight a b c d e f g h =
     both-ways _ _
     (λ t.
@@ -96,6 +118,8 @@ abbrev pub reachesAt : Vector → Vector → ℕ → Bool
 reachesAt v u i = leb (getD v i 0) (getD u i 0)
 
 -- a comparison of two vectors
-pub within-halves : (v u : Vector) → within v u ≡ ((reachesAt v u 0 && (reachesAt v u 2 && (reachesAt v u 4 && reachesAt v u 6))) && (reachesAt v u 1 && (reachesAt v u 3 && (reachesAt v u 5 && reachesAt v u 7))))
+pub within-halves : (v u : Vector) → within v u ≡ ((reachesAt v u 0 && (reachesAt v u 2 && (reachesAt v u 4 && reachesAt v u 6)))
+    && (reachesAt v u 1 && (reachesAt v u 3 && (reachesAt v u 5 && reachesAt v u 7))))
 unfolding within all replicas upFrom countIn
-within-halves v u = eight (reachesAt v u 0) (reachesAt v u 1) (reachesAt v u 2) (reachesAt v u 3) (reachesAt v u 4) (reachesAt v u 5) (reachesAt v u 6) (reachesAt v u 7)
+within-halves v u = eight (reachesAt v u 0) (reachesAt v u 1) (reachesAt v u 2) (reachesAt v u 3) (reachesAt v u 4) (reachesAt v u 5)
+    (reachesAt v u 6) (reachesAt v u 7)

@@ -1,8 +1,8 @@
 ghost use mathlib.Core.Path.{_≡_};
 ghost use Prim.Native.Nat.{_+_, _≤_};
 ghost use lib.ListN.{length, take, drop};
-ghost use Rattle.rules.specs.Log as log;
 ghost use Rattle.codec.specs.Spread.{spreadOf, allMarked, Counts};
+ghost use Rattle.rules.specs.File as log;
 
 // The version vector (the paper's context) at a place.
 pub fn vector_at(bytes: &[u8], at: usize) -> [u8; 8]

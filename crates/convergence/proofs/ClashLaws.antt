@@ -1,97 +1,58 @@
 -- Two moves that are issued from one log: the order of their replay, and what each does. Assumes nothing.
-use Prim.Native.Nat.{ℕ, zero, suc, _≤_, _<_}
-use borrow.Author.Tests.{ne-eqb, eq-eqb, lt-ltb, le-ltb}
+use Prim.Native.Nat.{ℕ, _≤_, _<_}
+use borrow.Author.Tests.{lt-ltb, le-ltb}
 use lib.Dec.{eqb, ltb}
-use lib.ListN.{set, getD}
-use mathlib.Core.Bool.{Bool, cond, true, false, or-true}
-use mathlib.Core.List.{append-nil, map, List, [], _++_, _∷_}
+use mathlib.Core.Bool.{Bool, cond, true, false}
+use mathlib.Core.List.{map, List, [], _++_, _∷_}
 use mathlib.Core.Path.{_≡_, _∙_}
-use native.Mathlib.Decide.{ℕ-discrete, decLe}
-use native.Mathlib.Nat.{le-refl}
+use native.Mathlib.Decide.{decLe}
 use native.Mathlib.Omega.{arith}
-use Rattle.rules.proofs.BoolLaws.{never}
-use Rattle.rules.proofs.ListLaws.{concat-none}
-use Rattle.rules.specs.Bytes.{downFrom, concat, upFrom}
-use Rattle.rules.specs.Op.{Op, isMove, nodeOf, parentOf}
-use Rattle.rules.specs.Replay.{State, Stamped, step, outcomeOf, outcomeSlot}
-use Rattle.rules.specs.Tree.{slotOf, atOrBelow}
+use Rattle.lists.proofs.BoolLaws.{never}
+use Rattle.lists.specs.Lists.{downFrom, concat, upFrom}
+use Rattle.lists.proofs.RangeLaws.{two-down}
+use Rattle.rules.proofs.ClimbLaws.{up}
 
 ---- two entries in the order of a level
-
-module _ {A : Type 0} (F : ℕ → List A) where
-  one-down : (n s : ℕ) → 1 ≤ s → s ≤ n → ((r : ℕ) → 1 ≤ r → r ≤ n → (r ≡ s → ⊥) → F r ≡ []) → concat (map F (downFrom n)) ≡ F s
-  unfolding downFrom concat
-  one-down zero s l u e = absurd (omega arith)
-  one-down (suc n) s l u e = elim (ℕ-discrete s (suc n)) [
-    | yes z ↦ rw (concat-none F n (λ r a b. e r a (omega arith) (λ w. omega arith)), append-nil, z)
-    | no nz ↦ rw (e (suc n) (omega arith) (le-refl _) (λ w. omega arith)) (one-down n s l (omega arith) (λ r a b. e r a (omega arith)))
-  ]
-
-  two-down : (n hi lo : ℕ) → 1 ≤ lo → lo < hi → hi ≤ n → ((r : ℕ) → 1 ≤ r → r ≤ n → (r ≡ hi → ⊥) → (r ≡ lo → ⊥) → F r ≡ []) → concat (map F (downFrom n)) ≡ F hi ++ F lo
-  unfolding downFrom concat
-  two-down zero hi lo l h u e = absurd (omega arith)
-  two-down (suc n) hi lo l h u e = elim (ℕ-discrete hi (suc n)) [
-    | yes z ↦ rw (z, one-down n lo l (omega arith) (λ r a b w. e r a (omega arith) (λ q. omega arith) w))
-    | no nz ↦ rw (e (suc n) (omega arith) (le-refl _) (λ w. omega arith) (λ w. omega arith)) (two-down n hi lo l h (omega arith) (λ r a b. e r a (omega arith)))
-  ]
 
 -- upward is kind 3, downward 4
 abbrev kind : Bool → ℕ
 kind up = cond up 3 4
 
-module _ {A : Type 0} (F : ℕ → ℕ → List A) (a b : ℕ) (la : 1 ≤ a) (ua : a ≤ 8) (lb : 1 ≤ b) (ub : b ≤ 8) (x y : A) (rest : (k s : ℕ) → 1 ≤ s → s ≤ 8 → (s ≡ a → ⊥) → (s ≡ b → ⊥) → F k s ≡ []) where
+-- replica s has one entry, of this kind
+abbrev Single : {A : Type 0} → (ℕ → ℕ → List A) → ℕ → Bool → A → Type 0
+Single F s up x = (k : ℕ) → F k s ≡ cond (eqb (kind up) k) (x ∷ []) []
+
+module _ {A : Type 0} (F : ℕ → ℕ → List A) (a b : ℕ) (la : 1 ≤ a) (ua : a ≤ 8) (lb : 1 ≤ b) (ub : b ≤ 8) (x y : A)
+    (rest : (k s : ℕ) → 1 ≤ s → s ≤ 8 → (s ≡ a → ⊥) → (s ≡ b → ⊥) → F k s ≡ []) where
   abbrev kinds-in-order : List A
   kinds-in-order = concat (map (λ k. concat (map (F k) (downFrom 8))) (upFrom 1 4))
 
-  module _ (u v : Bool) (fa : (k : ℕ) → F k a ≡ cond (eqb (kind u) k) (x ∷ []) []) (fb : (k : ℕ) → F k b ≡ cond (eqb (kind v) k) (y ∷ []) []) where
+  module _ (u v : Bool) (fa : Single F a u x) (fb : Single F b v y) where
     higher : b < a → (k : ℕ) → concat (map (F k) (downFrom 8)) ≡ cond (eqb (kind u) k) (x ∷ []) [] ++ cond (eqb (kind v) k) (y ∷ []) []
     higher h k = two-down (F k) 8 a b lb h ua (rest k) ∙ rw (fa k, fb k)
 
     lower : a < b → (k : ℕ) → concat (map (F k) (downFrom 8)) ≡ cond (eqb (kind v) k) (y ∷ []) [] ++ cond (eqb (kind u) k) (x ∷ []) []
     lower h k = two-down (F k) 8 b a la h ub (λ s l t p q. rest k s l t q p) ∙ rw (fa k, fb k)
 
-  higher-first : (u v : Bool) → ((k : ℕ) → F k a ≡ cond (eqb (kind u) k) (x ∷ []) []) → ((k : ℕ) → F k b ≡ cond (eqb (kind v) k) (y ∷ []) []) → b < a → cond (eqb (kind u) (kind v)) true (eqb (kind u) 3) ≡ true → kinds-in-order ≡ x ∷ y ∷ []
+  higher-first : (u v : Bool) → Single F a u x → Single F b v y → b < a → cond (eqb (kind u) (kind v)) true (eqb (kind u) 3) ≡ true
+      → kinds-in-order ≡ x ∷ y ∷ []
   unfolding concat upFrom
   higher-first true true fa fb h w = let e = higher true true fa fb h in rw (e 1, e 2, e 3, e 4)
   higher-first true false fa fb h w = let e = higher true false fa fb h in rw (e 1, e 2, e 3, e 4)
   higher-first false true fa fb h w = never w
   higher-first false false fa fb h w = let e = higher false false fa fb h in rw (e 1, e 2, e 3, e 4)
 
-  lower-first : (u v : Bool) → ((k : ℕ) → F k a ≡ cond (eqb (kind u) k) (x ∷ []) []) → ((k : ℕ) → F k b ≡ cond (eqb (kind v) k) (y ∷ []) []) → a < b → cond (eqb (kind u) (kind v)) false (eqb (kind u) 3) ≡ true → kinds-in-order ≡ x ∷ y ∷ []
+  lower-first : (u v : Bool) → Single F a u x → Single F b v y → a < b → cond (eqb (kind u) (kind v)) false (eqb (kind u) 3) ≡ true
+      → kinds-in-order ≡ x ∷ y ∷ []
   unfolding concat upFrom
   lower-first true true fa fb h w = never w
   lower-first true false fa fb h w = let e = lower true false fa fb h in rw (e 1, e 2, e 3, e 4)
   lower-first false true fa fb h w = never w
   lower-first false false fa fb h w = never w
 
-  pub winner-first : (u v : Bool) → ((k : ℕ) → F k a ≡ cond (eqb (kind u) k) (x ∷ []) []) → ((k : ℕ) → F k b ≡ cond (eqb (kind v) k) (y ∷ []) []) → (a ≡ b → ⊥) → cond (eqb (kind u) (kind v)) (ltb b a) (eqb (kind u) 3) ≡ true → kinds-in-order ≡ x ∷ y ∷ []
+  pub winner-first : (u v : Bool) → Single F a u x → Single F b v y → (a ≡ b → ⊥)
+      → cond (eqb (kind u) (kind v)) (ltb b a) (eqb (kind u) 3) ≡ true → kinds-in-order ≡ x ∷ y ∷ []
   winner-first u v fa fb ne w = elim (decLe a b) [
     | yes h ↦ lower-first u v fa fb (omega arith) (rw (le-ltb b a h) at w)
     | no h ↦ higher-first u v fa fb (omega arith) (let l : b < a = omega arith in rw (lt-ltb b a l) at w)
   ]
-
----- what a move does
-
-module _ (st : State) (t : ℕ) (r : Op) (m : isMove r ≡ true) where
-  abbrev it : Stamped
-  it = record { time = t; op = r }
-
-  pub applied : outcomeOf st it ≡ 1 → step st it ≡ record { parents = set (st .parents) (slotOf (nodeOf r)) (parentOf r); outcomes = set (st .outcomes) (outcomeSlot r) 1; placed = set (st .placed) (slotOf (nodeOf r)) t }
-  unfolding step
-  applied e = rw (e, m, or-true)
-
-  pub passed-over : (o : ℕ) → eqb o 1 ≡ false → outcomeOf st it ≡ o → step st it ≡ record { parents = st .parents; outcomes = set (st .outcomes) (outcomeSlot r) o; placed = st .placed }
-  unfolding step
-  passed-over o ne e = rw (e, ne)
-
-  pub applies : (getD (st .placed) (slotOf (nodeOf r)) 0 ≡ t → ⊥) → atOrBelow (st .parents) (parentOf r) (nodeOf r) ≡ false → outcomeOf st it ≡ 1
-  unfolding outcomeOf
-  applies p free = rw (m, ne-eqb _ t p, free)
-
-  pub placed-already : getD (st .placed) (slotOf (nodeOf r)) 0 ≡ t → outcomeOf st it ≡ 2
-  unfolding outcomeOf
-  placed-already p = rw (m, eq-eqb _ t p)
-
-  pub blocked : (getD (st .placed) (slotOf (nodeOf r)) 0 ≡ t → ⊥) → atOrBelow (st .parents) (parentOf r) (nodeOf r) ≡ true → outcomeOf st it ≡ 3
-  unfolding outcomeOf
-  blocked p under = rw (m, ne-eqb _ t p, under)

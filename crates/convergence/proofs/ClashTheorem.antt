@@ -1,53 +1,43 @@
 -- Of two clashing moves issued from one log, the upward one or else the higher replica's is applied, and the other is not. Assumes nothing.
-use Prim.Native.Nat.{_≤_, _<_, _+_, ℕ, suc, _-_}
-use borrow.Author.Tests.{eq-eqb, ne-eqb, not-true, leb-true, lt-ltb, ltb-false}
+use Prim.Native.Nat.{_≤_, _<_, _+_, _*_, ℕ, suc}
+use borrow.Author.Tests.{eq-eqb, ne-eqb, lt-ltb, ltb-false}
 use lib.Dec.{ltb, eqb}
-use lib.ListN.{getD, set, length, length-set, length-append, take, drop}
-use lib.Seq.{getD-set-same, getD-set-other, getD-append-seam, take-at}
-use mathlib.Core.Bool.{Bool, true, cond, false, _||_, and-eq-true-iff, not}
-use mathlib.Core.List.{foldl-append, [], _∷_, _++_, List}
-use mathlib.Core.Logic.{inr}
+use lib.ListN.{getD, set, length, length-set, drop}
+use lib.Seq.{getD-set-same, getD-set-other, take-at}
+use mathlib.Core.Bool.{Bool, true, cond, false, and-eq-true-iff}
+use mathlib.Core.List.{foldl-append, [], _∷_, List}
+use mathlib.Core.Logic.{⊎-elim}
 use mathlib.Core.Path.{refl, ap, _≡_, _∙_, sym}
 use native.Mathlib.Decide.{ℕ-discrete}
 use native.Mathlib.Omega.{arith}
-use Rattle.convergence.proofs.CircleLaws.{second-blocked, first-below, second-free, cut-off, reached}
-use Rattle.convergence.proofs.ClashLaws.{winner-first, passed-over, placed-already, applied, blocked, applies}
-use Rattle.convergence.specs.Clash.{Move, nextSlot, request, beats, circle, clash, Wins, ClashDecided, hang, Issued, CircleCutsOff}
-use Rattle.order.proofs.GrowLaws.{Named, named-valid, parent-reads, known-reads, replay-run}
+use Rattle.convergence.proofs.AddedLaws.{has-swap, two-extends, one-of-two, first-count, first-op, rest-same}
+use Rattle.convergence.proofs.ArriveLaws.{Adds, issue-adds, op-adds, arrives, arrives-back}
+use Rattle.convergence.proofs.ClashLaws.{winner-first}
+use Rattle.rules.proofs.StepLaws.{passed-over, placed-already, applied, blocked, applies, tables-full}
+use Rattle.convergence.proofs.MoveLaws.{opOf, upward, Asked, asked, Drawn, drawn, slot-in, valid-node, y-blocked, circle-is}
+use Rattle.convergence.specs.Clash.{Move, nextSlot, request, beats, circle, clash, Wins, hang, Issued, putOut, BothAdded, Arrives, Arrivals, ClashDecided, BothArrive, CircleCutsOff}
+use Rattle.convergence.specs.Exchange.{Call, deliver, has}
 use Rattle.order.proofs.LateLaws.{Late, ordered-late, no-entry, late-entry, top}
-use Rattle.order.proofs.LevelLaws.{Cut}
-use Rattle.order.proofs.PlacedLaws.{tables-full, placed-by}
+use Rattle.order.proofs.PlacedLaws.{placed-by}
 use Rattle.order.specs.Levels.{entry, level, nextOf, levelKind}
-use Rattle.rules.proofs.AppendLaws.{Admits, good-append, in-range, Extends, ops-other, ops-same, extends}
-use Rattle.rules.proofs.BoolLaws.{and-both, never}
-use Rattle.rules.proofs.DeliverLaws.{appended-log, admitted}
-use Rattle.rules.proofs.IssueLaws.{counts-eight, bytes-parent, bytes-vector, bytes-node, Allowed, issue-admitted, allowed}
+use Rattle.rules.proofs.AppendLaws.{extends}
+use Rattle.lists.proofs.BoolLaws.{and-both, never}
+use Rattle.rules.proofs.IssueLaws.{issue-admitted, allowed}
+use Rattle.rules.proofs.PutOutLaws.{NextOp, put-out-next}
 use Rattle.rules.proofs.SoundLaws.{sound-good}
-use Rattle.rules.proofs.StructureLaws.{GoodLog, counts-covered, counts-closed, count-held}
-use Rattle.rules.proofs.TreeLaws.{Valid, slot-below, slot-injective, short, still-reaches, free-avoids}
-use Rattle.rules.specs.Deliver.{deliverBuffer}
-use Rattle.rules.specs.Issue.{issued, opBytes, moveKind, requestKnown, issueBuffer, requestClear, issueOut}
-use Rattle.rules.specs.Log.{Log, countsOf, known, knownParent, opAt, append, opsOf, logOf, width, appended}
-use Rattle.rules.specs.Op.{Op, countIn, isMove, nodeOf, parentOf, seqOf, kindOf, ownCount, replicaOf, vectorOf, isReplica}
-use Rattle.rules.specs.Replay.{outcomeSlot, parentsOf, State, Stamped, replay, step, outcomesOf, outcomeOf}
-use Rattle.rules.specs.Tree.{depth, slot, slots, atOrBelow, slotOf}
-
----- one move
-
--- what an accepted issue of a move says
-pub record Asked (log : Log) (x : Move) : Type 0 where
-  pub low : 1 ≤ x .replica
-  pub high : x .replica ≤ 8
-  pub count : countIn (countsOf log) (x .replica) < 255
-  pub node-known : known log (countsOf log) (x .node) ≡ true
-  pub parent-known : knownParent log (countsOf log) (x .parent) ≡ true
-  pub clear : atOrBelow (parentsOf log) (x .parent) (x .node) ≡ false
-
-abbrev pub opOf : Log → Move → Op
-opOf log x = issued log (x .replica) (request x)
+use Rattle.rules.proofs.StructureLaws.{GoodLog}
+use Rattle.rules.proofs.SlotLaws.{slot-below, slot-injective}
+use Rattle.rules.specs.Tree.{moveKind, slot, slots, slotOf}
+use Rattle.rules.specs.Issue.{issueOut, issueAnswer}
+use Rattle.rules.specs.File.{Log, countsOf, opAt, logOf, width, fileEnd}
+use Rattle.rules.specs.Op.{Op, countIn, nodeOf}
+use Rattle.rules.specs.Replay.{parentsOf, State, Stamped, replay, step, outcomesOf, outcomeOf}
+use Rattle.rules.specs.Answer.{accepted}
+use Rattle.lists.specs.Lists.{concat}
+use Rattle.rules.specs.Sound.{sound}
 
 -- more is log and the ops of x and y
-pub record Both (log more : Log) (x y : Move) : Type 0 where
+record Both (log more : Log) (x y : Move) : Type 0 where
   pub late : Late log more
   pub good : GoodLog more
   pub count-x : countIn (countsOf more) (x .replica) ≡ countIn (countsOf log) (x .replica) + 1
@@ -67,53 +57,10 @@ swap log more x y b = record {
   op-y = b .op-x;
 }
 
-module _ (log : Log) (good : GoodLog log) (x : Move) (asked : Asked log x) where
-  abbrev upward : Bool
-  upward = ltb (depth (parentsOf log) (x .parent)) (depth (parentsOf log) (x .node))
-
-  kind-is : kindOf (opOf log x) ≡ cond upward 3 4
-  unfolding issued opBytes kindOf moveKind
-  kind-is = refl
-
-  is-move : isMove (opOf log x) ≡ true
-  unfolding isMove
-  is-move = rw kind-is (go upward)
-    where
-      go : (b : Bool) → (eqb (cond b 3 4) 3 || eqb (cond b 3 4) 4) ≡ true
-      go true = refl
-      go false = refl
-
-  node-is : nodeOf (opOf log x) ≡ x .node
-  unfolding issued
-  node-is = bytes-node _ (x .replica) (x .node) (x .parent) (countsOf log)
-
-  parent-is : parentOf (opOf log x) ≡ x .parent
-  unfolding issued
-  parent-is = bytes-parent _ (x .replica) (x .node) (x .parent) (countsOf log)
-
-  slot-is : outcomeSlot (opOf log x) ≡ nextSlot log (x .replica)
-  unfolding outcomeSlot nextSlot seqOf ownCount replicaOf issued opBytes
-  slot-is = ap (λ v. slot (x .replica) (countIn v (x .replica) + 1)) (bytes-vector _ (x .replica) (x .node) (x .parent) (countsOf log) (counts-eight log good))
-
-  slot-in : nextSlot log (x .replica) < slots
-  unfolding nextSlot slot
-  slot-in = omega (arith, asked .low, asked .high, asked .count)
-
-  named-node : Named log (countsOf log) (x .node)
-  named-node = inr (asked .node-known)
-
-  named-parent : Named log (countsOf log) (x .parent)
-  named-parent = parent-reads log (countsOf log) (x .parent) (asked .parent-known)
-
-  valid-node : Valid (x .node)
-  valid-node = named-valid log (countsOf log) (x .node) named-node
-
-  no-root : x .node ≡ 0 → ⊥
-  no-root e = let h = known-reads log (countsOf log) (x .node) (asked .node-known) .0 .low in omega arith
-
 ---- x beats y
 
-module _ (log more : Log) (good : GoodLog log) (x y : Move) (ax : Asked log x) (ay : Asked log y) (both : Both log more x y) (apart : x .replica ≡ y .replica → ⊥) where
+module _ (log more : Log) (good : GoodLog log) (x y : Move) (ax : Asked log x) (ay : Asked log y)
+    (both : Both log more x y) (apart : x .replica ≡ y .replica → ⊥) where
   abbrev before : State
   before = replay log (countsOf log)
 
@@ -126,18 +73,33 @@ module _ (log more : Log) (good : GoodLog log) (x y : Move) (ax : Asked log x) (
   abbrev second : Stamped
   second = record { time = now-time; op = opOf log y }
 
+  op-x : Drawn log x
+  op-x = drawn log good x
+
+  op-y : Drawn log y
+  op-y = drawn log good y
+
   -- the two are replayed last, x first
   module _ (wins : beats (parentsOf log) x y ≡ true) where
-    x-entry : (k : ℕ) → entry more now-time (nextOf more (countsOf more) (countsOf log)) k (x .replica) ≡ cond (eqb (cond (upward log good x ax) 3 4) k) (first ∷ []) []
-    x-entry k = late-entry log more (both .late) good (both .good) k (x .replica) (ax .low) (ax .high) (omega (arith, both .count-x)) ∙ rw (both .op-x, kind-is log good x ax)
+    abbrev entries : ℕ → ℕ → List Stamped
+    entries = entry more now-time (nextOf more (countsOf more) (countsOf log))
 
-    y-entry : (k : ℕ) → entry more now-time (nextOf more (countsOf more) (countsOf log)) k (y .replica) ≡ cond (eqb (cond (upward log good y ay) 3 4) k) (second ∷ []) []
-    y-entry k = late-entry log more (both .late) good (both .good) k (y .replica) (ay .low) (ay .high) (omega (arith, both .count-y)) ∙ rw (both .op-y, kind-is log good y ay)
+    x-entry : (k : ℕ) → entries k (x .replica) ≡ cond (eqb (cond (upward log x) 3 4) k) (first ∷ []) []
+    x-entry k =
+        late-entry log more (both .late) good (both .good) k (x .replica) (ax .low) (ax .high) (omega (arith, both .count-x))
+        ∙ rw (both .op-x, op-x .kind)
+
+    y-entry : (k : ℕ) → entries k (y .replica) ≡ cond (eqb (cond (upward log y) 3 4) k) (second ∷ []) []
+    y-entry k =
+        late-entry log more (both .late) good (both .good) k (y .replica) (ay .low) (ay .high) (omega (arith, both .count-y))
+        ∙ rw (both .op-y, op-y .kind)
 
     two-last : level more now-time (nextOf more (countsOf more) (countsOf log)) ≡ first ∷ second ∷ []
     unfolding level levelKind beats moveKind
     two-last =
-        winner-first (entry more now-time (nextOf more (countsOf more) (countsOf log))) (x .replica) (y .replica) (ax .low) (ax .high) (ay .low) (ay .high) first second (λ k s l u p q. no-entry log more (both .late) good (both .good) k s l u (both .rest s l u p q)) (upward log good x ax) (upward log good y ay) x-entry y-entry apart wins
+        winner-first entries (x .replica) (y .replica) (ax .low) (ax .high) (ay .low) (ay .high) first second
+        (λ k s l u p q. no-entry log more (both .late) good (both .good) k s l u (both .rest s l u p q))
+        (upward log x) (upward log y) x-entry y-entry apart wins
 
     replayed : replay more (countsOf more) ≡ step (step before first) second
     unfolding replay
@@ -160,36 +122,35 @@ module _ (log more : Log) (good : GoodLog log) (x y : Move) (ax : Asked log x) (
   x-applied : step before first ≡ mid
   unfolding hang parentsOf outcomesOf
   x-applied =
-      applied before now-time (opOf log x) (is-move log good x ax)
-      (applies before now-time (opOf log x) (is-move log good x ax) (λ e. omega (arith, placed-before (slotOf (nodeOf (opOf log x))))) (rw (node-is log good x ax, parent-is log good x ax) (ax .clear)))
-      ∙ rw (node-is log good x ax, parent-is log good x ax, slot-is log good x ax)
+      applied before now-time (opOf log x) (op-x .moves)
+      (applies before now-time (opOf log x) (op-x .moves)
+      (λ e. omega (arith, placed-before (slotOf (nodeOf (opOf log x))))) (rw (op-x .node-is, op-x .parent-is) (ax .clear)))
+      ∙ rw (op-x .node-is, op-x .parent-is, op-x .slot-is)
 
-  y-passed : (o : ℕ) → eqb o 1 ≡ false → outcomeOf mid second ≡ o → step mid second ≡ record { parents = mid .parents; outcomes = set (mid .outcomes) (nextSlot log (y .replica)) o; placed = mid .placed }
-  y-passed o ne e = passed-over mid now-time (opOf log y) (is-move log good y ay) o ne e ∙ rw (slot-is log good y ay)
+  y-passed : (o : ℕ) → eqb o 1 ≡ false → outcomeOf mid second ≡ o
+      → step mid second
+      ≡ record { parents = mid .parents; outcomes = set (mid .outcomes) (nextSlot log (y .replica)) o; placed = mid .placed }
+  y-passed o ne e = passed-over mid now-time (opOf log y) (op-y .moves) o ne e ∙ rw (op-y .slot-is)
 
   -- 2 if they take the same node
   y-same : x .node ≡ y .node → outcomeOf mid second ≡ 2
   y-same e =
-      placed-already mid now-time (opOf log y) (is-move log good y ay)
-      (rw (node-is log good y ay, ← e) (getD-set-same (before .placed) (slotOf (x .node)) now-time 0 (omega (arith, tables-full log (countsOf log) .placed-full, slot-below (x .node) (valid-node log good x ax)))))
+      let in-table = slot-below (x .node) (valid-node log x ax) in
+      placed-already mid now-time (opOf log y) (op-y .moves) (rw (op-y .node-is, ← e)
+      (getD-set-same (before .placed) (slotOf (x .node)) now-time 0 (omega (arith, tables-full log (countsOf log) .placed-full))))
 
   -- 3 if they close a circle
   y-circle : (x .node ≡ y .node → ⊥) → circle (parentsOf log) x y ≡ true → outcomeOf mid second ≡ 3
-  unfolding circle hang parentsOf replay
   y-circle ne c =
-      let tree = replay-run log good (countsOf log) held .tree in
-      let (ip, rp) = tree .way (x .parent) (named-parent log good x ax) in
-      let (iq, rq) = tree .way (y .parent) (named-parent log good y ay) in
-      let h = simp and-eq-true-iff at c in
-      blocked mid now-time (opOf log y) (is-move log good y ay)
+      let vx = valid-node log x ax in
+      let vy = valid-node log y ay in
+      blocked mid now-time (opOf log y) (op-y .moves)
       (λ e.
-      let here = rw (node-is log good y ay) at e in
-      let there = getD-set-other (before .placed) (slotOf (x .node)) (slotOf (y .node)) now-time 0 (λ q. ne (slot-injective (x .node) (y .node) (valid-node log good x ax) (valid-node log good y ay) (sym q))) in
+      let here = rw (op-y .node-is) at e in
+      let there = getD-set-other (before .placed) (slotOf (x .node)) (slotOf (y .node)) now-time 0
+      (λ q. ne (slot-injective (x .node) (y .node) vx vy (sym q))) in
       omega (arith, placed-before (slotOf (y .node))))
-      (rw (node-is log good y ay, parent-is log good y ay) (second-blocked (Named log (countsOf log)) (named-valid log (countsOf log)) (parentsOf log) (tree .size) (x .node) (x .parent) (y .node) (y .parent) (valid-node log good x ax) (no-root log good x ax) (no-root log good y ay) ip iq rp rq (ax .clear) (h .0) (h .1)))
-    where
-      held : Cut log (countsOf log)
-      held = record { is-covered = counts-covered log; is-closed = counts-closed log good }
+      (rw (op-y .node-is, op-y .parent-is) (y-blocked log good x y ax ay c))
 
   y-outcome : clash (parentsOf log) x y ≡ true → outcomeOf mid second ≡ cond (eqb (x .node) (y .node)) 2 3
   unfolding clash
@@ -202,14 +163,20 @@ module _ (log more : Log) (good : GoodLog log) (x y : Move) (ax : Asked log x) (
   unfolding nextSlot slot
   slots-apart e = apart (omega (arith, ax .low, ax .count, ay .low, ay .count))
 
-  pub x-wins : beats (parentsOf log) x y ≡ true → clash (parentsOf log) x y ≡ true → Wins log more x y
+  x-wins : beats (parentsOf log) x y ≡ true → clash (parentsOf log) x y ≡ true → Wins log more x y
   unfolding parentsOf outcomesOf
   x-wins wins c =
+      let at-x : ℕ = nextSlot log (x .replica) in
+      let at-y : ℕ = nextSlot log (y .replica) in
+      let lost : ℕ = cond (eqb (x .node) (y .node)) 2 3 in
       let full : length (outcomesOf log) ≡ slots = tables-full log (countsOf log) .outcomes-full in
-      let end = replayed wins ∙ ap (λ st. step st second) x-applied ∙ y-passed _ (not-one (eqb (x .node) (y .node))) (y-outcome c) in
+      let still-full = length-set (outcomesOf log) at-x 1 in
+      let end = replayed wins ∙ ap (λ st. step st second) x-applied ∙ y-passed lost (not-one (eqb (x .node) (y .node))) (y-outcome c) in
+      let outcomes : outcomesOf more ≡ set (mid .outcomes) at-y lost = ap (λ (st : State). st .outcomes) end in
       record {
-        winner = ap (λ (st : State). getD (st .outcomes) (nextSlot log (x .replica)) 0) end ∙ getD-set-other (mid .outcomes) (nextSlot log (y .replica)) (nextSlot log (x .replica)) (cond (eqb (x .node) (y .node)) 2 3) 0 slots-apart ∙ getD-set-same (outcomesOf log) (nextSlot log (x .replica)) 1 0 (omega (arith, slot-in log good x ax));
-        loser = ap (λ (st : State). getD (st .outcomes) (nextSlot log (y .replica)) 0) end ∙ getD-set-same (mid .outcomes) (nextSlot log (y .replica)) _ 0 (omega (arith, length-set (outcomesOf log) (nextSlot log (x .replica)) 1, slot-in log good y ay));
+        winner = ap (λ t. getD t at-x 0) outcomes ∙ getD-set-other (mid .outcomes) at-y at-x lost 0 slots-apart
+            ∙ getD-set-same (outcomesOf log) at-x 1 0 (omega (arith, slot-in log x ax));
+        loser = ap (λ t. getD t at-y 0) outcomes ∙ getD-set-same (mid .outcomes) at-y lost 0 (omega (arith, slot-in log y ay));
         tree = ap (λ (st : State). st .parents) end;
       }
     where
@@ -217,162 +184,17 @@ module _ (log more : Log) (good : GoodLog log) (x y : Move) (ax : Asked log x) (
       not-one true = refl
       not-one false = refl
 
----- both are held
-
-module _ (log : Log) (good : GoodLog log) (x y : Move) (ax : Asked log x) (ay : Asked log y) (apart : x .replica ≡ y .replica → ⊥) (admits-x : Admits log (opOf log x)) (admits-y : Admits (append log (opOf log x)) (opOf log y)) where
-  abbrev one : Log
-  one = append log (opOf log x)
-
-  abbrev two : Log
-  two = append one (opOf log y)
-
-  good-one : GoodLog one
-  good-one = good-append log (opOf log x) good admits-x
-
-  origin : (z : Move) → replicaOf (opOf log z) ≡ z .replica
-  unfolding issued opBytes replicaOf
-  origin z = refl
-
-  vector : (z : Move) → vectorOf (opOf log z) ≡ countsOf log
-  unfolding issued
-  vector z = bytes-vector _ (z .replica) (z .node) (z .parent) (countsOf log) (counts-eight log good)
-
-  ops-x : opsOf two (x .replica) ≡ opsOf log (x .replica) ++ (opOf log x ∷ [])
-  ops-x =
-      let ry = in-range one (opOf log y) good-one admits-y in
-      let rx = in-range log (opOf log x) good admits-x in
-      ops-other one (opOf log y) (good-one .eight) (ry .0) (ry .1) (x .replica) (ax .low) (λ e. apart (e ∙ origin y))
-      ∙ (rw (origin x) at (ops-same log (opOf log x) (good .eight) (rx .0) (rx .1)))
-
-  ops-y : opsOf two (y .replica) ≡ opsOf log (y .replica) ++ (opOf log y ∷ [])
-  ops-y =
-      let ry = in-range one (opOf log y) good-one admits-y in
-      let rx = in-range log (opOf log x) good admits-x in
-      (rw (origin y) at (ops-same one (opOf log y) (good-one .eight) (ry .0) (ry .1)))
-      ∙ rw (ops-other log (opOf log x) (good .eight) (rx .0) (rx .1) (y .replica) (ay .low) (λ e. apart (sym (e ∙ origin x))))
-
-  ops-rest : (s : ℕ) → 1 ≤ s → (s ≡ x .replica → ⊥) → (s ≡ y .replica → ⊥) → opsOf two s ≡ opsOf log s
-  ops-rest s l p q =
-      let ry = in-range one (opOf log y) good-one admits-y in
-      let rx = in-range log (opOf log x) good admits-x in
-      ops-other one (opOf log y) (good-one .eight) (ry .0) (ry .1) s l (λ e. q (e ∙ origin y))
-      ∙ ops-other log (opOf log x) (good .eight) (rx .0) (rx .1) s l (λ e. p (e ∙ origin x))
-
-  -- a replica with one op more
-  module _ (s : ℕ) (r : Op) (e : opsOf two s ≡ opsOf log s ++ (r ∷ [])) where
-    count-more : countIn (countsOf two) s ≡ countIn (countsOf log) s + 1
-    count-more = rw (count-held two s, count-held log s, e, length-append)
-
-    last-op : opAt two s (countIn (countsOf log) s + 1) ≡ r
-    unfolding opAt
-    last-op =
-        let k : countIn (countsOf log) s + 1 - 1 ≡ length (opsOf log s) = omega (arith, count-held log s) in
-        rw (k, e) (getD-append-seam (opsOf log s) r [] [])
-
-  both-held : Both log two x y
-  both-held = record {
-    late = record { extends = more-extends; vector = vectors };
-    good = good-append one (opOf log y) good-one admits-y;
-    count-x = count-more (x .replica) (opOf log x) ops-x;
-    count-y = count-more (y .replica) (opOf log y) ops-y;
-    rest = λ s l u p q. count-held two s ∙ ap length (ops-rest s l p q) ∙ sym (count-held log s);
-    op-x = last-op (x .replica) (opOf log x) ops-x;
-    op-y = last-op (y .replica) (opOf log y) ops-y;
-  }
-    where
-      more-extends : Extends log two
-      more-extends =
-          let a = extends log (opOf log x) good admits-x in
-          let b = extends one (opOf log y) good-one admits-y in
-          record {
-            counts = λ s l u. omega (arith, a .counts s l u, b .counts s l u);
-            ops = λ s q l u lq uq. b .ops s q l u lq (omega (arith, a .counts s l u)) ∙ a .ops s q l u lq uq;
-          }
-
-      vectors : (s q : ℕ) → 1 ≤ s → s ≤ 8 → countIn (countsOf log) s < q → q ≤ countIn (countsOf two) s → vectorOf (opAt two s q) ≡ countsOf log
-      vectors s q l u lo hi = elim (ℕ-discrete s (x .replica)) [
-        | yes e ↦
-            let c = count-more (x .replica) (opOf log x) ops-x in
-            let lo′ = rw e at lo in
-            let hi′ = rw e at hi in
-            let z : q ≡ countIn (countsOf log) (x .replica) + 1 = omega arith in
-            rw (e, z, last-op (x .replica) (opOf log x) ops-x) (vector x)
-        | no ne ↦ elim (ℕ-discrete s (y .replica)) [
-          | yes e ↦
-              let c = count-more (y .replica) (opOf log y) ops-y in
-              let lo′ = rw e at lo in
-              let hi′ = rw e at hi in
-              let z : q ≡ countIn (countsOf log) (y .replica) + 1 = omega arith in
-              rw (e, z, last-op (y .replica) (opOf log y) ops-y) (vector y)
-          | no ne′ ↦ absurd (omega (arith, count-held two s, ap length (ops-rest s l ne ne′), count-held log s))
-        ]
-      ]
-
----- a circle
-
-alike : (a b : Bool) → (a ≡ true → b ≡ true) → (a ≡ false → b ≡ false) → a ≡ b
-alike true b p q = sym (p refl)
-alike false b p q = sym (q refl)
-
-circle-is : (log : Log) → GoodLog log → (x y : Move) → Asked log x → Asked log y → circle (parentsOf log) x y ≡ not (atOrBelow (hang (hang (parentsOf log) x) y) (x .node) 0)
-unfolding circle hang parentsOf replay
-circle-is log good x y ax ay =
-    let tree = replay-run log good (countsOf log) (record { is-covered = counts-covered log; is-closed = counts-closed log good }) .tree in
-    let t : List ℕ = parentsOf log in
-    let P : ℕ → Type 0 = Named log (countsOf log) in
-    let pv = named-valid log (countsOf log) in
-    let (ip, rp) = tree .way (x .parent) (named-parent log good x ax) in
-    let (iq, rq) = tree .way (y .parent) (named-parent log good y ay) in
-    let (im, rn) = tree .way (x .node) (named-node log good x ax) in
-    let vx = valid-node log good x ax in
-    let vy = valid-node log good y ay in
-    let nx = no-root log good x ax in
-    let ny = no-root log good y ay in
-    -- the tree after x
-    let (jp, jb, rp′, firstp) = short P pv t ip (x .parent) rp in
-    let avoids = free-avoids t (x .node) (x .parent) jp jb firstp (ax .clear) in
-    let (iq₁, rq₁) = still-reaches P pv t (tree .size) (x .node) (x .parent) vx nx jp rp′ avoids iq (y .parent) rq in
-    let (im₁, rn₁) = still-reaches P pv t (tree .size) (x .node) (x .parent) vx nx jp rp′ avoids im (x .node) rn in
-    let one : List ℕ = set t (slotOf (x .node)) (x .parent) in
-    let size₁ : length one ≡ 2041 = length-set t (slotOf (x .node)) (x .parent) ∙ tree .size in
-    alike _ _
-    (λ e.
-    let h = simp and-eq-true-iff at e in
-    let under = second-blocked P pv t (tree .size) (x .node) (x .parent) (y .node) (y .parent) vx nx ny ip iq rp rq (ax .clear) (h .0) (h .1) in
-    let below = first-below P pv t (tree .size) (x .node) (x .parent) (y .node) (y .parent) vx nx ny ip iq rp rq (ax .clear) (h .0) in
-    rw (cut-off P pv one size₁ (y .node) (y .parent) vy ny iq₁ rq₁ under (x .node) im₁ rn₁ below))
-    (λ e.
-    let free = second-free P pv t (tree .size) (x .node) (x .parent) (y .node) (y .parent) vx nx ny ip iq rp rq (ax .clear) (ay .clear) e in
-    let (jq, jb′, rq′, firstq) = short P pv one iq₁ (y .parent) rq₁ in
-    let (k, rk) = still-reaches P pv one size₁ (y .node) (y .parent) vy ny jq rq′ (free-avoids one (y .node) (y .parent) jq jb′ firstq free) im₁ (x .node) rn₁ in
-    rw (reached P pv (set one (slotOf (y .node)) (y .parent)) k (x .node) rk))
-
----- from the calls
-
-asked : (w : ℕ) (f : List ℕ) (room n : ℕ) (x : Move) → Allowed w f room (x .replica) (request x) n → Asked (logOf w f) x
-unfolding requestKnown requestClear isReplica
-asked w f room n x a =
-    let names = simp and-eq-true-iff at (a .names) in
-    let range = simp and-eq-true-iff at (a .is-replica) in
-    record {
-      low = leb-true _ _ (range .0);
-      high = leb-true _ _ (range .1);
-      count = a .count;
-      node-known = names .0 .0;
-      parent-known = names .0 .1;
-      clear = not-true _ (a .clear);
-    }
-
 -- who does not beat the other is beaten
-beaten : (log : Log) (x y : Move) → (x .replica ≡ y .replica → ⊥) → beats (parentsOf log) x y ≡ false → beats (parentsOf log) y x ≡ true
+beaten : (log : Log) (x y : Move) → (x .replica ≡ y .replica → ⊥)
+    → beats (parentsOf log) x y ≡ false → beats (parentsOf log) y x ≡ true
 unfolding beats moveKind
-beaten log x y apart e =
-    go (ltb (depth (parentsOf log) (x .parent)) (depth (parentsOf log) (x .node))) (ltb (depth (parentsOf log) (y .parent)) (depth (parentsOf log) (y .node))) e
+beaten log x y apart e = go (upward log x) (upward log y) e
   where
     higher : ltb (y .replica) (x .replica) ≡ false → ltb (x .replica) (y .replica) ≡ true
     higher e = let h = ltb-false (y .replica) (x .replica) e in lt-ltb (x .replica) (y .replica) (omega arith)
 
-    go : (u v : Bool) → cond (eqb (cond u 3 4) (cond v 3 4)) (ltb (y .replica) (x .replica)) (eqb (cond u 3 4) 3) ≡ false → cond (eqb (cond v 3 4) (cond u 3 4)) (ltb (x .replica) (y .replica)) (eqb (cond v 3 4) 3) ≡ true
+    go : (u v : Bool) → cond (eqb (cond u 3 4) (cond v 3 4)) (ltb (y .replica) (x .replica)) (eqb (cond u 3 4) 3) ≡ false
+        → cond (eqb (cond v 3 4) (cond u 3 4)) (ltb (x .replica) (y .replica)) (eqb (cond v 3 4) 3) ≡ true
     go true true e = higher e
     go true false e = never (sym e)
     go false true e = refl
@@ -387,44 +209,131 @@ clash-back parents x y c = elim (ℕ-discrete (x .node) (y .node)) [
       rw (ne-eqb (y .node) (x .node) (λ e. ne (sym e))) (and-both (h .1) (h .0))
 ]
 
-decided : (log more : Log) → GoodLog log → (x y : Move) → Asked log x → Asked log y → Both log more x y → (x .replica ≡ y .replica → ⊥) → clash (parentsOf log) x y ≡ true → (beats (parentsOf log) x y ≡ true → Wins log more x y) × (beats (parentsOf log) x y ≡ false → Wins log more y x)
-decided log more good x y ax ay both apart c = (
-  λ w. x-wins log more good x y ax ay both apart w c,
-  λ w. x-wins log more good y x ay ax (swap log more x y both) (λ e. apart (sym e)) (beaten log x y apart w) (clash-back (parentsOf log) x y c),
-)
+---- both are held
+
+apart-back : (x y : Move) → (x .replica ≡ y .replica → ⊥) → y .replica ≡ x .replica → ⊥
+apart-back x y apart e = apart (sym e)
+
+module _ (log more : Log) (good : GoodLog log) (good-more : GoodLog more) (x y : Move) (apart : x .replica ≡ y .replica → ⊥)
+    (ops : (z : Op) → has (concat more) z ≡ has (opOf log x ∷ opOf log y ∷ concat log) z) where
+  abbrev rx : Op
+  rx = opOf log x
+
+  abbrev ry : Op
+  ry = opOf log y
+
+  ops-back : (z : Op) → has (concat more) z ≡ has (ry ∷ rx ∷ concat log) z
+  ops-back z = ops z ∙ has-swap rx ry (concat log) z
+
+  both-held : Both log more x y
+  both-held =
+      let dx = drawn log good x in
+      let dy = drawn log good y in
+      record {
+        late = record {
+          extends = two-extends log more good good-more rx ry ops;
+          vector = λ s q l u lo hi.
+              ⊎-elim (λ e. rw e (dx .vector)) (λ e. rw e (dy .vector)) (one-of-two log more good good-more rx ry ops s q l u lo hi);
+        };
+        good = good-more;
+        count-x = first-count log more good good-more rx ry ops _ _ (dx .origin) (dy .origin) apart (dx .next);
+        count-y = first-count log more good good-more ry rx ops-back _ _ (dy .origin) (dx .origin) (apart-back x y apart) (dy .next);
+        rest = rest-same log more good good-more rx ry ops _ _ (dx .origin) (dy .origin) apart;
+        op-x = first-op log more good good-more rx ry ops _ _ (dx .origin) (dy .origin) apart (dx .next);
+        op-y = first-op log more good good-more ry rx ops-back _ _ (dy .origin) (dx .origin) (apart-back x y apart) (dy .next);
+      }
+
+---- from the calls
+
+-- the bytes that were put out are the op
+put-out : (f out : List ℕ) (x : Move) (n : ℕ) → issueAnswer width f (length out) (x .replica) (request x) ≡ accepted n
+    → putOut f out x ≡ opOf (logOf width f) x
+unfolding issueOut
+put-out f out x n e =
+    let long = issue-admitted f (length out) (x .replica) (request x) n e .long in
+    rw (e, take-at (opOf (logOf width f) x) (drop width out) width long)
 
 -- what two accepted issues say
 module _ (f g out out′ : List ℕ) (x y : Move) (both : Issued f g out out′ x y) where
-  abbrev log-of : Log
-  log-of = logOf width f
+  abbrev log : Log
+  log = logOf width f
 
-  is-good : GoodLog log-of
-  is-good = sound-good width f (allowed width f (length out) (x .replica) (request x) (both .end) (both .first) .is-sound)
+  abbrev putx : Op
+  putx = putOut f out x
 
-  asked-x : Asked log-of x
-  asked-x = asked width f (length out) (both .end) x (allowed width f (length out) (x .replica) (request x) (both .end) (both .first))
+  abbrev puty : Op
+  puty = putOut g out′ y
 
-  asked-y : Asked log-of y
-  asked-y =
-      rw (both .one-log) at (asked width g (length out′) (both .end′) y (allowed width g (length out′) (y .replica) (request y) (both .end′) (both .second)))
+  good : GoodLog log
+  good = sound-good width f (allowed width f (length out) (x .replica) (request x) (both .end) (both .first) .is-sound)
+
+  ax : Asked log x
+  ax = asked width f (length out) (both .end) x (allowed width f (length out) (x .replica) (request x) (both .end) (both .first))
+
+  ay : Asked log y
+  ay =
+      let a = allowed width g (length out′) (y .replica) (request y) (both .end′) (both .second) in
+      rw (both .one-log) at (asked width g (length out′) (both .end′) y a)
+
+  put-x : putx ≡ opOf log x
+  put-x = put-out f out x (both .end) (both .first)
+
+  put-y : puty ≡ opOf log y
+  put-y = rw (both .one-log) at (put-out g out′ y (both .end′) (both .second))
+
+  back-x : NextOp log (x .replica) putx
+  back-x = put-out-next f out (x .replica) (request x) (both .end) (both .first)
+
+  back-y : NextOp log (y .replica) puty
+  back-y = rw (both .one-log) at (put-out-next g out′ (y .replica) (request y) (both .end′) (both .second))
+
+  differ-back : y .replica ≡ x .replica → ⊥
+  differ-back = apart-back x y (both .replicas-differ)
+
+  module _ (h : List ℕ) (added : BothAdded f h putx puty) (c : clash (parentsOf log) x y ≡ true) where
+    abbrev more : Log
+    more = logOf width h
+
+    held : Both log more x y
+    held =
+        both-held log more good (sound-good width h (added .is-sound)) x y (both .replicas-differ) (rw (put-x, put-y) at (added .ops))
+
+    decided : (beats (parentsOf log) x y ≡ true → Wins log more x y) × (beats (parentsOf log) x y ≡ false → Wins log more y x)
+    decided = (
+      λ w. x-wins log more good x y ax ay held (both .replicas-differ) w c,
+      λ w. x-wins log more good y x ay ax (swap log more x y held) differ-back
+          (beaten log x y (both .replicas-differ) w) (clash-back (parentsOf log) x y c),
+    )
+
+  module _ (b : List ℕ) (is-sound : sound width b ≡ true) (one-log : logOf width b ≡ log)
+      (fits : fileEnd width b + 2 * width ≤ length b) where
+    room : fileEnd width b + width ≤ length b
+    room = omega arith
+
+    x-then-y : (one : Call) → Adds b putx one → Arrives f b putx puty one (deliver puty)
+    x-then-y one adds =
+        arrives f good _ _ putx puty back-x back-y (ay .low) (both .replicas-differ) b one-log one adds fits
+
+    y-then-x : (one : Call) → Adds b puty one → Arrives f b putx puty one (deliver putx)
+    y-then-x one adds =
+        arrives-back f b putx puty one (deliver putx)
+        (arrives f good _ _ puty putx back-y back-x (ax .low) differ-back b one-log one adds fits)
+
+    arrivals : Arrivals f b out out′ x y putx puty
+    arrivals = record {
+      x-issued = x-then-y _ (rw put-x (issue-adds f b out (x .replica) (request x) (both .end) (both .first) is-sound one-log room));
+      y-issued = y-then-x _ (rw (put-out g out′ y (both .end′) (both .second))
+          (issue-adds g b out′ (y .replica) (request y) (both .end′) (both .second) is-sound (one-log ∙ sym (both .one-log)) room));
+      x-first = x-then-y _ (op-adds f b (x .replica) putx back-x is-sound one-log room);
+      y-first = y-then-x _ (op-adds f b (y .replica) puty back-y is-sound one-log room);
+    }
 
 pub clash-decided : ClashDecided
-unfolding issueBuffer issueOut deliverBuffer
-clash-decided f g out out′ x y both n ok c =
-    let log : Log = logOf width f in
-    let good = is-good f g out out′ x y both in
-    let ax = asked-x f g out out′ x y both in
-    let ay = asked-y f g out out′ x y both in
-    let first = issue-admitted f (length out) (x .replica) (request x) (both .end) (both .first) in
-    let op : take width (issueOut width g out′ (y .replica) (request y)) ≡ opOf log y = rw (both .second, take-at (opOf (logOf width g) y) (drop width out′) width (issue-admitted g (length out′) (y .replica) (request y) (both .end′) (both .second) .long), both .one-log) in
-    let file : issueBuffer width f (length out) (x .replica) (request x) ≡ appended width f (opOf log x) = rw (both .first) in
-    let taken = rw (op, file) at ok in
-    let second = admitted width (appended width f (opOf log x)) (opOf log y) n taken in
-    let one-more = appended-log width f (opOf log x) (both .end) first in
-    let two-more = appended-log width (appended width f (opOf log x)) (opOf log y) n second in
-    let held = both-held log good x y ax ay (both .replicas-differ) (first .admits) (rw one-more at (second .admits)) in
-    rw (op, file, taken, two-more, one-more) (decided log _ good x y ax ay held (both .replicas-differ) c)
+clash-decided f g out out′ x y both h added c = decided f g out out′ x y both h added c
+
+pub both-arrive : BothArrive
+both-arrive f g out out′ x y both b is-sound one-log fits = arrivals f g out out′ x y both b is-sound one-log fits
 
 pub circle-cuts-off : CircleCutsOff
 circle-cuts-off f g out out′ x y both =
-    circle-is (logOf width f) (is-good f g out out′ x y both) x y (asked-x f g out out′ x y both) (asked-y f g out out′ x y both)
+    circle-is (log f g out out′ x y both) (good f g out out′ x y both) x y (ax f g out out′ x y both) (ay f g out out′ x y both)

@@ -1,26 +1,20 @@
 -- Laws of lists of ops: what a list has, how often, and what one list has and another lacks. Assumes nothing.
 use mathlib.Core.Path.{_≡_, refl, sym, ap, _∙_}
 use mathlib.Core.Logic.{⊎-elim}
-use mathlib.Core.Bool.{Bool, true, false, cond, _||_, not, or-assoc, or-false, or-true}
-use mathlib.Core.List.{List, [], _∷_, _++_, append-nil}
-use Prim.Native.Nat.{ℕ, _+_, _≤_}
+use mathlib.Core.Bool.{Bool, true, false, cond, _||_, not, or-false, or-true}
+use mathlib.Core.List.{List, [], _∷_, _++_, map, append-nil}
+use Prim.Native.Nat.{ℕ, zero, suc, _+_, _≤_, _<_}
+use native.Mathlib.Nat.{le-of-suc-le-suc, not-suc-le-zero}
+use native.Mathlib.Decide.{ℕ-discrete}
 use native.Mathlib.Omega.{arith}
-use lib.ListN.{length, length-append}
-use Rattle.rules.specs.Bytes.{same, any, filter}
+use lib.ListN.{length, getD, length-append}
+use Rattle.lists.specs.Lists.{upFrom, same, concat, any, filter}
 use Rattle.rules.specs.Op.{Op}
 use Rattle.convergence.specs.Exchange.{has, times, onlyIn}
-use Rattle.rules.proofs.BoolLaws.{never, both-ways, or-cases}
-use Rattle.rules.proofs.ListLaws.{same-refl, filter-append, same-eq}
-
-pub same-sym : (a b : List ℕ) → same a b ≡ same b a
-same-sym a b =
-    both-ways (same a b) (same b a) (λ e. rw (same-eq a b e) (same-refl b)) (λ e. rw (same-eq b a e) (same-refl a))
-
-module _ {A : Type 0} (t : A → Bool) where
-  pub any-append : (a b : List A) → any t (a ++ b) ≡ (any t a || any t b)
-  unfolding any
-  any-append [] b = refl
-  any-append (x ∷ a) b = rw (any-append a b) (sym (or-assoc (t x) (any t a) (any t b)))
+use Rattle.lists.proofs.BoolLaws.{never, or-cases}
+use Rattle.lists.proofs.ListLaws.{same-refl, same-eq, same-sym}
+use Rattle.lists.proofs.FilterLaws.{filter-append}
+use Rattle.lists.proofs.AllLaws.{any-append}
 
 ---- has and times
 
@@ -55,7 +49,8 @@ unfolding times has any filter
 times-none [] r e = refl
 times-none (x ∷ a) r e = go (same r x) e (times-none a r)
   where
-    go : (b : Bool) → (b || any (same r) a) ≡ false → (any (same r) a ≡ false → length (filter (same r) a) ≡ 0) → length (cond b (x ∷ filter (same r) a) (filter (same r) a)) ≡ 0
+    go : (b : Bool) → (b || any (same r) a) ≡ false → (any (same r) a ≡ false → length (filter (same r) a) ≡ 0)
+        → length (cond b (x ∷ filter (same r) a) (filter (same r) a)) ≡ 0
     go true z ih = never (sym z)
     go false z ih = ih z
 
@@ -64,7 +59,8 @@ unfolding times has any filter
 times-some [] r e = never e
 times-some (x ∷ a) r e = go (same r x) e (times-some a r)
   where
-    go : (b : Bool) → (b || any (same r) a) ≡ true → (any (same r) a ≡ true → 1 ≤ length (filter (same r) a)) → 1 ≤ length (cond b (x ∷ filter (same r) a) (filter (same r) a))
+    go : (b : Bool) → (b || any (same r) a) ≡ true → (any (same r) a ≡ true → 1 ≤ length (filter (same r) a))
+        → 1 ≤ length (cond b (x ∷ filter (same r) a) (filter (same r) a))
     go true z ih = omega arith
     go false z ih = ih z
 
@@ -83,6 +79,42 @@ once-last a x r h e = rw (times-append a (x ∷ []) r) (go (same r x) refl)
     go true q = let z : has a r ≡ false = rw (same-eq r x q) e in omega (arith, times-none a r z)
     go false q = omega arith
 
+---- where an op stands
+
+pub has-at : (a : List Op) (r : Op) → has a r ≡ true → (i : ℕ) × (i < length a) × (getD a i [] ≡ r)
+unfolding has any
+has-at [] r e = never e
+has-at (x ∷ a) r e = ⊎-elim (λ (h : same r x ≡ true). (0, omega arith, sym (same-eq r x h))) (λ (h : has a r ≡ true). next (has-at a r h))
+    (or-cases (same r x) (has a r) e)
+  where
+    next : (i : ℕ) × (i < length a) × (getD a i [] ≡ r) → (i : ℕ) × (i < suc (length a)) × (getD (x ∷ a) i [] ≡ r)
+    next (i, l, g) = (suc i, omega arith, g)
+
+pub at-has : (a : List Op) (i : ℕ) → i < length a → has a (getD a i []) ≡ true
+at-has [] i l = absurd (not-suc-le-zero l)
+at-has (x ∷ a) zero l = has-head x a
+at-has (x ∷ a) (suc i) l = has-tail x a _ (at-has a i (le-of-suc-le-suc l))
+
+-- in a list of lists, one for each number from a on
+module _ (F : ℕ → List Op) (r : Op) where
+  pub has-part : (n a : ℕ) → has (concat (map F (upFrom a n))) r ≡ true → (s : ℕ) × (a ≤ s) × (s < a + n) × (has (F s) r ≡ true)
+  unfolding concat upFrom has any
+  has-part zero a e = never e
+  has-part (suc n) a e = ⊎-elim (λ (h : has (F a) r ≡ true). (a, omega arith, omega arith, h))
+      (λ (h : has (concat (map F (upFrom (suc a) n))) r ≡ true). next (has-part n (suc a) h))
+      (or-cases _ _ (sym (has-append (F a) _ r) ∙ e))
+    where
+      next : (s : ℕ) × (suc a ≤ s) × (s < suc a + n) × (has (F s) r ≡ true) → (s : ℕ) × (a ≤ s) × (s < a + suc n) × (has (F s) r ≡ true)
+      next (s, l, u, h) = (s, omega arith, omega arith, h)
+
+  pub part-has : (n a s : ℕ) → a ≤ s → s < a + n → has (F s) r ≡ true → has (concat (map F (upFrom a n))) r ≡ true
+  unfolding concat upFrom
+  part-has zero a s l u e = absurd (omega arith)
+  part-has (suc n) a s l u e = rw (has-append (F a) (concat (map F (upFrom (suc a) n))) r) (elim (ℕ-discrete s a) [
+    | yes q ↦ rw (← q, e)
+    | no nq ↦ rw (part-has n (suc a) s (omega arith) (omega arith) e, or-true)
+  ])
+
 ---- what one list has and another lacks
 
 -- b comes to have an op of a
@@ -91,7 +123,9 @@ unfolding onlyIn times filter
 onlyIn-less [] b r h = refl
 onlyIn-less (x ∷ a) b r h = rw (has-last b r x, same-sym x r) (go (has b x) (same r x) refl refl (onlyIn-less a b r h))
   where
-    go : (c d : Bool) → has b x ≡ c → same r x ≡ d → length (onlyIn a b) ≡ length (onlyIn a (b ++ (r ∷ []))) + times a r → length (cond (not c) (x ∷ onlyIn a b) (onlyIn a b)) ≡ length (cond (not (c || d)) (x ∷ onlyIn a (b ++ (r ∷ []))) (onlyIn a (b ++ (r ∷ [])))) + length (cond d (x ∷ filter (same r) a) (filter (same r) a))
+    go : (c d : Bool) → has b x ≡ c → same r x ≡ d → length (onlyIn a b) ≡ length (onlyIn a (b ++ (r ∷ []))) + times a r
+        → length (cond (not c) (x ∷ onlyIn a b) (onlyIn a b)) ≡ length (cond (not (c || d)) (x ∷ onlyIn a (b ++ (r ∷ [])))
+        (onlyIn a (b ++ (r ∷ [])))) + length (cond d (x ∷ filter (same r) a) (filter (same r) a))
     go true true p q ih = never (sym h ∙ rw (same-eq r x q) p)
     go true false p q ih = ih
     go false true p q ih = omega arith
@@ -107,7 +141,9 @@ unfolding onlyIn filter has any
 some-onlyIn [] b h = absurd (omega arith)
 some-onlyIn (x ∷ a) b h = go (has b x) refl h (some-onlyIn a b)
   where
-    go : (c : Bool) → has b x ≡ c → 1 ≤ length (cond (not c) (x ∷ onlyIn a b) (onlyIn a b)) → (1 ≤ length (onlyIn a b) → (r : Op) × (has a r ≡ true) × (has b r ≡ false)) → (r : Op) × ((same r x || has a r) ≡ true) × (has b r ≡ false)
+    go : (c : Bool) → has b x ≡ c → 1 ≤ length (cond (not c) (x ∷ onlyIn a b) (onlyIn a b))
+        → (1 ≤ length (onlyIn a b) → (r : Op) × (has a r ≡ true) × (has b r ≡ false))
+        → (r : Op) × ((same r x || has a r) ≡ true) × (has b r ≡ false)
     go true e l ih = let (r, i, n) = ih l in (r, rw (i, or-true), n)
     go false e l ih = (x, rw (same-refl x), e)
 
@@ -116,6 +152,8 @@ unfolding onlyIn filter has any
 none-onlyIn [] b h r e = never e
 none-onlyIn (x ∷ a) b h r e = go (has b x) refl h (none-onlyIn a b)
   where
-    go : (c : Bool) → has b x ≡ c → cond (not c) (x ∷ onlyIn a b) (onlyIn a b) ≡ [] → (onlyIn a b ≡ [] → (r : Op) → has a r ≡ true → has b r ≡ true) → has b r ≡ true
-    go true i z ih = ⊎-elim (λ (q : same r x ≡ true). rw (same-eq r x q) i) (λ (q : has a r ≡ true). ih z r q) (or-cases (same r x) (has a r) e)
+    go : (c : Bool) → has b x ≡ c → cond (not c) (x ∷ onlyIn a b) (onlyIn a b) ≡ [] → (onlyIn a b ≡ [] → (r : Op) → has a r ≡ true
+        → has b r ≡ true) → has b r ≡ true
+    go true i z ih = ⊎-elim (λ (q : same r x ≡ true). rw (same-eq r x q) i) (λ (q : has a r ≡ true). ih z r q)
+        (or-cases (same r x) (has a r) e)
     go false i z ih = let z : _≡_ {A = ℕ} 0 1 = cc in absurd (omega arith)

@@ -5,24 +5,25 @@ use mathlib.Core.List.{List, [], _∷_, _++_, foldl}
 use Prim.Native.Nat.{ℕ, _+_, _≤_, _<_}
 use native.Mathlib.Omega.{arith}
 use borrow.Author.Tests.{leb-false, le-leb}
-use lib.ListN.{length, take, drop, take-append-drop}
+use lib.ListN.{length, take, drop}
 use lib.Seq.{drop-at, take-at}
 use lib.Dec.{lit≤}
 use Rattle.rules.specs.Op.{Op, countIn, replicaOf, seqOf}
-use Rattle.rules.specs.Log.{Log, countsOf, append, fileEnd, logOf, fileOf, emptyLog, appended, width}
+use Rattle.rules.specs.File.{Log, countsOf, append, fileEnd, logOf, fileOf, emptyLog, appended, width}
 use Rattle.rules.specs.Deliver.{makeAnswer, makeBuffer, held, deliverAnswer, deliverBuffer}
 use Rattle.rules.specs.Issue.{issued, issueAnswer, issueBuffer, issueOut}
 use Rattle.convergence.specs.Exchange.{Call, make, issue, deliver, Site, answer, bufferAfter, heldThen, perform, run, standing, has, times, arrange, filed, fileIn}
-use Rattle.rules.specs.Bytes.{any, filter}
+use Rattle.lists.specs.Lists.{any, filter}
 use Rattle.rules.specs.Sound.{sound}
 use Rattle.rules.specs.Answer.{Answer, refused, hadIt, accepted, require, ifAccepted, done}
-use Rattle.rules.proofs.BoolLaws.{never, replica-cases, fails}
-use Rattle.rules.proofs.DeliverLaws.{Admitted, admitted, appended-log, appended-end, appended-sound, wide-new, end-new}
+use Rattle.lists.proofs.BoolLaws.{never, fails}
+use Rattle.rules.proofs.ReplicaLaws.{replica-cases}
+use Rattle.rules.proofs.DeliverLaws.{Admitted, admitted, appended-log, appended-end, appended-sound, appended-past}
 use Rattle.rules.proofs.IssueLaws.{issue-admitted}
 use Rattle.rules.proofs.AppendLaws.{in-range, own-next, seq-positive}
 use Rattle.rules.proofs.FileLaws.{length-logOf, counts-logOf, length-file, WideLog, logOf-fileOf, file-end}
 use Rattle.rules.proofs.StructureLaws.{GoodLog, HeldOps, good-ops}
-use Rattle.rules.proofs.SoundLaws.{sound-good, good-empty, sound-laid, wide-empty, sound-file, sound-wide}
+use Rattle.rules.proofs.SoundLaws.{sound-good, sound-laid, wide-empty, sound-file, sound-wide, SoundLog, sound-empty, sound-log}
 use Rattle.convergence.proofs.HasLaws.{once-last}
 use Rattle.convergence.proofs.TrackLaws.{Tracks, tracks-append, arrange-log}
 
@@ -39,6 +40,9 @@ pub record Kept (x : Site) : Type 0 where
 pub kept-good : (x : Site) → Kept x → GoodLog (logIn x)
 kept-good x k = sound-good width (x .buffer) (k .is-sound)
 
+pub kept-sound : (x : Site) → Kept x → SoundLog (logIn x)
+kept-sound x k = sound-log width (x .buffer) (k .is-sound)
+
 pub kept-wide : (x : Site) → Kept x → WideLog width (logIn x)
 kept-wide x k = sound-wide width (x .buffer) (k .is-sound)
 
@@ -53,12 +57,23 @@ pub kept-end : (x : Site) → Kept x → length (fileOf width (logIn x)) ≡ fil
 unfolding fileEnd
 kept-end x k = rw (length-file width (logIn x) (kept-wide x k), counts-logOf)
 
+pub kept-front : (x : Site) → Kept x → fileIn x ≡ fileOf width (logIn x)
+unfolding fileIn
+kept-front x k =
+    ap (take (fileEnd width (x .buffer))) (k .front) ∙ take-at (fileOf width (logIn x)) _ _ (kept-end x k)
+
 -- a file in front of a rest
-pub kept-file : (log : Log) (rest : List ℕ) (ops : List Op) → GoodLog log → WideLog width log → Tracks log ops → ((r : Op) → times ops r ≤ 1) → Kept (record { buffer = fileOf width log ++ rest; held = ops })
+pub kept-file : (log : Log) (rest : List ℕ) (ops : List Op) → SoundLog log → WideLog width log → Tracks log ops
+    → ((r : Op) → times ops r ≤ 1) → Kept (record { buffer = fileOf width log ++ rest; held = ops })
 kept-file log rest ops g w t o = record {
   is-sound = sound-file width log rest g w;
-  front = rw (logOf-fileOf width log rest (g .eight) w, file-end width log rest (g .eight), drop-at (fileOf width log) rest _ (length-file width log w));
-  tracks = rw (logOf-fileOf width log rest (g .eight) w) t;
+  front = rw (
+    logOf-fileOf width log rest (g .good .eight) w,
+    file-end width log rest (g .good .eight),
+    drop-at (fileOf width log) rest _
+        (length-file width log w),
+  );
+  tracks = rw (logOf-fileOf width log rest (g .good .eight) w) t;
   once = o;
 }
 
@@ -68,14 +83,10 @@ module _ (x : Site) (r : Op) (n : ℕ) (k : Kept x) (h : Admitted width (x .buff
   abbrev grown : Site
   grown = record { buffer = appended width (x .buffer) r; held = x .held ++ (r ∷ []) }
 
-  pub grown-past : drop (fileEnd width (x .buffer) + width) (appended width (x .buffer) r) ≡ drop (fileEnd width (x .buffer) + width) (x .buffer)
-  unfolding appended
-  grown-past =
-      drop-at (fileOf width (append (logIn x) r)) _ _ (length-file width (append (logIn x) r) (wide-new width (x .buffer) r n h) ∙ end-new width (x .buffer) r n h)
-
   pub grown-new : has (x .held) r ≡ false
   unfolding Rattle.rules.specs.Deliver.held
-  grown-new = fails _ (λ e. let i = k .tracks .inside r e in let z : countIn (countsOf (logIn x)) (replicaOf r) < seqOf r = leb-false _ _ (h .admits .new) in omega (arith, i .here))
+  grown-new = fails _ (λ e. let i = k .tracks .inside r e in let z : countIn (countsOf (logIn x)) (replicaOf r) < seqOf r = leb-false _ _
+      (h .admits .new) in omega (arith, i .here))
 
   grown-front : appended width (x .buffer) r ≡ fileOf width (append (logIn x) r) ++ drop (fileEnd width (x .buffer) + width) (x .buffer)
   unfolding appended
@@ -86,8 +97,10 @@ module _ (x : Site) (r : Op) (n : ℕ) (k : Kept x) (h : Admitted width (x .buff
       let i = in-range (logIn x) r (kept-good x k) (h .admits) in
       record {
         is-sound = appended-sound width (x .buffer) r n h;
-        front = rw (appended-log width (x .buffer) r n h, appended-end width (x .buffer) r n h, grown-past) grown-front;
-        tracks = rw (appended-log width (x .buffer) r n h) (tracks-append (logIn x) r (length-logOf width (x .buffer)) (i .0) (i .1) (own-next (logIn x) r (kept-good x k) (h .admits)) (x .held) (k .tracks));
+        front = rw (appended-log width (x .buffer) r n h, appended-end width (x .buffer) r n h, appended-past width (x .buffer) r n h)
+            grown-front;
+        tracks = rw (appended-log width (x .buffer) r n h) (tracks-append (logIn x) r (length-logOf width (x .buffer)) (i .0) (i .1)
+            (own-next (logIn x) r (kept-good x k) (h .admits)) (x .held) (k .tracks));
         once = λ y. once-last (x .held) r y (k .once y) grown-new;
       }
 
@@ -110,14 +123,20 @@ empty-once r = lit≤ tt
 
 pub kept-make : (x : Site) → 32 ≤ length (x .buffer) → Kept (perform x make)
 unfolding perform bufferAfter answer heldThen makeBuffer makeAnswer require
-kept-make x h = rw (le-leb 32 (length (x .buffer)) h) (kept-file emptyLog (drop 32 (x .buffer)) [] good-empty (wide-empty width) empty-tracks empty-once)
+kept-make x h = rw (le-leb 32 (length (x .buffer)) h) (kept-file emptyLog (drop 32 (x .buffer)) [] sound-empty (wide-empty width)
+    empty-tracks empty-once)
 
 pub kept-perform : (x : Site) (c : Call) → Kept x → Kept (perform x c)
 unfolding perform bufferAfter answer heldThen issueBuffer issueOut deliverBuffer
 kept-perform x make k = kept-make x (sound-laid width (x .buffer) (k .is-sound) .header)
 kept-perform x (issue lent s q) k = go (issueAnswer width (x .buffer) (length lent) s q) refl
   where
-    go : (a : Answer) → issueAnswer width (x .buffer) (length lent) s q ≡ a → Kept (record { buffer = ifAccepted a (appended width (x .buffer) (issued (logIn x) s q)) (x .buffer); held = ifAccepted a (x .held ++ (take width (ifAccepted a (issued (logIn x) s q ++ drop width lent) lent) ∷ [])) (x .held) })
+    go : (a : Answer) → issueAnswer width (x .buffer) (length lent) s q ≡ a
+        → Kept (record {
+          buffer = ifAccepted a (appended width (x .buffer) (issued (logIn x) s q)) (x .buffer);
+          held = ifAccepted a
+              (x .held ++ (take width (ifAccepted a (issued (logIn x) s q ++ drop width lent) lent) ∷ [])) (x .held);
+        })
     go (refused n) e = k
     go hadIt e = k
     go done e = k
@@ -126,7 +145,12 @@ kept-perform x (issue lent s q) k = go (issueAnswer width (x .buffer) (length le
         rw (take-at (issued (logIn x) s q) (drop width lent) width (h .long)) (kept-grown x (issued (logIn x) s q) n k h)
 kept-perform x (deliver r) k = go (deliverAnswer width (x .buffer) r) refl
   where
-    go : (a : Answer) → deliverAnswer width (x .buffer) r ≡ a → Kept (record { buffer = ifAccepted a (appended width (x .buffer) r) (x .buffer); held = ifAccepted a (x .held ++ (r ∷ [])) (x .held) })
+    go : (a : Answer) → deliverAnswer width (x .buffer) r ≡ a
+        → Kept (record {
+          buffer = ifAccepted a (appended width (x .buffer) r) (x .buffer);
+          held = ifAccepted a (x .held ++ (r ∷ []))
+              (x .held);
+        })
     go (refused n) e = k
     go hadIt e = k
     go done e = k
@@ -143,16 +167,10 @@ kept-run f calls h = kept-calls calls (perform (record { buffer = f; held = [] }
 
 -- the file in another buffer
 pub kept-standing : (x : Site) (rest : List ℕ) → Kept x → Kept (standing x rest)
-unfolding standing fileIn
+unfolding standing
 kept-standing x rest k =
-    let g = kept-good x k in
-    let e : take (fileEnd width (x .buffer)) (x .buffer) ≡ fileOf width (logIn x) = ap (take (fileEnd width (x .buffer))) (k .front) ∙ take-at (fileOf width (logIn x)) _ _ (kept-end x k) in
-    rw e (kept-file (logIn x) rest (x .held) g (kept-wide x k) (k .tracks) (k .once))
-
--- a buffer stands for itself: what lies past the file is its own
-pub standing-own : (x : Site) → standing x (drop (fileEnd width (x .buffer)) (x .buffer)) ≡ x
-unfolding standing fileIn
-standing-own x = rw (take-append-drop (fileEnd width (x .buffer)) (x .buffer))
+    let g = kept-sound x k in
+    rw (kept-front x k) (kept-file (logIn x) rest (x .held) g (kept-wide x k) (k .tracks) (k .once))
 
 pub kept-filed : (x : Site) → Kept x → x .buffer ≡ filed (x .held) (x .buffer)
 unfolding filed

@@ -1,10 +1,12 @@
 pub mod HasLaws
-pub mod UnionLaws
 pub mod TrackLaws
 pub mod KeptLaws
+pub mod ListTheorems
 pub mod SideLaws
 pub mod RoundLaws
 pub mod Converge
-pub mod CircleLaws
+pub mod AddedLaws
+pub mod ArriveLaws
+pub mod MoveLaws
 pub mod ClashLaws
 pub mod ClashTheorem

@@ -9,9 +9,9 @@ use Rattle.rules.specs.Op.{Op}
 use Rattle.rules.specs.Deliver.{deliverBuffer}
 use Rattle.convergence.specs.Exchange.{Site, answer, bufferAfter, heldThen, perform, Side, left, right, other, isSide, Pair, missing, Offer, answerTo, offered, after, Answered, answers, acceptances, acceptedBy, onlyIn}
 use Rattle.rules.specs.Answer.{Answer, refused, hadIt, accepted, ifAccepted, done}
-use Rattle.rules.specs.Log.{appended, width}
-use Rattle.rules.proofs.BoolLaws.{never}
-use Rattle.rules.proofs.ListLaws.{filter-append}
+use Rattle.rules.specs.File.{appended, width}
+use Rattle.lists.proofs.BoolLaws.{never}
+use Rattle.lists.proofs.FilterLaws.{filter-append}
 
 -- a fact of a side and of the other one
 pub both : (t : Side) (P : Side → Type 0) → P t → P (other t) → (d : Side) → P d
@@ -38,16 +38,22 @@ side-eq left right e = never e
 side-eq right left e = never e
 side-eq right right e = refl
 
-pub missing-from : (p : Pair) (d : Side) → length (missing p) ≡ length (onlyIn (p d .held) (p (other d) .held)) + length (onlyIn (p (other d) .held) (p d .held))
+pub missing-from : (p : Pair) (d : Side) → length (missing p) ≡ length (onlyIn (p d .held) (p (other d) .held)) + length
+    (onlyIn (p (other d) .held) (p d .held))
 unfolding missing other
 missing-from p left = length-append (onlyIn (p left .held) (p right .held)) (onlyIn (p right .held) (p left .held))
-missing-from p right = length-append (onlyIn (p left .held) (p right .held)) (onlyIn (p right .held) (p left .held)) ∙ add-comm (length (onlyIn (p left .held) (p right .held))) (length (onlyIn (p right .held) (p left .held)))
+missing-from p right = length-append (onlyIn (p left .held) (p right .held)) (onlyIn (p right .held) (p left .held))
+    ∙ add-comm (length (onlyIn (p left .held) (p right .held))) (length (onlyIn (p right .held) (p left .held)))
 
 ---- one offer
 
 -- a delivery that is answered a
 unfoldable pub delivered : Site → Op → Answer → Site
-delivered x r a = record { buffer = ifAccepted a (appended width (x .buffer) r) (x .buffer); held = ifAccepted a (x .held ++ (r ∷ [])) (x .held) }
+delivered x r a = record {
+  buffer = ifAccepted a (appended width (x .buffer) r) (x .buffer);
+  held = ifAccepted a (x .held ++ (r ∷ []))
+      (x .held);
+}
 
 module _ (p : Pair) (o : Offer) where
   pub offered-to : offered p o (o .to) ≡ delivered (p (o .to)) (o .op) (answerTo p o)

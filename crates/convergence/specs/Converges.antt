@@ -1,4 +1,4 @@
--- What two logs come to when they meet: demand 3 as one statement, and what is said beside it of every list of calls. Assumes nothing.
+-- What two logs come to when they meet: demand 3 as one statement. Assumes nothing.
 use Prim.Native.Nat.{ℕ, _≤_}
 use mathlib.Core.Path.{_≡_}
 use mathlib.Core.Bool.{Bool, true, false, cond, _&&_, not}
@@ -6,32 +6,16 @@ use mathlib.Core.List.{List, [], _++_}
 use lib.ListN.{length, drop}
 use lib.Dec.{eqb}
 use Rattle.rules.specs.Answer.{Answer, refused, hadIt, done, accepted}
-use Rattle.rules.specs.Bytes.{concat, all}
+use Rattle.lists.specs.Lists.{concat, all}
 use Rattle.rules.specs.Op.{Op}
-use Rattle.rules.specs.Log.{Log, width}
+use Rattle.rules.specs.File.{Log, width, largest}
 use Rattle.rules.specs.Tree.{slots}
 use Rattle.rules.specs.Replay.{parentsOf, outcomesOf}
 use Rattle.rules.specs.Judge.{Judgement, judge}
 use Rattle.rules.specs.Views.{nodes}
 use Rattle.rules.specs.TreeClaim.{IsTree}
-use Rattle.convergence.specs.Exchange.{Call, run, fileIn, standing, has, times, Agreed, arrange, filed, Side, left, right, other, Pair, missing, everything, Round, after, Answered, answers, acceptances, acceptedBy, ValidRound, EachRound}
-
----- one list of calls
-
--- "after every list the file is, to its end, the table and bodies of the held records"
-abbrev pub ListsFile : Type 0
-ListsFile =
-    (f : List ℕ) (calls : List Call) → 32 ≤ length f
-    → run f calls .buffer ≡ filed (run f calls .held) (run f calls .buffer)
-
--- strong eventual consistency: the same ops held, in whatever order they came, are the same file
-abbrev pub SameOpsSameFile : Type 0
-SameOpsSameFile =
-    (f g : List ℕ) (a b : List Call) → 32 ≤ length f → 32 ≤ length g
-    → ((r : Op) → has (run f a .held) r ≡ has (run g b .held) r)
-    → fileIn (run f a) ≡ fileIn (run g b)
-
----- two lists, and the rounds after them
+use Rattle.convergence.specs.Lists.{Stored}
+use Rattle.convergence.specs.Exchange.{Call, run, standing, has, times, Agreed, arrange, filed, Side, left, right, other, Pair, missing, everything, Round, after, Answered, answers, acceptances, acceptedBy, ValidRound, EachRound}
 
 -- the answers of a round: "acceptance, had it and 5, which is early, and no others"
 unfoldable pub expected : Answer → Bool
@@ -55,14 +39,16 @@ pub record Settled (p q : Pair) (xs : List Answered) : Type 0 where
   -- each file is that of all ops that either held before the rounds
   pub files : (d : Side) → q d .buffer ≡ filed (everything p) (p d .buffer)
   -- judging gives both the same tree and outcomes, those of all these ops
-  pub judging : (d : Side) (parents outcomes : List ℕ) → slots ≤ length parents → slots ≤ length outcomes → judge width (q d .buffer) parents outcomes ≡ judged (arrange (everything p)) parents outcomes
+  pub judging : (d : Side) (parents outcomes : List ℕ) → slots ≤ length parents → slots ≤ length outcomes
+      → judge width (q d .buffer) parents outcomes ≡ judged (arrange (everything p)) parents outcomes
   -- every climb reaches the root in no more steps than there are added nodes
   pub tree : IsTree (nodes (arrange (everything p))) (parentsOf (arrange (everything p)))
 
 pub record Meets (p : Pair) (rounds : List Round) : Type 0 where
-  -- each list left the file of the held ops, none of them twice
-  pub filed-first : (d : Side) → p d .buffer ≡ filed (p d .held) (p d .buffer)
-  pub held-once : (d : Side) (r : Op) → times (p d .held) r ≤ 1
+  -- each list left the file of the held ops
+  pub stored : (d : Side) → Stored (p d)
+  -- arranging what either holds drops nothing: an op is in the log of all ops exactly if one side holds it
+  pub every : (r : Op) → has (concat (arrange (everything p))) r ≡ has (everything p) r
   -- the answers of all rounds are those expected
   pub answered : all (λ x. expected (x .answered)) (answers p (concat rounds)) ≡ true
   -- each round that begins with something missing has an acceptance
@@ -79,7 +65,7 @@ abbrev pub Converges : Type 0
 Converges =
     (start : Side → List ℕ) (calls : Side → List Call) (rest : Side → List ℕ) (rounds : List Round)
     → ((d : Side) → 32 ≤ length (start d))
-    → ((d : Side) → 28592 ≤ length (meeting start calls rest d .buffer))
+    → ((d : Side) → largest width ≤ length (meeting start calls rest d .buffer))
     → Agreed (meeting start calls rest left .held) (meeting start calls rest right .held)
     → EachRound ValidRound (meeting start calls rest) rounds
     → Meets (meeting start calls rest) rounds

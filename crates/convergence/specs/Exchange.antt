@@ -1,4 +1,5 @@
--- "Two collections that meet": lists of calls and what is held after them; rounds of offers, their answers, and what is missing (the paper's
+-- "Two collections that meet": lists of calls and what is held after them; rounds of offers, their answers, and what is missing (the
+-- paper's
 -- lacking). Assumes nothing.
 use Prim.Native.Nat.{ℕ}
 use mathlib.Core.Path.{_≡_}
@@ -7,9 +8,9 @@ use mathlib.Core.List.{List, [], _∷_, _++_, map, foldl}
 use lib.ListN.{length, take, drop}
 use lib.Dec.{eqb}
 use Rattle.rules.specs.Answer.{Answer, ifAccepted}
-use Rattle.rules.specs.Bytes.{upFrom, same, concat, any, filter}
+use Rattle.lists.specs.Lists.{upFrom, same, concat, any, filter}
 use Rattle.rules.specs.Op.{Op, replicas, replicaOf, seqOf}
-use Rattle.rules.specs.Log.{Log, width, fileEnd, fileOf}
+use Rattle.rules.specs.File.{Log, width, fileEnd, fileOf}
 use Rattle.rules.specs.Deliver.{makeAnswer, makeBuffer, deliverAnswer, deliverBuffer}
 use Rattle.rules.specs.Issue.{Request, issueAnswer, issueBuffer, issueOut}
 
@@ -48,9 +49,30 @@ perform x c = record {
   held = ifAccepted (answer (x .buffer) c) (heldThen x c) (x .held);
 }
 
--- a list starts with making, in a buffer that holds f
+-- a buffer that holds f, before the first call
+abbrev pub lent : List ℕ → Site
+lent f = record { buffer = f; held = [] }
+
+-- a list starts with making
 unfoldable pub run : List ℕ → List Call → Site
-run f calls = foldl perform (record { buffer = f; held = [] }) (make ∷ calls)
+run f calls = foldl perform (lent f) (make ∷ calls)
+
+-- what a call hands back: its answer, and what it leaves in the bytes that it was lent for the op
+pub record Reply : Type 0 where
+  pub answer : Answer
+  pub out : List ℕ
+
+unfoldable pub outAfter : List ℕ → Call → List ℕ
+outAfter f make = []
+outAfter f (issue out s q) = issueOut width f out s q
+outAfter f (deliver r) = []
+
+unfoldable pub reply : List ℕ → Call → Reply
+reply f c = record { answer = answer f c; out = outAfter f c }
+
+unfoldable pub replies : Site → List Call → List Reply
+replies x [] = []
+replies x (c ∷ calls) = reply (x .buffer) c ∷ replies (perform x c) calls
 
 -- the file at the front of a buffer
 unfoldable pub fileIn : Site → List ℕ

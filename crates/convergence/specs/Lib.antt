@@ -1,4 +1,5 @@
 pub mod Exchange
+pub mod Lists
 pub mod Converges
 pub mod Clash
 pub mod Meeting

@@ -1,22 +1,25 @@
 -- A meeting worked out: what the definitions of Exchange give for the paper's P1. Assumes nothing.
 use Prim.Native.Nat.{ℕ}
 use lib.ListN.{replicate}
-use mathlib.Core.Bool.{true}
+use mathlib.Core.Bool.{Bool, true, false, _||_, or-true}
 use mathlib.Core.List.{List, [], _∷_, _++_}
 use mathlib.Core.Path.{refl, _≡_}
-use Rattle.convergence.specs.Clash.{Move, circle, beats, request}
+use native.Mathlib.Omega.{arith}
+use Rattle.convergence.specs.Clash.{Move, circle, beats, putOut, Issued, BothAdded, Arrivals}
 use Rattle.convergence.specs.Converges.{expected}
 use Rattle.convergence.specs.Exchange.{Side, Round, left, Offer, Pair, Call, issue, deliver, run, right, make, missing, after, answers, acceptedBy, answer, answerTo, acceptances, isSide, arrange, inOrder, everything, other, perform, opNumbered, heldThen, has, onlyIn, bufferAfter, offered}
-use Rattle.rules.specs.Answer.{require, accepted}
-use Rattle.rules.specs.Bytes.{wordAt, all, word, upFrom, downFrom, sum, concat, greatest, same, any, filter, isIn}
+use Rattle.rules.specs.Answer.{require}
+use Rattle.rules.specs.Bytes.{wordAt, word}
+use Rattle.lists.specs.Lists.{all, upFrom, downFrom, sum, concat, greatest, same, any, filter, isIn}
 use Rattle.rules.specs.Deliver.{makeAnswer, deliverBuffer, makeBuffer, deliverAnswer, heldAnswer, admitAnswer, held}
 use Rattle.rules.specs.Examples.{p1, adds, p1File, vector}
-use Rattle.rules.specs.Issue.{opBytes, add, move, requestKnown, issued, moveKind, issueAnswer, requestClear, issueBuffer, issueOut}
-use Rattle.rules.specs.Log.{emptyLog, opsOf, opAt, countsOf, append, countAt, startAt, headerCounts, startOf, endOf, fileEnd, chunks, chunksOf, logOf, headerEntry, headerOf, fileOf, within, covered, closedAt, closed, nodeWithin, known, knownParent, namesKnown, soundOp, soundOps, soundLog, soundHeader, laid, structural, appended, width}
+use Rattle.rules.specs.Issue.{opBytes, add, move, requestKnown, issued, issueAnswer, requestClear, issueBuffer, issueOut}
+use Rattle.rules.specs.Tree.{moveKind, climb, path, atOrBelow, slot, slotOf, depth, parentIn}
+use Rattle.rules.specs.File.{emptyLog, opsOf, opAt, countsOf, append, countAt, startAt, headerCounts, startOf, endOf, fileEnd, chunks, chunksOf, logOf, headerEntry, headerOf, fileOf, within, appended, width}
+use Rattle.rules.specs.Log.{covered, closedAt, closed, nodeWithin, known, knownParent, namesKnown, soundOp, soundOps, soundLog, soundHeader, laid, structural}
 use Rattle.rules.specs.Op.{Op, replicas, isReplica, countIn, kindOf, replicaOf, nodeOf, parentOf, vectorOf, ownCount, seqOf, nodeNumber, isAdd, isRemove, isMove, wellFormed}
 use Rattle.rules.specs.Replay.{ofTime, timestampIn, stamped, parentsOf, ofReplica, byTime, ofKind, start, outcomeSlot, outcomeOf, opsWithin, stamp, ordered, outcomesOf, replay, timestamp, step}
 use Rattle.rules.specs.Sound.{sound}
-use Rattle.rules.specs.Tree.{climb, path, atOrBelow, slot, slotOf, depth, parentIn}
 
 -- P1's ops: replica 1 issues the first three, and replica 2, which has the first two, issues the last
 abbrev a₁ : Op
@@ -80,7 +83,14 @@ pub record Met : Type 0 where
   pub in-turn : acceptedBy right (answers (pair []) (concat rounds)) ≡ a₁ ∷ a₂ ∷ a₃ ∷ []
 
 pub met : Met
-unfolding p1 p1File require wordAt word upFrom downFrom sum greatest same concat all any filter isIn replicas isReplica countIn kindOf replicaOf nodeOf parentOf vectorOf ownCount seqOf nodeNumber isAdd isRemove isMove wellFormed emptyLog opsOf opAt countsOf append countAt startAt headerCounts startOf endOf fileEnd chunks chunksOf logOf headerEntry headerOf fileOf within covered closedAt closed nodeWithin known knownParent namesKnown soundOp soundOps soundLog soundHeader laid structural sound makeAnswer held heldAnswer admitAnswer deliverAnswer slot slotOf parentIn climb path depth atOrBelow opsWithin timestampIn timestamp stamp stamped ofReplica ofKind ofTime byTime ordered start outcomeSlot outcomeOf step replay parentsOf outcomesOf opBytes moveKind issued requestKnown requestClear issueAnswer makeBuffer deliverBuffer appended issueBuffer issueOut answer bufferAfter heldThen perform run has opNumbered inOrder arrange other isSide onlyIn missing answerTo offered after answers acceptances acceptedBy expected everything
+unfolding p1 p1File require wordAt word upFrom downFrom sum greatest same concat all any filter isIn replicas isReplica countIn kindOf
+    replicaOf nodeOf parentOf vectorOf ownCount seqOf nodeNumber isAdd isRemove isMove wellFormed emptyLog opsOf opAt countsOf append
+    countAt startAt headerCounts startOf endOf fileEnd chunks chunksOf logOf headerEntry headerOf fileOf within covered closedAt closed
+    nodeWithin known knownParent namesKnown soundOp soundOps soundLog soundHeader laid structural sound makeAnswer held heldAnswer
+    admitAnswer deliverAnswer slot slotOf parentIn climb path depth atOrBelow opsWithin timestampIn timestamp stamp stamped ofReplica ofKind
+    ofTime byTime ordered start outcomeSlot outcomeOf step replay parentsOf outcomesOf opBytes moveKind issued requestKnown requestClear
+    issueAnswer makeBuffer deliverBuffer appended issueBuffer issueOut answer bufferAfter heldThen perform run has opNumbered inOrder
+    arrange other isSide onlyIn missing answerTo offered after answers acceptances acceptedBy expected everything
 met = record {
   held-left = refl;
   held-right = refl;
@@ -96,7 +106,8 @@ met = record {
   in-turn = refl;
 }
 
--- P1's two moves as a clash: what `ClashDecided` asks holds of them, and replica 2's wins
+---- P1's two moves as a clash
+
 abbrev moved₁ : Move
 moved₁ = record { replica = 1; node = 258; parent = 257 }
 
@@ -107,19 +118,61 @@ moved₂ = record { replica = 2; node = 257; parent = 258 }
 abbrev shared : List ℕ
 shared = run (replicate 88 7) (deliver a₁ ∷ deliver a₂ ∷ []) .buffer
 
+abbrev lent : List ℕ
+lent = replicate 14 9
+
+-- all that `ClashDecided` and `BothArrive` speak of holds of them, and replica 2's wins
 pub record Clashed : Type 0 where
-  pub first-issued : issueAnswer width shared 14 1 (request moved₁) ≡ accepted 74
-  pub second-issued : issueAnswer width shared 14 2 (request moved₂) ≡ accepted 74
-  pub both-held : deliverAnswer width (issueBuffer width shared 14 1 (request moved₁)) b₁ ≡ accepted 88
+  pub both-issued : Issued shared shared lent lent moved₁ moved₂
+  pub first-op : putOut shared lent moved₁ ≡ a₃
+  pub second-op : putOut shared lent moved₂ ≡ b₁
+  pub both-arrive : Arrivals shared shared lent lent moved₁ moved₂ a₃ b₁
   pub circle-closed : circle (parentsOf (logOf width shared)) moved₁ moved₂ ≡ true
   pub second-beats : beats (parentsOf (logOf width shared)) moved₂ moved₁ ≡ true
 
+-- four ops in the order of the file, or the last two first
+last-first : (a b c d : Bool) → (a || (b || (c || (d || false)))) ≡ (c || (d || (a || (b || false))))
+last-first true b c d = simp or-true
+last-first false true c d = simp or-true
+last-first false false c d = refl
+
+-- each way of arriving comes to the same file
+arrived : (h : List ℕ) → h ≡ p1File → BothAdded shared h a₃ b₁
+unfolding p1 p1File require wordAt word upFrom sum same concat all any replicas isReplica countIn kindOf replicaOf nodeOf parentOf vectorOf
+    ownCount seqOf nodeNumber isAdd isRemove wellFormed emptyLog opsOf opAt countsOf append countAt startAt headerCounts startOf endOf
+    fileEnd chunks chunksOf logOf headerEntry headerOf fileOf within covered closedAt closed nodeWithin known knownParent namesKnown soundOp
+    soundOps soundLog soundHeader laid structural sound makeAnswer held heldAnswer admitAnswer deliverAnswer opBytes makeBuffer
+    deliverBuffer appended answer bufferAfter heldThen perform run has
+arrived h e = rw e (record {
+  is-sound = refl;
+  ops = λ z. last-first (same z a₁) (same z a₂) (same z a₃) (same z b₁);
+})
+
 pub clashed : Clashed
-unfolding p1 p1File require wordAt word upFrom downFrom sum greatest same concat all any filter isIn replicas isReplica countIn kindOf replicaOf nodeOf parentOf vectorOf ownCount seqOf nodeNumber isAdd isRemove isMove wellFormed emptyLog opsOf opAt countsOf append countAt startAt headerCounts startOf endOf fileEnd chunks chunksOf logOf headerEntry headerOf fileOf within covered closedAt closed nodeWithin known knownParent namesKnown soundOp soundOps soundLog soundHeader laid structural sound makeAnswer held heldAnswer admitAnswer deliverAnswer slot slotOf parentIn climb path depth atOrBelow opsWithin timestampIn timestamp stamp stamped ofReplica ofKind ofTime byTime ordered start outcomeSlot outcomeOf step replay parentsOf outcomesOf opBytes moveKind issued requestKnown requestClear issueAnswer makeBuffer deliverBuffer appended issueBuffer issueOut answer bufferAfter heldThen perform run has opNumbered inOrder arrange other isSide onlyIn missing answerTo offered after answers acceptances acceptedBy expected everything circle beats
+unfolding p1 p1File require wordAt word upFrom downFrom sum greatest same concat all any filter isIn replicas isReplica countIn kindOf
+    replicaOf nodeOf parentOf vectorOf ownCount seqOf nodeNumber isAdd isRemove isMove wellFormed emptyLog opsOf opAt countsOf append
+    countAt startAt headerCounts startOf endOf fileEnd chunks chunksOf logOf headerEntry headerOf fileOf within covered closedAt closed
+    nodeWithin known knownParent namesKnown soundOp soundOps soundLog soundHeader laid structural sound makeAnswer held heldAnswer
+    admitAnswer deliverAnswer slot slotOf parentIn climb path depth atOrBelow opsWithin timestampIn timestamp stamp stamped ofReplica ofKind
+    ofTime byTime ordered start outcomeSlot outcomeOf step replay parentsOf outcomesOf opBytes moveKind issued requestKnown requestClear
+    issueAnswer makeBuffer deliverBuffer appended issueBuffer issueOut answer bufferAfter heldThen perform run circle beats
 clashed = record {
-  first-issued = refl;
-  second-issued = refl;
-  both-held = refl;
+  both-issued = record {
+    one-log = refl;
+    replicas-differ = λ e. omega arith;
+    end = 74;
+    end′ = 74;
+    first = refl;
+    second = refl;
+  };
+  first-op = refl;
+  second-op = refl;
+  both-arrive = record {
+    x-issued = record { one-accepted = refl; next-accepted = refl; both-added = arrived _ refl };
+    y-issued = record { one-accepted = refl; next-accepted = refl; both-added = arrived _ refl };
+    x-first = record { one-accepted = refl; next-accepted = refl; both-added = arrived _ refl };
+    y-first = record { one-accepted = refl; next-accepted = refl; both-added = arrived _ refl };
+  };
   circle-closed = refl;
   second-beats = refl;
 }

@@ -1,25 +1,22 @@
 -- Where the fields of an op stand in a laid-out file. Assumes nothing.
-use lib.Seq.{getD-take, getD-drop, drop-drop, take-take, take-nil}
+use lib.Seq.{getD-take, getD-drop, drop-drop, take-take}
 use mathlib.Core.Path.{_≡_, ap, _∙_}
 use mathlib.Core.Bool.{true}
-use mathlib.Core.List.{List, [], _∷_}
-use Prim.Native.Nat.{ℕ, zero, suc, _+_, _*_, _-_, _≤_, _<_}
+use mathlib.Core.List.{List}
+use Prim.Native.Nat.{ℕ, _+_, _*_, _-_, _≤_, _<_}
 use native.Mathlib.Omega.{arith}
 use lib.ListN.{length, take, drop, getD}
-use native.Mathlib.Nat.{add-zero, zero-add, suc-add, mul-le-mul-left, mul-add, mul-one}
+use native.Mathlib.Nat.{add-zero, mul-le-mul-left, mul-add, mul-one}
 use Rattle.rules.specs.Op.{Vector, countIn, kindOf, nodeOf, parentOf, replicaOf, vectorOf}
-use Rattle.rules.specs.Bytes.{byte, wordAt, sum}
-use Rattle.rules.specs.Log.{countsOf, laid, opAt, startAt, startOf, fileEnd, logOf, opsOf, within, countAt, endOf, headerCounts}
+use Rattle.rules.specs.Bytes.{byte, wordAt}
+use Rattle.lists.specs.Lists.{sum}
+use Rattle.rules.specs.File.{countsOf, opAt, startAt, startOf, fileEnd, logOf, opsOf, within, countAt, endOf, headerCounts}
+use Rattle.rules.specs.Log.{laid}
 use Rattle.rules.proofs.StructureLaws.{Laid, laid-reads}
 use Rattle.rules.proofs.FileLaws.{counts-at, counts-logOf, ops-chunksOf, length-counts, chunk-at}
 use Rattle.rules.proofs.CausalLaws.{within-le}
-use Rattle.rules.proofs.ListLaws.{sum-take}
+use Rattle.lists.proofs.ListLaws.{sum-take, drop-take}
 use Rattle.oplog.specs.Spots.{Spot, Counted, placeOf}
-
-drop-take : (m n : ℕ) (l : List ℕ) → drop m (take (m + n) l) ≡ take n (drop m l)
-drop-take zero n l = rw zero-add
-drop-take (suc m) n [] = rw (suc-add, take-nil)
-drop-take (suc m) n (x ∷ l) = rw suc-add (drop-take m n l)
 
 pub counts-in : (w : ℕ) (f : List ℕ) (s : ℕ) → 1 ≤ s → s ≤ 8 → countIn (countsOf (logOf w f)) s ≡ countAt f s
 counts-in w f s l u = ap (λ v. countIn v s) (counts-logOf w f) ∙ counts-at f s l u
@@ -43,7 +40,8 @@ module _ (w : ℕ) (f : List ℕ) (s q : ℕ) (x : Spot w f s q) where
   fits =
       let c : List ℕ = headerCounts f in
       let b : getD c (s - 1) 0 ≡ countAt f s = counts-at f s (x .low) (x .high) in
-      let m : w * (sum (take (s - 1) c) + (q - 1) + 1) ≤ w * sum c = mul-le-mul-left w (omega (arith, sum-take c (s - 1), x .first, x .last)) in
+      let m : w * (sum (take (s - 1) c) + (q - 1) + 1) ≤ w * sum c = mul-le-mul-left w
+      (omega (arith, sum-take c (s - 1), x .first, x .last)) in
       omega (arith, facts .fits, mul-add w (sum (take (s - 1) c) + (q - 1)) 1, mul-add w (sum (take (s - 1) c)) (q - 1), mul-one w)
 
   -- every byte of the op
@@ -51,8 +49,15 @@ module _ (w : ℕ) (f : List ℕ) (s q : ℕ) (x : Spot w f s q) where
   unfolding opAt opsOf logOf startOf countIn
   op-is =
       let c : q - 1 < getD (headerCounts f) (s - 1) 0 = rw (counts-at f s (x .low) (x .high)) (omega (arith, x .first, x .last)) in
-      rw (ops-chunksOf w (headerCounts f) (drop 32 f) (s - 1) (omega (arith, length-counts f, x .low, x .high)), chunk-at w (getD (headerCounts f) (s - 1) 0) _ (q - 1) c, drop-drop, drop-drop)
-      (let e : 32 + (w * sum (take (s - 1) (headerCounts f)) + w * (q - 1)) ≡ 32 + w * sum (take (s - 1) (headerCounts f)) + w * (q - 1) = omega arith in ap (λ (i : ℕ). take w (drop i f)) e)
+      rw (
+        ops-chunksOf w (headerCounts f) (drop 32 f) (s - 1) (omega (arith, length-counts f, x .low, x .high)),
+        chunk-at w
+            (getD (headerCounts f) (s - 1) 0) _ (q - 1) c,
+        drop-drop,
+        drop-drop,
+      )
+      (let e : 32 + (w * sum (take (s - 1) (headerCounts f)) + w * (q - 1)) ≡ 32 + w * sum (take (s - 1) (headerCounts f)) + w * (q - 1) =
+      omega arith in ap (λ (i : ℕ). take w (drop i f)) e)
 
   pub byte-is : (i : ℕ) → i < 14 → byte (opAt (logOf w f) s q) i ≡ byte f (placeOf w f s q + i)
   byte-is i h = let h′ : i < w = omega (arith, x .wide) in rw (op-is, getD-take, getD-drop)
@@ -67,11 +72,13 @@ module _ (w : ℕ) (f : List ℕ) (s q : ℕ) (x : Spot w f s q) where
 
   pub node-is : nodeOf (opAt (logOf w f) s q) ≡ wordAt f (placeOf w f s q + 2)
   unfolding nodeOf wordAt
-  node-is = rw (byte-is 2 (omega arith), byte-is 3 (omega arith)) (let e : placeOf w f s q + 3 ≡ placeOf w f s q + 2 + 1 = omega arith in rw e)
+  node-is = rw (byte-is 2 (omega arith), byte-is 3 (omega arith)) (let e : placeOf w f s q + 3 ≡ placeOf w f s q + 2 + 1 = omega arith in
+      rw e)
 
   pub parent-is : parentOf (opAt (logOf w f) s q) ≡ wordAt f (placeOf w f s q + 4)
   unfolding parentOf wordAt
-  parent-is = rw (byte-is 4 (omega arith), byte-is 5 (omega arith)) (let e : placeOf w f s q + 5 ≡ placeOf w f s q + 4 + 1 = omega arith in rw e)
+  parent-is = rw (byte-is 4 (omega arith), byte-is 5 (omega arith)) (let e : placeOf w f s q + 5 ≡ placeOf w f s q + 4 + 1 = omega arith in
+      rw e)
 
   pub vector-is : vectorOf (opAt (logOf w f) s q) ≡ take 8 (drop (placeOf w f s q + 6) f)
   unfolding vectorOf

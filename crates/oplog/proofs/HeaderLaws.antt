@@ -7,14 +7,17 @@ use native.Mathlib.Omega.{arith}
 use lib.ListN.{length, take, getD}
 use lib.Dec.{leb, eqb}
 use borrow.Author.Tests.{leb-true, eqb-true, le-leb, lt-leb, eq-eqb, ne-eqb}
-use native.Mathlib.Nat.{mul-add, mul-le-mul, mul-zero, mul-le-mul-left}
+use native.Mathlib.Nat.{mul-add, mul-zero, mul-le-mul-left}
 use lib.Seq.{take-all}
-use Rattle.rules.specs.Log.{fileEnd, startAt, soundHeader, startOf, countAt, headerEntry, logOf, headerCounts, headerOf, endOf, soundLog, laid, structural}
+use Rattle.rules.specs.File.{fileEnd, startAt, startOf, countAt, headerEntry, logOf, headerCounts, headerOf, endOf}
+use Rattle.rules.specs.Log.{soundHeader, soundLog, laid, structural}
 use Rattle.rules.specs.Op.{countIn, Vector, replicas}
-use Rattle.rules.specs.Bytes.{wordAt, upFrom, concat, sum, word}
+use Rattle.rules.specs.Bytes.{wordAt, word}
+use Rattle.lists.specs.Lists.{upFrom, concat, sum}
 use Rattle.rules.proofs.FileLaws.{counts-at, length-counts}
-use Rattle.rules.proofs.BoolLaws.{pass-all, replica-passes, and-right, passFrom, and-left}
-use Rattle.rules.proofs.ListLaws.{sum-suc, sum-take}
+use Rattle.rules.proofs.ReplicaLaws.{pass-all, replica-passes, passFrom}
+use Rattle.lists.proofs.BoolLaws.{and-right, and-left}
+use Rattle.lists.proofs.ListLaws.{sum-suc, sum-take}
 
 pub count-word : (f : List ℕ) (i : ℕ) → countAt f (i + 1) ≡ wordAt f (4 * i)
 unfolding countAt
@@ -61,21 +64,19 @@ pub start-first : (w : ℕ) (counts : Vector) → startOf w counts 1 ≡ 32
 unfolding startOf sum
 start-first w counts = rw mul-zero
 
-pub start-next : (w : ℕ) (counts : Vector) (i : ℕ) → i < length counts → startOf w counts (i + 1 + 1) ≡ startOf w counts (i + 1) + w * countIn counts (i + 1)
+pub start-next : (w : ℕ) (counts : Vector) (i : ℕ) → i < length counts
+    → startOf w counts (i + 1 + 1) ≡ startOf w counts (i + 1) + w * countIn counts (i + 1)
 unfolding startOf countIn
 start-next w counts i h =
     let e : i + 1 + 1 - 1 ≡ suc i = omega arith in
     let e′ : i + 1 - 1 ≡ i = omega arith in
     rw (e, e′, sum-suc counts i h, mul-add w (sum (take i counts)) (getD counts i 0)) (omega arith)
 
-pub start-after : (w : ℕ) (f : List ℕ) (s : ℕ) → 1 ≤ s → s ≤ 8 → startOf w (headerCounts f) (s + 1) ≡ startOf w (headerCounts f) s + w * countAt f s
+pub start-after : (w : ℕ) (f : List ℕ) (s : ℕ) → 1 ≤ s → s ≤ 8
+    → startOf w (headerCounts f) (s + 1) ≡ startOf w (headerCounts f) s + w * countAt f s
 start-after w f s l u =
     let e : s - 1 + 1 ≡ s = omega arith in
     rw (e, counts-at f s l u) at (start-next w (headerCounts f) (s - 1) (omega (arith, length-counts f)))
-
--- a body of w bytes for each of 255 ops
-pub product-small : (w n : ℕ) → w ≤ 255 → n ≤ 255 → w * n ≤ 65025
-product-small w n a b = mul-le-mul a b
 
 ---- a file's layout, test by test
 
@@ -140,4 +141,5 @@ pub start-within : (w : ℕ) (f : List ℕ) (s : ℕ) → startOf w (headerCount
 unfolding startOf fileEnd endOf
 start-within w f s =
     let e : s + 1 - 1 ≡ s = omega arith in
-    rw e (let m : w * sum (take s (headerCounts f)) ≤ w * sum (headerCounts f) = mul-le-mul-left w (omega (arith, sum-take (headerCounts f) s)) in omega arith)
+    rw e (let m : w * sum (take s (headerCounts f)) ≤ w * sum (headerCounts f) = mul-le-mul-left w
+    (omega (arith, sum-take (headerCounts f) s)) in omega arith)

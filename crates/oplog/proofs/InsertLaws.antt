@@ -8,13 +8,16 @@ use Prim.Native.Nat.{ℕ, zero, suc, _+_, _*_, _-_, _/_, _%_, _≤_, _<_}
 use native.Mathlib.Omega.{arith}
 use native.Mathlib.Numerals.{add-one}
 use native.Mathlib.Nat.{mul-add}
-use Rattle.rules.specs.Log.{endOf, headerEntry, headerCounts, fileEnd, startOf, opsOf, Log, headerOf, countsOf, logOf, append, laid, appended}
+use Rattle.rules.specs.File.{endOf, headerEntry, headerCounts, fileEnd, startOf, opsOf, Log, headerOf, countsOf, logOf, append, appended}
+use Rattle.rules.specs.Log.{laid}
 use Rattle.rules.specs.Op.{countIn, Op, Vector, replicaOf}
-use Rattle.rules.specs.Bytes.{upFrom, sum, word, concat}
+use Rattle.lists.specs.Lists.{upFrom, sum, concat}
+use Rattle.rules.specs.Bytes.{word}
 use Rattle.rules.proofs.InsertLaws.{appended-bytes}
 use Rattle.rules.proofs.FileLaws.{counts-logOf}
 use Rattle.rules.proofs.StructureLaws.{count-held, laid-reads}
-use Rattle.rules.proofs.ListLaws.{concat-append, upFrom-add}
+use Rattle.lists.proofs.ListLaws.{concat-append}
+use Rattle.lists.proofs.RangeLaws.{upFrom-add}
 use Rattle.oplog.specs.Spots.{inserted}
 use Rattle.oplog.proofs.HeaderLaws.{entries-length, entries}
 
@@ -27,13 +30,16 @@ moved w m p k = take (k + w) p ++ slice k m p
 pub moved-none : (w m : ℕ) (p : List ℕ) → length p ≤ m + w → p ≡ moved w m p m
 moved-none w m p h = sym (rw (take-all (m + w) p h, slice-empty m p, append-nil))
 
-pub moved-step : (w m : ℕ) (p : List ℕ) (j k : ℕ) → suc j ≡ k → k ≤ m → m + w ≤ length p → set (moved w m p k) (j + w) (getD (moved w m p k) j 0) ≡ moved w m p j
+pub moved-step : (w m : ℕ) (p : List ℕ) (j k : ℕ) → suc j ≡ k → k ≤ m → m + w ≤ length p
+    → set (moved w m p k) (j + w) (getD (moved w m p k) j 0) ≡ moved w m p j
 moved-step w m p j k e hk hm =
     let e′ : k + w ≡ suc (j + w) = omega arith in
     let l : length (take (k + w) p) ≡ k + w = length-take-le (k + w) p (omega arith) in
-    let r : getD (moved w m p k) j 0 ≡ getD p j 0 = List·getD-append (take (k + w) p) (slice k m p) 0 j (omega arith) ∙ getD-take (k + w) p j 0 (omega arith) in
+    let r : getD (moved w m p k) j 0 ≡ getD p j 0 = List·getD-append (take (k + w) p) (slice k m p) 0 j (omega arith)
+    ∙ getD-take (k + w) p j 0 (omega arith) in
     let a : take (k + w) p ≡ take (j + w) p ++ (getD p (j + w) 0 ∷ []) = rw e′ (take-suc p (j + w) 0 (omega arith)) in
-    let s : slice j m p ≡ getD p j 0 ∷ slice k m p = slice-cons j m p 0 (omega arith) (omega arith) ∙ ap (λ (x : ℕ). getD p j 0 ∷ slice x m p) e in
+    let s : slice j m p ≡ getD p j 0 ∷ slice k m p = slice-cons j m p 0 (omega arith) (omega arith)
+    ∙ ap (λ (x : ℕ). getD p j 0 ∷ slice x m p) e in
     rw (r, a, append-snoc, set-at (take (j + w) p) _ _ _ (j + w) (length-take-le (j + w) p (omega arith)), s)
 
 ---- storing in front
@@ -47,7 +53,9 @@ front-step r d j h hd =
     rw (drop-cons d j 0 (omega arith), set-at (take j r) _ _ _ j (length-take-le j r (omega arith)), add-one, take-suc r j 0, append-snoc)
 
 -- a part with the op in front of its moved bytes, put back into its buffer
-pub put-back : (r b ys : List ℕ) (place end : ℕ) → place ≤ end → end + length r ≤ length b → ys ≡ r ++ take (length (take (end + length r - place) (drop place b)) - length r) (take (end + length r - place) (drop place b)) → take place b ++ (ys ++ drop (end + length r - place) (drop place b)) ≡ inserted r b place end (length r)
+pub put-back : (r b ys : List ℕ) (place end : ℕ) → place ≤ end → end + length r ≤ length b
+    → ys ≡ r ++ take (length (take (end + length r - place) (drop place b)) - length r) (take (end + length r - place) (drop place b))
+    → take place b ++ (ys ++ drop (end + length r - place) (drop place b)) ≡ inserted r b place end (length r)
 put-back r b ys place end h hb e =
     let w : ℕ = length r in
     let n : length (take (end + w - place) (drop place b)) - w ≡ end - place = simp (length-take, length-drop) (omega arith) in
@@ -64,7 +72,9 @@ entries-next w counts i =
     rw (upFrom-add 1 i 1, map-append, concat-append, append-nil, e)
 
 -- the two numbers of an entry stored after the entries before it
-pub entry-step : (w : ℕ) (counts b : List ℕ) (i n m : ℕ) → n ≡ countIn counts (i + 1) → m ≡ startOf w counts (i + 1) → 4 * i + 4 ≤ length b → set (set (set (set (entries w counts i ++ drop (4 * i) b) (4 * i) (n / 256)) (4 * i + 1) (n % 256)) (4 * i + 2) (m / 256)) (4 * i + 2 + 1) (m % 256) ≡ entries w counts (i + 1) ++ drop (4 * (i + 1)) b
+pub entry-step : (w : ℕ) (counts b : List ℕ) (i n m : ℕ) → n ≡ countIn counts (i + 1) → m ≡ startOf w counts (i + 1) → 4 * i + 4 ≤ length b
+    → set (set (set (set (entries w counts i ++ drop (4 * i) b) (4 * i) (n / 256)) (4 * i + 1) (n % 256)) (4 * i + 2) (m / 256))
+    (4 * i + 2 + 1) (m % 256) ≡ entries w counts (i + 1) ++ drop (4 * (i + 1)) b
 unfolding headerEntry word
 entry-step w counts b i n m en em h =
     let p : List ℕ = entries w counts i in
@@ -77,7 +87,8 @@ entry-step w counts b i n m en em h =
     let z : 4 * i + 4 ≤ length l = rw (length-append, length-drop, k) (omega arith) in
     let q : 4 * i + 4 ≡ length p + 4 = omega arith in
     let r : 4 * i + 4 ≡ 4 * (i + 1) = omega arith in
-    let d : drop (4 * i + 4) l ≡ drop (4 * (i + 1)) b = rw (q, drop-append-add p (drop (4 * i) b) 4, drop-drop 4 (4 * i) b) (ap (λ (x : ℕ). drop x b) r) in
+    let d : drop (4 * i + 4) l ≡ drop (4 * (i + 1)) b = rw (q, drop-append-add p (drop (4 * i) b) 4, drop-drop 4 (4 * i) b)
+    (ap (λ (x : ℕ). drop x b) r) in
     rw (e3, e2, e1) (sets-eq vs l (4 * i) z ∙ rw (take-at p (drop (4 * i) b) (4 * i) k, d, entries-next, ← en, ← em))
 
 ---- the whole
@@ -88,19 +99,24 @@ map-set (x ∷ log) zero ops = refl
 map-set (x ∷ log) (suc i) ops = ap (_∷_ (length x)) (map-set log i ops)
 
 -- the counts with one op more
-pub counts-append : (w : ℕ) (f : List ℕ) (r : Op) → 1 ≤ replicaOf r → countsOf (append (logOf w f) r) ≡ set (headerCounts f) (replicaOf r - 1) (getD (headerCounts f) (replicaOf r - 1) 0 + 1)
+pub counts-append : (w : ℕ) (f : List ℕ) (r : Op) → 1 ≤ replicaOf r
+    → countsOf (append (logOf w f) r) ≡ set (headerCounts f) (replicaOf r - 1) (getD (headerCounts f) (replicaOf r - 1) 0 + 1)
 unfolding countsOf append countIn
 counts-append w f r l =
     let c = counts-logOf w f in
     let n : length (opsOf (logOf w f) (replicaOf r) ++ (r ∷ [])) ≡ getD (headerCounts f) (replicaOf r - 1) 0 + 1 =
-    length-append (opsOf (logOf w f) (replicaOf r)) (r ∷ []) ∙ ap (λ (k : ℕ). k + 1) (sym (count-held (logOf w f) (replicaOf r)) ∙ count-getD w f (replicaOf r)) in
-    map-set (logOf w f) (replicaOf r - 1) (opsOf (logOf w f) (replicaOf r) ++ (r ∷ [])) ∙ rw n (ap (λ v. set v (replicaOf r - 1) (getD (headerCounts f) (replicaOf r - 1) 0 + 1)) c)
+    length-append (opsOf (logOf w f) (replicaOf r)) (r ∷ []) ∙ ap (λ (k : ℕ). k + 1) (sym (count-held (logOf w f) (replicaOf r))
+    ∙ count-getD w f (replicaOf r)) in
+    map-set (logOf w f) (replicaOf r - 1) (opsOf (logOf w f) (replicaOf r) ++ (r ∷ []))
+    ∙ rw n (ap (λ v. set v (replicaOf r - 1) (getD (headerCounts f) (replicaOf r - 1) 0 + 1)) c)
   where
     count-getD : (w : ℕ) (f : List ℕ) (s : ℕ) → countIn (countsOf (logOf w f)) s ≡ getD (headerCounts f) (s - 1) 0
     count-getD w f s = ap (λ v. getD v (s - 1) 0) (counts-logOf w f)
 
 -- a new header over the inserted op: the buffer with one op more
-pub inserted-appended : (w : ℕ) (f : List ℕ) (r : Op) → laid w f ≡ true → 1 ≤ replicaOf r → replicaOf r ≤ 8 → headerOf w (countsOf (append (logOf w f) r)) ++ drop 32 (inserted r f (startOf w (headerCounts f) (replicaOf r + 1)) (fileEnd w f) w) ≡ appended w f r
+pub inserted-appended : (w : ℕ) (f : List ℕ) (r : Op) → laid w f ≡ true → 1 ≤ replicaOf r → replicaOf r ≤ 8
+    → headerOf w (countsOf (append (logOf w f) r)) ++ drop 32 (inserted r f (startOf w (headerCounts f) (replicaOf r + 1)) (fileEnd w f) w)
+    ≡ appended w f r
 unfolding startOf fileEnd endOf sum
 inserted-appended w f r good l u =
     let c : List ℕ = headerCounts f in
@@ -112,7 +128,8 @@ inserted-appended w f r good l u =
     let whole : 32 + w * sum c ≡ 32 + p + q = omega (arith, ap (λ (n : ℕ). w * n) total, mul-add w (sum (take s c)) (sum (drop s c))) in
     let e : 32 + w * sum c - (32 + p) ≡ q = omega arith in
     let d : List ℕ = drop (32 + w * sum c + w) f in
-    let t : drop 32 (take (32 + p) f ++ (r ++ (take q (drop (32 + p) f) ++ d))) ≡ take p (drop 32 f) ++ (r ++ (take q (drop p (drop 32 f)) ++ d)) =
+    let t : drop 32 (take (32 + p) f ++ (r ++ (take q (drop (32 + p) f) ++ d))) ≡ take p (drop 32 f)
+    ++ (r ++ (take q (drop p (drop 32 f)) ++ d)) =
     rw (take-add 32 p f, append-assoc, drop-at (take 32 f) _ 32 (length-take-le 32 f (laid-reads w f good .header)), drop-drop p 32 f) in
     rw (k, e, t) (sym (appended-bytes w f r l u))
   where

@@ -10,12 +10,13 @@ use lib.ListN.{length, getD}
 use lib.Dec.{leb}
 use native.Mathlib.Decide.{decLe, ℕ-discrete}
 use borrow.Author.Tests.{leb-true, le-leb, lt-leb, lt-ltb, le-ltb}
-use Rattle.rules.specs.Bytes.{upFrom, concat, all}
+use Rattle.lists.specs.Lists.{upFrom, concat, all}
 use Rattle.rules.specs.Op.{Op, replicas}
-use Rattle.rules.specs.Log.{Log, laid, countAt, opsOf, soundLog, soundOps, logOf, soundOp, opAt}
-use Rattle.rules.proofs.ListLaws.{map-getD, map-upFrom}
+use Rattle.rules.specs.File.{Log, countAt, opsOf, logOf, opAt}
+use Rattle.rules.specs.Log.{laid, soundLog, soundOps, soundOp}
+use Rattle.lists.proofs.RangeLaws.{map-getD, map-upFrom}
 use Rattle.rules.proofs.FileLaws.{log-eta}
-use Rattle.rules.proofs.BoolLaws.{all-same, map-replicas}
+use Rattle.rules.proofs.ReplicaLaws.{all-alike, map-replicas}
 use Rattle.rules.proofs.StructureLaws.{count-held, laid-reads}
 use Rattle.oplog.specs.declared.marker.Marker.{Marker}
 use Rattle.oplog.specs.Spots.{Spot, nextOf}
@@ -192,6 +193,6 @@ sound-row log s =
 pub left-sound : (log : Log) → soundLog log ≡ every (left log (soundAt log) 1 1)
 unfolding soundLog
 left-sound log =
-    all-same _ _ (λ s l u. sound-row log s)
+    all-alike _ _ (λ s l u. sound-row log s)
     ∙ sym (every-concat (λ s. row log (soundAt log) s 1) replicas)
     ∙ ap every (left-first log (soundAt log))

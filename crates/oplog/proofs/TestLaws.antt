@@ -2,14 +2,16 @@
 use mathlib.Core.Path.{_≡_, refl}
 use mathlib.Core.Logic.{_⊎_, ⊎-elim}
 use mathlib.Core.Bool.{true, false, _&&_}
-use Prim.Native.Nat.{ℕ, _+_, _*_, _-_, _/_, _%_, _≤_, _<_}
+use Prim.Native.Nat.{ℕ, _+_, _*_, _/_, _%_, _≤_, _<_}
 use native.Mathlib.Omega.{arith}
 use lib.Dec.{eqb}
 use borrow.Author.Tests.{le-leb, lt-leb, lt-ltb, eq-eqb, ne-eqb}
-use Rattle.rules.specs.Log.{Log, closed, opAt, closedAt, known, knownParent, soundOp, nodeWithin, within, namesKnown, covered}
+use Rattle.rules.specs.File.{Log, opAt, within}
+use Rattle.rules.specs.Log.{closed, closedAt, known, knownParent, soundOp, nodeWithin, namesKnown, covered}
 use Rattle.rules.specs.Op.{Op, Vector, replicaOf, countIn, seqOf, isReplica, ownCount, isAdd, vectorOf, wellFormed, isRemove, kindOf, nodeNumber, parentOf, nodeOf}
 use Rattle.codec.specs.Read.{kindFits}
-use Rattle.rules.proofs.BoolLaws.{passFrom, and-true, pass-all}
+use Rattle.rules.proofs.ReplicaLaws.{passFrom, pass-all}
+use Rattle.lists.proofs.BoolLaws.{and-true}
 use Rattle.oplog.specs.Spots.{namesBy, moveNames}
 
 ---- known nodes
@@ -88,6 +90,18 @@ module _ (log : Log) (s q : ℕ) (r : Op) where
     unfolding soundOp seqOf ownCount
     sound-number ne = rw (e, eq-eqb s s refl, ne-eqb (countIn (vectorOf r) s + 1) q ne)
 
-    pub sound-rest : countIn (vectorOf r) s + 1 ≡ q → 1 ≤ s → s ≤ 8 → q ≤ 255 → soundOp log s q r ≡ (((kindFits (kindOf r) (parentOf r) && covered log (vectorOf r)) && closed log (vectorOf r)) && namesBy log (vectorOf r) (kindOf r) (nodeOf r) (parentOf r) (256 * s + q))
+    pub sound-rest : countIn (vectorOf r) s + 1 ≡ q → 1 ≤ s → s ≤ 8 → q ≤ 255
+        → soundOp log s q r ≡ (((kindFits (kindOf r) (parentOf r) && covered log (vectorOf r)) && closed log (vectorOf r))
+        && namesBy log (vectorOf r) (kindOf r) (nodeOf r) (parentOf r) (256 * s + q))
     unfolding soundOp seqOf ownCount wellFormed isReplica isRemove namesKnown isAdd nodeNumber namesBy
-    sound-rest n l u h = rw (e, eq-eqb s s refl, n, eq-eqb q q refl, le-leb 1 s l, le-leb s 8 u, lt-ltb (countIn (vectorOf r) s) 255 (omega arith), and-true)
+    sound-rest n l u h = rw (
+      e,
+      eq-eqb s s refl,
+      n,
+      eq-eqb q q refl,
+      le-leb 1 s l,
+      le-leb s 8 u,
+      lt-ltb (countIn (vectorOf r) s) 255
+          (omega arith),
+      and-true,
+    )

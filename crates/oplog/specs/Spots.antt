@@ -6,7 +6,8 @@ use mathlib.Core.List.{List, _++_}
 use lib.ListN.{take, drop}
 use lib.Dec.{eqb, ltb}
 use Rattle.rules.specs.Op.{Vector, countIn}
-use Rattle.rules.specs.Log.{Log, countAt, headerCounts, startOf, laid, known, knownParent}
+use Rattle.rules.specs.File.{Log, countAt, headerCounts, startOf}
+use Rattle.rules.specs.Log.{laid, known, knownParent}
 use Rattle.oplog.specs.declared.marker.Marker.{Marker}
 
 -- where the body of replica s's op q starts

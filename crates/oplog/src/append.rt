@@ -7,7 +7,8 @@ ghost use mathlib.Core.List.{_++_};
 ghost use Prim.Native.Nat.{_+_, _-_, _≤_, _<_};
 ghost use lib.ListN.{length, take, drop};
 ghost use Rattle.rules.specs.Op.{replicaOf};
-ghost use Rattle.rules.specs.Log.{countAt, fileEnd, appended, laid};
+ghost use Rattle.rules.specs.File.{countAt, fileEnd, appended};
+ghost use Rattle.rules.specs.Log.{laid};
 ghost use Rattle.oplog.specs.Spots.{inserted};
 
 // Moves the bytes of a part up by the width; what no longer fits is dropped.

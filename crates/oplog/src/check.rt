@@ -12,9 +12,10 @@ use codec::word_at;
 ghost use mathlib.Core.Path.{_≡_};
 ghost use mathlib.Core.Bool.{true};
 ghost use Prim.Native.Nat.{_≤_};
-ghost use Rattle.rules.specs.Log as log;
-ghost use Rattle.rules.specs.Log.{logOf, opAt, headerCounts, known, knownParent, closedAt, closed, soundOp, soundLog, laid};
+ghost use Rattle.rules.specs.File.{logOf, opAt, headerCounts};
+ghost use Rattle.rules.specs.Log.{known, knownParent, closedAt, closed, soundOp, soundLog, laid};
 ghost use Rattle.oplog.specs.Spots.{Spot, Counted, moveNames, namesBy};
+ghost use Rattle.rules.specs.Log as log;
 
 // Whether an add within the vector made the node.
 pub fn known_in(file: &[u8], v: [u8; 8], n: u16, width: usize) -> bool

@@ -5,10 +5,10 @@ use codec::word_at;
 ghost use mathlib.Core.Path.{_≡_};
 ghost use mathlib.Core.Bool.{true};
 ghost use mathlib.Core.List.{_++_};
-ghost use Prim.Native.Nat.{ℕ, _+_, _≤_, _<_};
+ghost use Prim.Native.Nat.{_+_, _≤_, _<_};
 ghost use lib.ListN.{length, drop};
-ghost use Rattle.rules.specs.Op.{countIn};
-ghost use Rattle.rules.specs.Log.{headerCounts, startOf, headerOf, soundHeader};
+ghost use Rattle.rules.specs.File.{headerCounts, startOf, headerOf};
+ghost use Rattle.rules.specs.Log.{soundHeader};
 
 // Whether counts are at most 255 and starts are right.
 pub fn header_right(file: &[u8], width: usize) -> bool

@@ -4,7 +4,7 @@ ghost use mathlib.Core.Path.{_≡_};
 ghost use Prim.Native.Nat.{_+_, _≤_};
 ghost use lib.ListN.{length};
 ghost use lib.Dec.{leb};
-ghost use Rattle.rules.specs.Log.{countAt};
+ghost use Rattle.rules.specs.File.{countAt};
 ghost use Rattle.oplog.specs.Spots.{nextOf};
 
 // A marker (the paper's): the op number `sequence` of a replica, both from 1. It steps through the

@@ -3,7 +3,7 @@ use codec::word_at;
 ghost use mathlib.Core.Path.{_≡_};
 ghost use Prim.Native.Nat.{_+_, _≤_};
 ghost use lib.ListN.{length, take, drop};
-ghost use Rattle.rules.specs.Bytes.{same};
+ghost use Rattle.lists.specs.Lists.{same};
 ghost use Rattle.oplog.specs.Spots.{placeOf, Spot};
 
 // Where the op number q of replica s starts.

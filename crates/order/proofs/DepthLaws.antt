@@ -1,91 +1,65 @@
 -- A node's way to the root has no more steps than there are added nodes. Assumes nothing.
-use mathlib.Core.Path.{_≡_, refl, sym, ap, _∙_}
+use mathlib.Core.Path.{_≡_, sym, ap, _∙_}
 use mathlib.Core.Logic.{inl, inr}
-use mathlib.Core.Bool.{Bool, true, false, cond, _||_}
-use mathlib.Core.List.{List, _∷_, []}
-use Prim.Native.Nat.{ℕ, zero, suc, _+_, _-_, _≤_, _<_}
-use native.Mathlib.Nat.{not-suc-le-zero, le-of-suc-le-suc}
+use mathlib.Core.Bool.{true}
+use mathlib.Core.List.{List}
+use Prim.Native.Nat.{ℕ, suc, _+_, _-_, _≤_, _<_}
 use native.Mathlib.Omega.{arith}
 use native.Mathlib.Decide.{decLe}
-use borrow.Author.Tests.{eq-eqb, ne-eqb, eqb-true}
-use lib.ListN.{length, getD}
-use lib.Dec.{eqb}
-use Rattle.rules.specs.Bytes.{any, isIn}
+use lib.ListN.{length}
+use Rattle.lists.specs.Lists.{isIn}
 use Rattle.rules.specs.Op.{Vector}
-use Rattle.rules.specs.Log.{Log}
-use Rattle.rules.specs.Tree.{slots, parentIn, climb, path, depth}
+use Rattle.rules.specs.File.{Log}
+use Rattle.rules.specs.Tree.{slots, climb, path, depth}
 use Rattle.rules.specs.Replay.{replay, addedIn}
-use Rattle.rules.proofs.TreeLaws.{pigeonhole, up, up-add, Reaches}
+use Rattle.rules.proofs.ClimbLaws.{up, up-add, Reaches, climb-length}
 use Rattle.rules.proofs.StructureLaws.{GoodLog}
 use Rattle.order.proofs.LevelLaws.{Cut}
-use Rattle.order.proofs.GrowLaws.{Named, replay-reaches}
+use Rattle.rules.proofs.KnownLaws.{Named}
+use Rattle.order.proofs.RunLaws.{replay-reaches}
 use Rattle.order.proofs.NodeLaws.{known-added}
-
----- lists of different numbers
-
--- the place of a number in a list
-unfoldable placeIn : ℕ → List ℕ → ℕ
-placeIn x [] = 0
-placeIn x (y ∷ ys) = cond (eqb x y) 0 (suc (placeIn x ys))
-
-place-below : (x : ℕ) (ys : List ℕ) → isIn x ys ≡ true → placeIn x ys < length ys
-unfolding isIn any placeIn
-place-below x [] e = let z : _≡_ {A = ℕ} 0 1 = cc in absurd (omega arith)
-place-below x (y ∷ ys) e = go (eqb x y) e (place-below x ys)
-  where
-    go : (b : Bool) → (b || any (eqb x) ys) ≡ true → (any (eqb x) ys ≡ true → placeIn x ys < length ys) → cond b 0 (suc (placeIn x ys)) < suc (length ys)
-    go true e ih = omega arith
-    go false e ih = omega (arith, ih e)
-
-place-at : (x : ℕ) (ys : List ℕ) → isIn x ys ≡ true → getD ys (placeIn x ys) 0 ≡ x
-unfolding isIn any placeIn
-place-at x [] e = let z : _≡_ {A = ℕ} 0 1 = cc in absurd (omega arith)
-place-at x (y ∷ ys) e = go (eqb x y) refl e (place-at x ys)
-  where
-    go : (b : Bool) → eqb x y ≡ b → (b || any (eqb x) ys) ≡ true → (any (eqb x) ys ≡ true → getD ys (placeIn x ys) 0 ≡ x) → getD (y ∷ ys) (cond b 0 (suc (placeIn x ys))) 0 ≡ x
-    go true q e ih = sym (eqb-true x y q)
-    go false q e ih = ih e
-
-pub at-most : (xs : List ℕ) (n : ℕ) (f : ℕ → ℕ) → ((j : ℕ) → j < n → isIn (f j) xs ≡ true) → ((j k : ℕ) → j < k → k < n → f j ≡ f k → ⊥) → n ≤ length xs
-at-most xs n f b d =
-    pigeonhole (length xs) n (λ j. placeIn (f j) xs) (λ j h. place-below (f j) xs (b j h)) (λ j k h u e.
-    d j k h u (sym (place-at (f j) xs (b j (omega arith))) ∙ ap (λ (i : ℕ). getD xs i 0) e ∙ place-at (f k) xs (b k u)))
+use Rattle.lists.proofs.MemberLaws.{at-most}
 
 ---- no more steps than added nodes
 
 module _ (log : Log) (good : GoodLog log) (cut : Vector) (is : Cut log cut) where
-  pub depth-bound : (m : ℕ) → Named log cut m → (j : ℕ) × (j ≤ length (addedIn log cut)) × Reaches (Named log cut) (replay log cut .parents) j m × ((k : ℕ) → k < j → up (replay log cut .parents) k m ≡ 0 → ⊥)
+  pub depth-bound : (m : ℕ) → Named log cut m → (j : ℕ) × (j ≤ length (addedIn log cut)) × Reaches (Named log cut)
+      (replay log cut .parents) j m × ((k : ℕ) → k < j → up (replay log cut .parents) k m ≡ 0 → ⊥)
   depth-bound m w =
-      let (j, b, r, first) = replay-reaches log good cut is m w in
-      (j, at-most (addedIn log cut) j (λ k. up (replay log cut .parents) k m) (λ k h. in-list k (r .on k (omega arith)) (first k h)) (differ j r first), r, first)
+      let (j, b, r, first) = replay-reaches log good cut is m w in (
+        j,
+        at-most (addedIn log cut) j (λ k. up (replay log cut .parents) k m) (λ k h. in-list k (r .on k (omega arith)) (first k h))
+            (differ j r first),
+        r,
+        first,
+      )
     where
-      in-list : (k : ℕ) → Named log cut (up (replay log cut .parents) k m) → (up (replay log cut .parents) k m ≡ 0 → ⊥) → isIn (up (replay log cut .parents) k m) (addedIn log cut) ≡ true
+      in-list : (k : ℕ) → Named log cut (up (replay log cut .parents) k m) → (up (replay log cut .parents) k m ≡ 0 → ⊥)
+          → isIn (up (replay log cut .parents) k m) (addedIn log cut) ≡ true
       in-list k (inl e) ne = absurd (ne e)
       in-list k (inr e) ne = known-added log good cut is _ e
 
-      differ : (j : ℕ) → Reaches (Named log cut) (replay log cut .parents) j m → ((k : ℕ) → k < j → up (replay log cut .parents) k m ≡ 0 → ⊥) → (a b : ℕ) → a < b → b < j → up (replay log cut .parents) a m ≡ up (replay log cut .parents) b m → ⊥
+      differ : (j : ℕ) → Reaches (Named log cut) (replay log cut .parents) j m → ((k : ℕ) → k < j → up (replay log cut .parents) k m ≡ 0
+          → ⊥) → (a b : ℕ) → a < b → b < j → up (replay log cut .parents) a m ≡ up (replay log cut .parents) b m → ⊥
       differ j r first a b h l e =
           let d : ℕ = j - b in
           let k : b + d ≡ j = omega arith in
-          first (a + d) (omega arith) (let f : List ℕ = replay log cut .parents in up-add f a d m ∙ ap (up f d) e ∙ sym (up-add f b d m) ∙ ap (λ (t : ℕ). up f t m) k ∙ r .root)
+          first (a + d) (omega arith) (let f : List ℕ = replay log cut .parents in up-add f a d m ∙ ap (up f d) e ∙ sym (up-add f b d m)
+          ∙ ap (λ (t : ℕ). up f t m) k ∙ r .root)
 
 ---- the path's length and the depth
 
-pub climb-length : (parents : List ℕ) (k j n : ℕ) → j < k → up parents j n ≡ 0 → ((i : ℕ) → i < j → up parents i n ≡ 0 → ⊥) → length (climb k parents n) ≡ suc j
-unfolding climb up
-climb-length parents zero j n h r o = absurd (not-suc-le-zero h)
-climb-length parents (suc k) zero n h r o = rw (eq-eqb n 0 r)
-climb-length parents (suc k) (suc j) n h r o =
-    rw (ne-eqb n 0 (o 0 (omega arith))) (ap suc (climb-length parents k j (parentIn parents n) (le-of-suc-le-suc h) r (λ i l. o (suc i) (omega arith))))
-
 module _ (log : Log) (good : GoodLog log) (cut : Vector) (is : Cut log cut) where
   -- the depth of a node is at most the number of added nodes, and its path has one entry more
-  pub depth-added : (m : ℕ) → Named log cut m → (length (path (replay log cut .parents) m) ≡ depth (replay log cut .parents) m + 1) × (depth (replay log cut .parents) m ≤ length (addedIn log cut)) × (depth (replay log cut .parents) m ≤ 2040)
+  pub depth-added : (m : ℕ) → Named log cut m
+      → (length (path (replay log cut .parents) m) ≡ depth (replay log cut .parents) m + 1) × (depth (replay log cut .parents) m ≤ length
+      (addedIn log cut)) × (depth (replay log cut .parents) m ≤ 2040)
   unfolding path depth
   depth-added m w =
       let (j, b, r, first) = depth-bound log good cut is m w in
       let (i, c, r′, first′) = replay-reaches log good cut is m w in
-      let a : length (climb slots (replay log cut .parents) m) ≡ suc i = climb-length (replay log cut .parents) slots i m (omega arith) (r′ .root) first′ in
+      let a : length (climb slots (replay log cut .parents) m) ≡ suc i = climb-length (replay log cut .parents) slots i m (omega arith)
+      (r′ .root) first′ in
       let ge : j ≤ i = elim (decLe j i) [ yes h ↦ h | no h ↦ absurd (first i (omega arith) (r′ .root)) ] in
       let le : i ≤ j = elim (decLe i j) [ yes h ↦ h | no h ↦ absurd (first′ j (omega arith) (r .root)) ] in
       (omega arith, omega arith, omega arith)

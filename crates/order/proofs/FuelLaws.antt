@@ -1,72 +1,26 @@
 -- The bounds in the definitions of paths and of the preorder do not matter: more gives the same. Assumes nothing.
-use mathlib.Core.List.{List, map, _∷_, []}
+use mathlib.Core.List.{List, _∷_}
 use Prim.Native.Nat.{ℕ, _<_, _+_, _≤_, suc, zero}
-use mathlib.Core.Path.{_≡_, ap, ap₂, sym, _∙_, refl}
-use mathlib.Core.Bool.{Bool, true, cond, _||_, or-true, false}
-use native.Mathlib.Decide.{decLe}
-use native.Mathlib.Nat.{not-suc-le-zero}
+use mathlib.Core.Path.{_≡_, ap, sym, _∙_, refl}
+use mathlib.Core.Bool.{true}
 use native.Mathlib.Omega.{arith}
-use borrow.Author.Tests.{eq-eqb, eqb-true}
+use borrow.Author.Tests.{eqb-true}
 use lib.Dec.{eqb}
-use mathlib.Core.Logic.{inr, ⊎-elim}
-use Rattle.rules.specs.Log.{Log, countsOf, known}
+use mathlib.Core.Logic.{inr}
+use Rattle.rules.specs.File.{Log, countsOf}
+use Rattle.rules.specs.Log.{known}
 use Rattle.rules.specs.Tree.{climb, parentIn, path, slots}
-use Rattle.rules.specs.Bytes.{isIn, any, filter, concat}
+use Rattle.lists.specs.Lists.{isIn, concat}
 use Rattle.rules.specs.Listing.{children, preorder}
 use Rattle.rules.specs.Replay.{parentsOf, addedIn}
 use Rattle.rules.specs.Views.{nodes}
-use Rattle.rules.proofs.TreeLaws.{up}
+use Rattle.rules.proofs.ClimbLaws.{up, Depth, climb-enough, depth-child, depth-unique}
 use Rattle.rules.proofs.StructureLaws.{GoodLog, counts-covered, counts-closed}
-use Rattle.rules.proofs.BoolLaws.{never, or-cases}
 use Rattle.order.proofs.LevelLaws.{Cut}
-use Rattle.order.proofs.GrowLaws.{Named, replay-reaches, known-reads}
+use Rattle.rules.proofs.KnownLaws.{Named, known-reads}
+use Rattle.order.proofs.RunLaws.{replay-reaches}
 use Rattle.order.proofs.NodeLaws.{added-is}
-
--- n is j steps below the root
-pub record Depth (parents : List ℕ) (j n : ℕ) : Type 0 where
-  pub root : up parents j n ≡ 0
-  pub first : (k : ℕ) → k < j → up parents k n ≡ 0 → ⊥
-
-pub depth-unique : (parents : List ℕ) (i j n : ℕ) → Depth parents i n → Depth parents j n → i ≡ j
-depth-unique parents i j n a b = elim (decLe i j) [
-  | yes h ↦ elim (decLe j i) [
-    | yes h′ ↦ omega arith
-    | no h′ ↦ absurd (b .first i (omega arith) (a .root))
-  ]
-  | no h ↦ absurd (a .first j (omega arith) (b .root))
-]
-
-pub depth-child : (parents : List ℕ) (j n m : ℕ) → parentIn parents m ≡ n → (m ≡ 0 → ⊥) → Depth parents j n → Depth parents (suc j) m
-unfolding up
-depth-child parents j n m e nz d = record { root = rw e (d .root); first = go }
-  where
-    go : (k : ℕ) → k < suc j → up parents k m ≡ 0 → ⊥
-    go zero h z = nz z
-    go (suc k) h z = d .first k (omega arith) (rw e at z)
-
--- a climb with more steps than the depth
-pub climb-enough : (parents : List ℕ) (j k i n : ℕ) → Depth parents j n → j < k → j < i → climb k parents n ≡ climb i parents n
-unfolding climb up
-climb-enough parents j zero i n d h l = absurd (not-suc-le-zero h)
-climb-enough parents j (suc k) zero n d h l = absurd (not-suc-le-zero l)
-climb-enough parents zero (suc k) (suc i) n d h l = rw (eq-eqb n 0 (d .root))
-climb-enough parents (suc j) (suc k) (suc i) n d h l =
-    ap (λ t. n ∷ cond (eqb n 0) [] t) (climb-enough parents j k i (parentIn parents n) (record { root = d .root; first = λ m w. d .first (suc m) (omega arith) }) (omega arith) (omega arith))
-
-map-isIn : {A : Type 0} (f g : ℕ → A) (xs : List ℕ) → ((x : ℕ) → isIn x xs ≡ true → f x ≡ g x) → map f xs ≡ map g xs
-unfolding isIn any
-map-isIn f g [] h = refl
-map-isIn f g (x ∷ xs) h = ap₂ _∷_ (h x (rw (eq-eqb x x refl))) (map-isIn f g xs (λ y e. h y (rw (e, or-true))))
-
-pub isIn-filter : (p : ℕ → Bool) (xs : List ℕ) (y : ℕ) → isIn y (filter p xs) ≡ true → (isIn y xs ≡ true) × (p y ≡ true)
-unfolding isIn any filter
-isIn-filter p [] y e = never e
-isIn-filter p (x ∷ xs) y e = go (p x) refl e (isIn-filter p xs y)
-  where
-    go : (b : Bool) → p x ≡ b → any (eqb y) (cond b (x ∷ filter p xs) (filter p xs)) ≡ true → (any (eqb y) (filter p xs) ≡ true → (any (eqb y) xs ≡ true) × (p y ≡ true)) → ((eqb y x || any (eqb y) xs) ≡ true) × (p y ≡ true)
-    go true q z ih =
-        ⊎-elim (λ (w : eqb y x ≡ true). (rw w, rw (eqb-true y x w) q)) (λ (w : any (eqb y) (filter p xs) ≡ true). let (a, b) = ih w in (rw (a, or-true), b)) (or-cases (eqb y x) _ z)
-    go false q z ih = let (a, b) = ih z in (rw (a, or-true), b)
+use Rattle.lists.proofs.MemberLaws.{isIn-filter, map-isIn}
 
 module _ (log : Log) (good : GoodLog log) where
   abbrev parents : List ℕ
@@ -93,7 +47,8 @@ module _ (log : Log) (good : GoodLog log) where
       let (a, b) = isIn-filter (λ m. eqb (parentIn parents m) n) (addedIn log (countsOf log)) m e in
       (sym (added-is log good (countsOf log) whole m) ∙ a, eqb-true _ _ b)
 
-  preorder-enough : (k i j n : ℕ) → Depth parents j n → 2040 < k + j → 2040 < i + j → j ≤ 2040 → preorder k log parents n ≡ preorder i log parents n
+  preorder-enough : (k i j n : ℕ) → Depth parents j n → 2040 < k + j → 2040 < i + j → j ≤ 2040
+      → preorder k log parents n ≡ preorder i log parents n
   unfolding preorder
   preorder-enough zero i j n d h l b = absurd (omega arith)
   preorder-enough (suc k) zero j n d h l b = absurd (omega arith)
@@ -109,4 +64,5 @@ module _ (log : Log) (good : GoodLog log) where
   -- the listing's order is the same with every bound that is large enough
   pub preorder-fuel : (k : ℕ) → slots ≤ k → preorder k log parents 0 ≡ preorder slots log parents 0
   unfolding up
-  preorder-fuel k h = preorder-enough k slots 0 0 (record { root = refl; first = λ m l z. omega arith }) (omega arith) (omega arith) (omega arith)
+  preorder-fuel k h = preorder-enough k slots 0 0 (record { root = refl; first = λ m l z. omega arith }) (omega arith) (omega arith)
+      (omega arith)

@@ -9,23 +9,26 @@ use mathlib.Core.Logic.{⊎-elim}
 use mathlib.Core.Path.{ap, _∙_, _≡_, ap₂, sym}
 use native.Mathlib.Decide.{decLe}
 use native.Mathlib.Omega.{arith}
-use Rattle.order.proofs.ExtendLaws.{timestamp-more, within-more, ordered-more}
-use Rattle.order.proofs.GrowLaws.{entry-ready, entry-none}
+use Rattle.order.proofs.RunLaws.{entry-ready, entry-none}
 use Rattle.order.proofs.LevelLaws.{AtLevel, time-of, counted-value, Cut, equation, off-time, of-replica, by-time-more, matches, stamped-times, one-level, counted-bound, status}
 use Rattle.order.specs.Levels.{level, nextOf, entry}
-use Rattle.rules.proofs.AppendLaws.{closed-more, Extends, same-within, covered-more}
-use Rattle.rules.proofs.ListLaws.{map-downFrom, map-upFrom, filter-append, concat-append, upFrom-add, filter-none}
+use Rattle.rules.proofs.AppendLaws.{closed-more}
+use Rattle.lists.proofs.RangeLaws.{map-downFrom, map-upFrom, upFrom-add}
+use Rattle.lists.proofs.FilterLaws.{filter-append, filter-none}
+use Rattle.lists.proofs.ListLaws.{concat-append}
 use Rattle.rules.proofs.StructureLaws.{GoodLog, good-ops, counts-covered, counts-closed}
 use Rattle.rules.proofs.TimeLaws.{map-within}
-use Rattle.rules.specs.Bytes.{greatest, concat, upFrom, filter}
-use Rattle.rules.specs.Log.{Log, countsOf, opAt, opsOf}
+use Rattle.lists.specs.Lists.{greatest, concat, upFrom, filter}
+use Rattle.rules.specs.File.{Log, countsOf, opAt, opsOf, Extends}
 use Rattle.rules.specs.Op.{Vector, countIn, vectorOf, Op, kindOf}
 use Rattle.rules.specs.Replay.{timestamp, ofTime, ordered, opsWithin, ofKind, ofReplica, stamped, Stamped, stamp}
+use Rattle.rules.proofs.ExtendLaws.{Alike, alike-more, inner-alike, ordered-alike, timestamp-alike, within-alike}
 
 -- more is log and, of each replica, perhaps one op with the held counts of log as its vector
 pub record Late (log more : Log) : Type 0 where
   pub extends : Extends log more
-  pub vector : (s q : ℕ) → 1 ≤ s → s ≤ 8 → countIn (countsOf log) s < q → q ≤ countIn (countsOf more) s → vectorOf (opAt more s q) ≡ countsOf log
+  pub vector : (s q : ℕ) → 1 ≤ s → s ≤ 8 → countIn (countsOf log) s < q → q ≤ countIn (countsOf more) s
+      → vectorOf (opAt more s q) ≡ countsOf log
 
 module _ (log more : Log) (x : Late log more) (good : GoodLog log) (goodMore : GoodLog more) where
   abbrev held : Vector
@@ -38,19 +41,20 @@ module _ (log more : Log) (x : Late log more) (good : GoodLog log) (goodMore : G
   unfoldable pub top : ℕ
   top = greatest (map (timestamp log) (opsWithin log held))
 
+  -- what the first log holds, the second replays alike
+  alike : Alike log more held
+  alike = alike-more log more (x .extends) held (counts-covered log) (counts-closed log good)
+
   held-cut : Cut more held
-  held-cut = record {
-    is-covered = covered-more log more (x .extends) held (counts-covered log);
-    is-closed = closed-more log more held (same-within log more (x .extends) held (counts-covered log)) ∙ counts-closed log good;
-  }
+  held-cut = record { is-covered = alike .there; is-closed = closed-more log more held (alike .same) ∙ counts-closed log good }
 
   pub whole-cut : Cut more all-held
   whole-cut = record { is-covered = counts-covered more; is-closed = counts-closed more goodMore }
 
   times-within : map (timestamp more) (opsWithin more held) ≡ map (timestamp log) (opsWithin log held)
   times-within =
-      rw (within-more log more (x .extends) held (counts-covered log)) (map-within (timestamp more) (timestamp log) log held (λ s q l u lq uq.
-      timestamp-more log more (x .extends) good (opAt log s q) (good-ops good s q l u lq uq .is-covered)))
+      rw (within-alike log more held alike) (map-within (timestamp more) (timestamp log) log held (λ s q l u lq uq.
+      timestamp-alike log more (good-ops good) (opAt log s q) (inner-alike log more (good-ops good) held alike s q l u lq uq)))
 
   early-time : (s q : ℕ) → 1 ≤ s → s ≤ 8 → 1 ≤ q → q ≤ countIn held s → time-of more goodMore s q ≤ top
   unfolding top
@@ -60,7 +64,8 @@ module _ (log more : Log) (x : Late log more) (good : GoodLog log) (goodMore : G
   late-time : (s q : ℕ) → 1 ≤ s → s ≤ 8 → countIn held s < q → q ≤ countIn all-held s → time-of more goodMore s q ≡ suc top
   unfolding top
   late-time s q l u lq uq =
-      let e : time-of more goodMore s q ≡ 1 + top = equation more goodMore s q l u (omega arith) uq ∙ rw (x .vector s q l u lq uq, times-within) in
+      let e : time-of more goodMore s q ≡ 1 + top = equation more goodMore s q l u (omega arith) uq
+      ∙ rw (x .vector s q l u lq uq, times-within) in
       omega arith
 
   pub last-level : AtLevel more goodMore all-held whole-cut (suc top) held
@@ -78,41 +83,55 @@ module _ (log more : Log) (x : Late log more) (good : GoodLog log) (goodMore : G
       let e : countIn all-held s ≡ countIn held s + d = omega arith in
       let none : filter (matches t k s) (map (stamp more) (take d (drop (countIn held s) (opsOf more s)))) ≡ [] =
       filter-none (matches t k s) (stamp more) [] d (drop (countIn held s) (opsOf more s)) (λ i a c.
-      rw (getD-drop (countIn held s) (opsOf more s) i []) (off-time more goodMore all-held whole-cut t k s (countIn held s + i) l u (omega arith) (λ z.
+      rw (getD-drop (countIn held s) (opsOf more s) i []) (off-time more goodMore all-held whole-cut t k s (countIn held s + i) l u
+      (omega arith) (λ z.
       omega (arith, late-time s (countIn held s + i + 1) l u (omega arith) (omega arith))))) in
-      of-replica more goodMore all-held whole-cut t k s l u ∙ rw (e, take-add (countIn held s) d (opsOf more s), map-append, filter-append, none, append-nil, of-replica more goodMore held held-cut t k s l u)
+      of-replica more goodMore all-held whole-cut t k s l u ∙ rw (
+        e,
+        take-add (countIn held s) d (opsOf more s),
+        map-append,
+        filter-append,
+        none,
+        append-nil,
+        of-replica more goodMore held held-cut t k s l u,
+      )
 
   early-times : (t : ℕ) → t ≤ top → ofTime (stamped more all-held) t ≡ ofTime (stamped more held) t
   unfolding ofTime ofKind
   early-times t h =
       ap concat (map-upFrom (ofKind (stamped more all-held) t) (ofKind (stamped more held) t) 4 1 (λ k a b.
-      ap concat (map-downFrom (ofReplica (stamped more all-held) t k) (ofReplica (stamped more held) t k) 8 (λ s l u. late-none t k s h l u))))
+      ap concat (map-downFrom (ofReplica (stamped more all-held) t k) (ofReplica (stamped more held) t k) 8
+      (λ s l u. late-none t k s h l u))))
 
   pub ordered-late : ordered more all-held ≡ ordered log held ++ level more (suc top) (nextOf more all-held held)
   unfolding ordered stamped upFrom concat
   ordered-late =
-      by-time-more (stamped more all-held) (top + 1) all-times ∙ rw (upFrom-add 1 top 1, map-append, concat-append, append-nil) (ap₂ _++_ early last)
+      by-time-more (stamped more all-held) (top + 1) all-times ∙ rw (upFrom-add 1 top 1, map-append, concat-append, append-nil)
+      (ap₂ _++_ early last)
     where
       all-times : greatest (map (λ (y : Stamped). y .time) (stamped more all-held)) ≤ top + 1
       all-times =
-          rw (stamped-times more (opsWithin more all-held)) (counted-bound more all-held (timestamp more) (top + 1) (λ s q l u lq uq. elim (decLe q (countIn held s)) [
+          rw (stamped-times more (opsWithin more all-held)) (counted-bound more all-held (timestamp more) (top + 1)
+          (λ s q l u lq uq. elim (decLe q (countIn held s)) [
             | yes h ↦ omega (arith, early-time s q l u lq h)
             | no h ↦ omega (arith, late-time s q l u (omega arith) uq)
           ]))
 
       held-times : greatest (map (λ (y : Stamped). y .time) (stamped more held)) ≤ top
       held-times =
-          rw (stamped-times more (opsWithin more held)) (counted-bound more held (timestamp more) top (λ s q l u lq uq. early-time s q l u lq uq))
+          rw (stamped-times more (opsWithin more held)) (counted-bound more held (timestamp more) top
+          (λ s q l u lq uq. early-time s q l u lq uq))
 
       early : concat (map (ofTime (stamped more all-held)) (upFrom 1 top)) ≡ ordered log held
       early =
           ap concat (map-upFrom (ofTime (stamped more all-held)) (ofTime (stamped more held)) top 1 (λ t a b. early-times t (omega arith)))
           ∙ sym (by-time-more (stamped more held) top held-times)
-          ∙ ordered-more log more (x .extends) good held (counts-covered log)
+          ∙ ordered-alike log more (good-ops good) held alike
 
       last : ofTime (stamped more all-held) (1 + top) ≡ level more (suc top) (nextOf more all-held held)
       last =
-          ap (ofTime (stamped more all-held)) (omega arith) ∙ one-level more goodMore all-held whole-cut (suc top) (omega arith) held last-level
+          ap (ofTime (stamped more all-held)) (omega arith) ∙ one-level more goodMore all-held whole-cut (suc top) (omega arith) held
+          last-level
 
   ---- the entries of that level
 
@@ -120,7 +139,8 @@ module _ (log more : Log) (x : Late log more) (good : GoodLog log) (goodMore : G
     abbrev late-op : Op
     late-op = opAt more s (countIn held s + 1)
 
-    pub late-entry : countIn held s < countIn all-held s → entry more (suc top) (nextOf more all-held held) k s ≡ cond (eqb (kindOf late-op) k) (record { time = suc top; op = late-op } ∷ []) []
+    pub late-entry : countIn held s < countIn all-held s → entry more (suc top) (nextOf more all-held held) k s ≡ cond
+        (eqb (kindOf late-op) k) (record { time = suc top; op = late-op } ∷ []) []
     late-entry h = ⊎-elim
         (λ y. entry-ready more goodMore all-held whole-cut (suc top) (omega arith) held last-level k s l u (y .0))
         (λ y. absurd (omega (arith, y .1 h, late-time s (countIn held s + 1) l u (omega arith) (omega arith))))

@@ -10,18 +10,24 @@ use native.Mathlib.Decide.{ℕ-discrete, decLe}
 use borrow.Author.Tests.{leb-false, le-leb, ltb-true, ltb-false, eq-eqb, ne-eqb}
 use lib.ListN.{take, getD}
 use lib.Dec.{leb, ltb, eqb, lit≤}
-use Rattle.rules.specs.Bytes.{upFrom, sum, greatest, concat, filter}
+use Rattle.lists.specs.Lists.{upFrom, sum, greatest, concat, filter}
 use Rattle.rules.specs.Op.{Op, Vector, replicas, countIn, kindOf, replicaOf, vectorOf}
-use Rattle.rules.specs.Log.{Log, opsOf, opAt, countsOf, within, covered, closed}
+use Rattle.rules.specs.File.{Log, opsOf, opAt, countsOf, within}
+use Rattle.rules.specs.Log.{covered, closed}
 use Rattle.rules.specs.Tree.{slots}
 use Rattle.rules.specs.Replay.{Stamped, opsWithin, timestampIn, timestamp, stamp, stamped, ofReplica, ofKind, ofTime, byTime, ordered}
-use Rattle.rules.proofs.BoolLaws.{all-replicas, replica-fails, replica-cases, and-false, and-true}
+use Rattle.rules.proofs.ReplicaLaws.{all-replicas, replica-fails, replica-cases}
+use Rattle.lists.proofs.BoolLaws.{and-false, and-true}
 use Rattle.rules.proofs.CausalLaws.{Le, within-le, total, own, counted-le}
 use Rattle.rules.proofs.TimeLaws.{timestamp-equation}
-use Rattle.rules.proofs.ListLaws.{greatest-take, greatest-bound, greatest-part, greatest-parts, filter-none, filter-one, filter-part, map-upFrom, map-downFrom, upFrom-add, concat-nothing, concat-none, concat-append}
+use Rattle.lists.proofs.GreatestLaws.{greatest-take, greatest-bound, greatest-part, greatest-parts}
+use Rattle.lists.proofs.FilterLaws.{filter-none, filter-one, filter-part}
+use Rattle.lists.proofs.RangeLaws.{map-upFrom, map-downFrom, upFrom-add, concat-nothing, concat-none}
+use Rattle.lists.proofs.ListLaws.{concat-append}
 use Rattle.rules.proofs.StructureLaws.{count-held, held-in, GoodLog, good-ops}
 use Rattle.rules.proofs.FileLaws.{count-map}
 use Rattle.order.specs.Levels.{ready, nextAt, nextOf, advancedAt, advanced, entry, levelKind, level, levels, nothing}
+use Rattle.rules.proofs.ClimbLaws.{up}
 
 pub count-nothing : (s : ℕ) → 1 ≤ s → s ≤ 8 → countIn nothing s ≡ 0
 unfolding countIn nothing
@@ -33,12 +39,19 @@ le-within v u h = all-replicas _ (λ s l b. le-leb (countIn v s) (countIn u s) (
 
 -- a function's greatest value on what a vector counts
 module _ (log : Log) (v : Vector) (g : Op → ℕ) where
-  pub counted-value : (s q : ℕ) → 1 ≤ s → s ≤ 8 → 1 ≤ q → q ≤ countIn v s → q ≤ countIn (countsOf log) s → g (opAt log s q) ≤ greatest (map g (opsWithin log v))
+  pub counted-value : (s q : ℕ) → 1 ≤ s → s ≤ 8 → 1 ≤ q → q ≤ countIn v s → q ≤ countIn (countsOf log) s
+      → g (opAt log s q) ≤ greatest (map g (opsWithin log v))
   unfolding opsWithin opAt replicas
   counted-value s q l u lq uq hq =
-      omega (arith, greatest-part g (λ r. take (countIn v r) (opsOf log r)) 8 1 s l (omega arith), greatest-take g [] (countIn v s) (opsOf log s) (q - 1) (omega arith) (omega (arith, count-held log s)))
+      omega (
+        arith,
+        greatest-part g (λ r. take (countIn v r) (opsOf log r)) 8 1 s l (omega arith),
+        greatest-take g [] (countIn v s)
+            (opsOf log s) (q - 1) (omega arith) (omega (arith, count-held log s)),
+      )
 
-  pub counted-bound : (b : ℕ) → ((s q : ℕ) → 1 ≤ s → s ≤ 8 → 1 ≤ q → q ≤ countIn v s → g (opAt log s q) ≤ b) → greatest (map g (opsWithin log v)) ≤ b
+  pub counted-bound : (b : ℕ) → ((s q : ℕ) → 1 ≤ s → s ≤ 8 → 1 ≤ q → q ≤ countIn v s → g (opAt log s q) ≤ b)
+      → greatest (map g (opsWithin log v)) ≤ b
   unfolding opsWithin opAt replicas
   counted-bound b h =
       greatest-parts g (λ r. take (countIn v r) (opsOf log r)) 8 1 b (λ s l u.
@@ -62,7 +75,11 @@ total-small v b =
 pub timestamp-bound : (k : ℕ) (log : Log) (r : Op) → timestampIn k log r ≤ k
 unfolding timestampIn
 timestamp-bound zero log r = omega arith
-timestamp-bound (suc k) log r = omega (arith, counted-bound log (vectorOf r) (timestampIn k log) k (λ s q l u lq uq. timestamp-bound k log (opAt log s q)))
+timestamp-bound (suc k) log r = omega (
+  arith,
+  counted-bound log (vectorOf r) (timestampIn k log) k
+      (λ s q l u lq uq. timestamp-bound k log (opAt log s q)),
+)
 
 -- a time past the greatest has no ops
 filter-past : (xs : List Stamped) (t k s : ℕ) → greatest (map (λ (x : Stamped). x .time) xs) < t → ofReplica xs t k s ≡ []
@@ -76,12 +93,14 @@ time-past : (xs : List Stamped) (t : ℕ) → greatest (map (λ (x : Stamped). x
 unfolding ofTime ofKind
 time-past xs t h = concat-nothing (ofKind xs t) 4 1 (λ k a b. concat-none (ofReplica xs t k) 8 (λ s l u. filter-past xs t k s h))
 
-pub by-time-more : (xs : List Stamped) (n : ℕ) → greatest (map (λ (x : Stamped). x .time) xs) ≤ n → byTime xs ≡ concat (map (ofTime xs) (upFrom 1 n))
+pub by-time-more : (xs : List Stamped) (n : ℕ) → greatest (map (λ (x : Stamped). x .time) xs) ≤ n
+    → byTime xs ≡ concat (map (ofTime xs) (upFrom 1 n))
 unfolding byTime
 by-time-more xs n h =
     let g : ℕ = greatest (map (λ (x : Stamped). x .time) xs) in
     let e : n ≡ g + (n - g) = omega arith in
-    let past : concat (map (ofTime xs) (upFrom (1 + g) (n - g))) ≡ [] = concat-nothing (ofTime xs) (n - g) (1 + g) (λ t a b. time-past xs t (omega arith)) in
+    let past : concat (map (ofTime xs) (upFrom (1 + g) (n - g))) ≡ [] = concat-nothing (ofTime xs) (n - g) (1 + g)
+    (λ t a b. time-past xs t (omega arith)) in
     rw (e, upFrom-add 1 g (n - g), map-append, concat-append, past, append-nil)
 
 pub stamped-times : (log : Log) (rs : List Op) → map (λ (x : Stamped). x .time) (map (stamp log) rs) ≡ map (timestamp log) rs
@@ -109,13 +128,19 @@ module _ (log : Log) (good : GoodLog log) where
     pub equation : time-of s q ≡ 1 + greatest (map (timestamp log) (opsWithin log (vec s q)))
     equation =
         let x = good-ops good s q l u lq uq in
-        timestamp-equation log (good-ops good) (opAt log s q) (x .is-covered) (x .is-closed) (total-small (vec s q) (λ r a b. omega (arith, held-in log (vec s q) (x .is-covered) r a b, good .counts r a b)))
+        timestamp-equation log (good-ops good) (opAt log s q) (x .is-covered) (x .is-closed)
+        (total-small (vec s q) (λ r a b. omega (arith, held-in log (vec s q) (x .is-covered) r a b, good .counts r a b)))
 
     -- what the op's vector counts is earlier
     pub earlier : (r p : ℕ) → 1 ≤ r → r ≤ 8 → 1 ≤ p → p ≤ countIn (vec s q) r → time-of r p < time-of s q
     earlier r p a b lp up =
         let x = good-ops good s q l u lq uq in
-        omega (arith, equation, counted-value log (vec s q) (timestamp log) r p a b lp up (omega (arith, held-in log (vec s q) (x .is-covered) r a b)))
+        omega (
+          arith,
+          equation,
+          counted-value log (vec s q) (timestamp log) r p a b lp up
+              (omega (arith, held-in log (vec s q) (x .is-covered) r a b)),
+        )
 
     -- and the op is no later than it must be
     pub no-later : (t : ℕ) → 1 ≤ t → ((r p : ℕ) → 1 ≤ r → r ≤ 8 → 1 ≤ p → p ≤ countIn (vec s q) r → time-of r p < t) → time-of s q ≤ t
@@ -149,7 +174,8 @@ module _ (log : Log) (good : GoodLog log) where
     part r = take (countIn cut r) (opsOf log r)
 
     -- what is known of the op at place i
-    at-place : (r i : ℕ) → 1 ≤ r → r ≤ 8 → i < countIn cut r → (replicaOf (getD (opsOf log r) i []) ≡ r) × (timestamp log (getD (opsOf log r) i []) ≡ time-of r (i + 1))
+    at-place : (r i : ℕ) → 1 ≤ r → r ≤ 8 → i < countIn cut r
+        → (replicaOf (getD (opsOf log r) i []) ≡ r) × (timestamp log (getD (opsOf log r) i []) ≡ time-of r (i + 1))
     unfolding opAt
     at-place r i a b h =
         let e : i + 1 - 1 ≡ i = omega arith in
@@ -169,7 +195,8 @@ module _ (log : Log) (good : GoodLog log) where
         filter-part (matches t k s) (stamp log) part 8 1 s l (omega arith) (λ r a b ne. other t k s r a (omega arith) ne)
 
     -- an op of another time does not
-    pub off-time : (t k s i : ℕ) → 1 ≤ s → s ≤ 8 → i < countIn cut s → (time-of s (i + 1) ≡ t → ⊥) → matches t k s (stamp log (getD (opsOf log s) i [])) ≡ false
+    pub off-time : (t k s i : ℕ) → 1 ≤ s → s ≤ 8 → i < countIn cut s → (time-of s (i + 1) ≡ t → ⊥)
+        → matches t k s (stamp log (getD (opsOf log s) i [])) ≡ false
     unfolding stamp
     off-time t k s i l u h ne = rw (at-place s i l u h .1, ne-eqb (time-of s (i + 1)) t ne)
 
@@ -180,7 +207,8 @@ module _ (log : Log) (good : GoodLog log) where
         ready-time h w =
             let v : Vector = vec s (countIn done s + 1) in
             let a = at .high s (countIn done s + 1) l u (omega arith) (omega arith) in
-            let b = no-later s (countIn done s + 1) l u (omega arith) (omega (arith, held-cut s l u)) t lt (λ r p c d lp up. at .low r p c d lp (omega (arith, within-le v done w r c d))) in
+            let b = no-later s (countIn done s + 1) l u (omega arith) (omega (arith, held-cut s l u)) t lt
+            (λ r p c d lp up. at .low r p c d lp (omega (arith, within-le v done w r c d))) in
             omega arith
 
         -- and one that is not is later
@@ -191,7 +219,8 @@ module _ (log : Log) (good : GoodLog log) where
             let (r, a, b, f) = replica-fails (λ z. leb (countIn v z) (countIn done z)) w in
             let f′ = leb-false (countIn v r) (countIn done r) f in
             let hs = held-cut s l u in
-            let c = counted-le log (good-ops good) cut (is .is-covered) (is .is-closed) s (countIn done s + 1) l u (omega arith) (omega arith) r a b in
+            let c = counted-le log (good-ops good) cut (is .is-covered) (is .is-closed) s (countIn done s + 1) l u (omega arith)
+            (omega arith) r a b in
             let e = earlier s (countIn done s + 1) l u (omega arith) (omega arith) r (countIn done r + 1) a b (omega arith) (omega arith) in
             let g = at .high r (countIn done r + 1) a b (omega arith) (omega arith) in
             omega arith
@@ -200,20 +229,26 @@ module _ (log : Log) (good : GoodLog log) where
       unfolding nextOf
       next-count s l u = count-map (nextAt log cut done) s l u
 
-      pub done-count : (s : ℕ) → 1 ≤ s → s ≤ 8 → countIn (advanced done (nextOf log cut done)) s ≡ cond (ready log cut done s) (countIn done s + 1) (countIn done s)
+      pub done-count : (s : ℕ) → 1 ≤ s → s ≤ 8 → countIn (advanced done (nextOf log cut done)) s ≡ cond (ready log cut done s)
+          (countIn done s + 1) (countIn done s)
       unfolding advanced advancedAt nextAt
       done-count s l u = count-map (advancedAt done (nextOf log cut done)) s l u ∙ go (ready log cut done s) refl
         where
-          go : (b : Bool) → ready log cut done s ≡ b → advancedAt done (nextOf log cut done) s ≡ cond b (countIn done s + 1) (countIn done s)
+          go : (b : Bool) → ready log cut done s ≡ b → advancedAt done (nextOf log cut done) s ≡ cond b (countIn done s + 1)
+              (countIn done s)
           go true e = rw (next-count s l u, e, ne-eqb (countIn done s + 1) 0 (λ z. omega arith))
           go false e = rw (next-count s l u, e)
 
       -- a replica's next op is ready and has time t, or is not and is later
-      pub status : (s : ℕ) → 1 ≤ s → s ≤ 8 → ((ready log cut done s ≡ true) × (countIn done s < countIn cut s) × (time-of s (countIn done s + 1) ≡ t)) ⊎ ((ready log cut done s ≡ false) × (countIn done s < countIn cut s → t < time-of s (countIn done s + 1)))
+      pub status : (s : ℕ) → 1 ≤ s → s ≤ 8
+          → ((ready log cut done s ≡ true) × (countIn done s < countIn cut s) × (time-of s (countIn done s + 1) ≡ t))
+          ⊎ ((ready log cut done s ≡ false) × (countIn done s < countIn cut s → t < time-of s (countIn done s + 1)))
       unfolding ready
       status s l u = go (ltb (countIn done s) (countIn cut s)) refl (within (vec s (countIn done s + 1)) done) refl
         where
-          go : (a : Bool) → ltb (countIn done s) (countIn cut s) ≡ a → (b : Bool) → within (vec s (countIn done s + 1)) done ≡ b → (((a && b) ≡ true) × (countIn done s < countIn cut s) × (time-of s (countIn done s + 1) ≡ t)) ⊎ (((a && b) ≡ false) × (countIn done s < countIn cut s → t < time-of s (countIn done s + 1)))
+          go : (a : Bool) → ltb (countIn done s) (countIn cut s) ≡ a → (b : Bool) → within (vec s (countIn done s + 1)) done ≡ b
+              → (((a && b) ≡ true) × (countIn done s < countIn cut s) × (time-of s (countIn done s + 1) ≡ t))
+              ⊎ (((a && b) ≡ false) × (countIn done s < countIn cut s → t < time-of s (countIn done s + 1)))
           go true ea true eb = inl (refl, ltb-true _ _ ea, ready-time s l u (ltb-true _ _ ea) eb)
           go true ea false eb = inr (refl, λ h. late-time s l u h eb)
           go false ea b eb = inr (refl, λ h. absurd (omega (arith, ltb-false (countIn done s) (countIn cut s) ea)))
@@ -233,10 +268,20 @@ module _ (log : Log) (good : GoodLog log) where
             (λ x. let e = rw (done-count s l u, x .0) at uq in omega (arith, at .low s q l u lq e))
             (status s l u);
         high = λ s q l u lq uq. ⊎-elim
-            (λ x. let e = rw (done-count s l u, x .0) at lq in omega (arith, x .2, rising s (countIn done s + 1) q l u (omega arith) (omega arith) (omega (arith, held-cut s l u))))
+            (λ x. let e = rw (done-count s l u, x .0) at lq in omega (
+              arith,
+              x .2,
+              rising s (countIn done s + 1) q l u (omega arith)
+                  (omega arith) (omega (arith, held-cut s l u)),
+            ))
             (λ x. let e = rw (done-count s l u, x .0) at lq in elim (ℕ-discrete q (countIn done s + 1)) [
               | yes z ↦ rw z (x .1 (omega arith))
-              | no nz ↦ omega (arith, x .1 (omega arith), rising s (countIn done s + 1) q l u (omega arith) (omega arith) (omega (arith, held-cut s l u)))
+              | no nz ↦ omega (
+                arith,
+                x .1 (omega arith),
+                rising s (countIn done s + 1) q l u (omega arith) (omega arith)
+                    (omega (arith, held-cut s l u)),
+              )
             ])
             (status s l u);
       }
@@ -244,7 +289,12 @@ module _ (log : Log) (good : GoodLog log) where
       module _ (k s : ℕ) (l : 1 ≤ s) (u : s ≤ 8) where
         same-time : (i : ℕ) → i < countIn cut s → (i ≡ countIn done s → ⊥) → time-of s (i + 1) ≡ t → ⊥
         same-time i h ne e = elim (decLe (countIn done s) i) [
-          | yes g ↦ omega (arith, at .high s (countIn done s + 1) l u (omega arith) (omega arith), rising s (countIn done s + 1) (i + 1) l u (omega arith) (omega arith) (omega (arith, held-cut s l u)))
+          | yes g ↦ omega (
+            arith,
+            at .high s (countIn done s + 1) l u (omega arith) (omega arith),
+            rising s (countIn done s + 1) (i + 1) l u
+                (omega arith) (omega arith) (omega (arith, held-cut s l u)),
+          )
           | no g ↦ omega (arith, at .low s (i + 1) l u (omega arith) (omega arith))
         ]
 
@@ -255,8 +305,22 @@ module _ (log : Log) (good : GoodLog log) where
         pub one-entry : ofReplica (stamped log cut) t k s ≡ entry log t (nextOf log cut done) k s
         unfolding entry nextAt stamp
         one-entry = of-replica t k s l u ∙ ⊎-elim
-            (λ x. filter-one (matches t k s) (stamp log) [] (countIn cut s) (countIn done s) (opsOf log s) (x .1) (omega (arith, x .1, held-cut s l u, count-held log s)) (λ i h c ne. off-time t k s i l u h (same-time i h ne)) ∙ rw (next-count s l u, x .0, place, x .2, eq-eqb t t refl, good-ops good s (countIn done s + 1) l u (omega arith) (omega (arith, x .1, held-cut s l u)) .origin, eq-eqb s s refl, ne-eqb (countIn done s + 1) 0 (λ z. omega arith), and-true))
-            (λ x. filter-none (matches t k s) (stamp log) [] (countIn cut s) (opsOf log s) (λ i h c. off-time t k s i l u h (λ e. elim (ℕ-discrete i (countIn done s)) [
+            (λ x. filter-one (matches t k s) (stamp log) [] (countIn cut s) (countIn done s) (opsOf log s) (x .1)
+            (omega (arith, x .1, held-cut s l u, count-held log s)) (λ i h c ne. off-time t k s i l u h (same-time i h ne))
+            ∙ rw (
+              next-count s l u,
+              x .0,
+              place,
+              x .2,
+              eq-eqb t t refl,
+              good-ops good s (countIn done s + 1) l u (omega arith)
+                  (omega (arith, x .1, held-cut s l u)) .origin,
+              eq-eqb s s refl,
+              ne-eqb (countIn done s + 1) 0 (λ z. omega arith),
+              and-true,
+            ))
+            (λ x. filter-none (matches t k s) (stamp log) [] (countIn cut s) (opsOf log s)
+            (λ i h c. off-time t k s i l u h (λ e. elim (ℕ-discrete i (countIn done s)) [
               | yes z ↦ omega (arith, x .1 (omega arith), ap (λ (j : ℕ). time-of s (j + 1)) z)
               | no nz ↦ same-time i h nz e
             ])) ∙ rw (next-count s l u, x .0))
@@ -271,11 +335,13 @@ module _ (log : Log) (good : GoodLog log) where
       unfolding ofTime level
       one-level = ap concat (map-upFrom (ofKind (stamped log cut) t) (levelKind log t (nextOf log cut done)) 4 1 (λ k a b. one-kind k))
 
-    all-levels : (n t : ℕ) → 1 ≤ t → (done : Vector) → AtLevel t done → concat (map (ofTime (stamped log cut)) (upFrom t n)) ≡ levels n log cut t done
+    all-levels : (n t : ℕ) → 1 ≤ t → (done : Vector) → AtLevel t done
+        → concat (map (ofTime (stamped log cut)) (upFrom t n)) ≡ levels n log cut t done
     unfolding upFrom concat levels
     all-levels zero t lt done at = refl
     all-levels (suc n) t lt done at =
-        ap₂ _++_ (one-level t lt done at) (all-levels n (suc t) (omega arith) (advanced done (nextOf log cut done)) (next-level t lt done at))
+        ap₂ _++_ (one-level t lt done at) (all-levels n (suc t) (omega arith) (advanced done (nextOf log cut done))
+        (next-level t lt done at))
 
     pub first-level : AtLevel 1 nothing
     first-level = record {
@@ -290,4 +356,5 @@ module _ (log : Log) (good : GoodLog log) where
     ordered-levels = by-time-more (stamped log cut) slots times ∙ all-levels slots 1 (le-refl 1) nothing first-level
       where
         times : greatest (map (λ (x : Stamped). x .time) (stamped log cut)) ≤ slots
-        times = rw (stamped-times log (opsWithin log cut)) (counted-bound log cut (timestamp log) slots (λ s q l u lq uq. timestamp-bound slots log (opAt log s q)))
+        times = rw (stamped-times log (opsWithin log cut)) (counted-bound log cut (timestamp log) slots
+            (λ s q l u lq uq. timestamp-bound slots log (opAt log s q)))

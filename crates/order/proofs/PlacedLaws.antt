@@ -1,37 +1,22 @@
 -- No node was placed later than the latest op of a replay. Assumes nothing.
-use Prim.Native.Nat.{ℕ, zero, suc, _≤_, max}
+use Prim.Native.Nat.{ℕ, _≤_}
 use lib.Dec.{eqb}
 use lib.ListN.{length-replicate, set, List·getD-eq-default, getD-replicate, length-set, length, getD, replicate}
 use lib.Seq.{getD-set-same, getD-set-other}
 use mathlib.Core.Bool.{cond, false, true, Bool, _&&_}
-use mathlib.Core.List.{List, [], map, map-append, _∷_, foldl}
-use mathlib.Core.Path.{_≡_, _∙_}
+use mathlib.Core.List.{List, [], map, _∷_, foldl}
 use native.Mathlib.Decide.{ℕ-discrete, decLe}
 use native.Mathlib.Nat.{le-refl}
 use native.Mathlib.Omega.{arith}
 use Rattle.order.proofs.LevelLaws.{stamped-times}
-use Rattle.rules.proofs.ListLaws.{greatest-append, greatest-parts}
-use Rattle.rules.specs.Bytes.{filter, downFrom, greatest, concat}
-use Rattle.rules.specs.Log.{Log}
+use Rattle.lists.proofs.GreatestLaws.{greatest-parts, greatest-down, greatest-filter}
+use Rattle.lists.specs.Lists.{greatest}
+use Rattle.rules.specs.File.{Log}
 use Rattle.rules.specs.Op.{Vector, nodeOf, isMove}
 use Rattle.rules.specs.Replay.{Stamped, byTime, step, start, replay, State, ofTime, ordered, ofKind, stamped, ofReplica, timestamp, outcomeOf, opsWithin}
 use Rattle.rules.specs.Tree.{slotOf, slots}
 
 ---- the times of a replay's ops
-
-greatest-filter : {A : Type 0} (g : A → ℕ) (p : A → Bool) (xs : List A) → greatest (map g (filter p xs)) ≤ greatest (map g xs)
-unfolding filter greatest
-greatest-filter g p [] = le-refl 0
-greatest-filter g p (x ∷ xs) = go (p x) (greatest-filter g p xs)
-  where
-    go : (b : Bool) → greatest (map g (filter p xs)) ≤ greatest (map g xs) → greatest (map g (cond b (x ∷ filter p xs) (filter p xs))) ≤ max (g x) (greatest (map g xs))
-    go true h = omega arith
-    go false h = omega arith
-
-greatest-down : {A : Type 0} (g : A → ℕ) (F : ℕ → List A) (n b : ℕ) → ((s : ℕ) → greatest (map g (F s)) ≤ b) → greatest (map g (concat (map F (downFrom n)))) ≤ b
-unfolding downFrom concat greatest
-greatest-down g F zero b h = omega arith
-greatest-down g F (suc n) b h = rw (map-append, greatest-append) (omega (arith, h (suc n), greatest-down g F n b h))
 
 abbrev time : Stamped → ℕ
 time x = x .time
@@ -65,7 +50,8 @@ placed-step st x b h le = go (eqb (outcomeOf st x) 1 && isMove (x .op))
     go true = placed-set (st .placed) b _ (x .time) h le
     go false = h
 
-placed-run : (xs : List Stamped) (st : State) (b : ℕ) → PlacedBy b (st .placed) → greatest (map time xs) ≤ b → PlacedBy b (foldl step st xs .placed)
+placed-run : (xs : List Stamped) (st : State) (b : ℕ) → PlacedBy b (st .placed) → greatest (map time xs) ≤ b
+    → PlacedBy b (foldl step st xs .placed)
 unfolding greatest
 placed-run [] st b h le = h
 placed-run (x ∷ xs) st b h le =
@@ -81,36 +67,5 @@ placed-first i = elim (decLe slots i) [
 pub placed-by : (log : Log) (cut : Vector) (i : ℕ) → getD (replay log cut .placed) i 0 ≤ greatest (map (timestamp log) (opsWithin log cut))
 unfolding replay ordered stamped
 placed-by log cut =
-    placed-run (byTime (stamped log cut)) start _ (λ i. omega (arith, placed-first i)) (rw (← stamped-times log (opsWithin log cut)) (times-ordered (stamped log cut)))
-
----- the sizes of the tables
-
-pub record Full (st : State) : Type 0 where
-  pub outcomes-full : length (st .outcomes) ≡ slots
-  pub placed-full : length (st .placed) ≡ slots
-
-pub full-step : (st : State) (x : Stamped) → Full st → Full (step st x)
-unfolding step
-full-step st x h = record {
-  outcomes-full = length-set (st .outcomes) _ _ ∙ h .outcomes-full;
-  placed-full = go (eqb (outcomeOf st x) 1 && isMove (x .op));
-}
-  where
-    go : (moved : Bool) → length (cond moved (set (st .placed) (slotOf (nodeOf (x .op))) (x .time)) (st .placed)) ≡ slots
-    go true = length-set (st .placed) _ _ ∙ h .placed-full
-    go false = h .placed-full
-
-full-run : (xs : List Stamped) (st : State) → Full st → Full (foldl step st xs)
-full-run [] st h = h
-full-run (x ∷ xs) st h = full-run xs (step st x) (full-step st x h)
-
-pub full-first : Full start
-unfolding start
-full-first = record {
-  outcomes-full = length-replicate {A = ℕ} slots 0;
-  placed-full = length-replicate {A = ℕ} slots 0;
-}
-
-pub tables-full : (log : Log) (cut : Vector) → Full (replay log cut)
-unfolding replay
-tables-full log cut = full-run (ordered log cut) start full-first
+    placed-run (byTime (stamped log cut)) start _ (λ i. omega (arith, placed-first i)) (rw (← stamped-times log (opsWithin log cut))
+    (times-ordered (stamped log cut)))

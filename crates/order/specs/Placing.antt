@@ -1,4 +1,5 @@
--- "An applied move of the same stamp already placed its node": outcome 2 in the paper's words, and that the state's `placed` table answers it.
+-- "An applied move of the same stamp already placed its node": outcome 2 in the paper's words, and that the state's `placed` table answers
+-- it.
 -- Assumes nothing.
 use Prim.Native.Nat.{ℕ}
 use lib.Dec.{eqb}
@@ -6,8 +7,9 @@ use lib.ListN.{getD}
 use mathlib.Core.Bool.{Bool, cond, true, _&&_}
 use mathlib.Core.List.{List, [], _∷_, _++_, foldl}
 use mathlib.Core.Path.{_≡_}
-use Rattle.rules.specs.Bytes.{any}
-use Rattle.rules.specs.Log.{structural, covered, logOf, closed}
+use Rattle.lists.specs.Lists.{any}
+use Rattle.rules.specs.Log.{structural, covered, closed}
+use Rattle.rules.specs.File.{logOf}
 use Rattle.rules.specs.Op.{Vector, isMove, nodeOf}
 use Rattle.rules.specs.Replay.{State, Stamped, step, outcomeOf, ordered, start}
 use Rattle.rules.specs.Tree.{slotOf}

@@ -14,7 +14,7 @@ use Rattle.rules.specs.Answer.{Answer, refused, hadIt, done, accepted}
 use Rattle.rules.specs.Deliver.{makeAnswer, deliverAnswer}
 use Rattle.rules.specs.Issue.{Request, issueAnswer}
 use borrow.Author.Tests.{leb-true}
-use Rattle.rules.specs.Log.{width, logOf}
+use Rattle.rules.specs.File.{width, logOf}
 
 -- an answer fits if what it accepts does
 pub fits-if : (a : Answer) → ((n : ℕ) → a ≡ accepted n → n ≤ 9223372036854775807) → fits a

@@ -13,15 +13,15 @@ use view::View;
 use view::listing;
 use view::path;
 ghost use mathlib.Core.Path.{_≡_};
-ghost use Rattle.rules.specs.Deliver as delivering;
-ghost use Rattle.rules.specs.Issue as issuing;
 ghost use Rattle.rules.specs.Issue.{add, remove, move};
-ghost use Rattle.rules.specs.Judge as judging;
-ghost use Rattle.rules.specs.Listing as listings;
-ghost use Rattle.rules.specs.Log.{width};
+ghost use Rattle.rules.specs.File.{width};
 ghost use Rattle.rules.specs.Path.{pathCall};
 ghost use Rattle.view.specs.Answers.{viewOf};
 ghost use Rattle.outline_c.specs.Number.{number, viewFor};
+ghost use Rattle.rules.specs.Deliver as delivering;
+ghost use Rattle.rules.specs.Issue as issuing;
+ghost use Rattle.rules.specs.Judge as judging;
+ghost use Rattle.rules.specs.Listing as listings;
 
 // Makes an empty log in a buffer.
 #[no_mangle]

@@ -19,7 +19,11 @@ digits-last : (k n : ℕ) → digits k n ≡ lastDigits (length (digits k n)) n
 unfolding digits lastDigits
 digits-last zero n = refl
 digits-last (suc k) n =
-    elim (decLe 10 n) [ yes h ↦ rw (digits-high k n h, length-append, add-one) (ap (λ (ds : List ℕ). ds ++ ((48 + n % 10) ∷ [])) (digits-last k (n / 10))) | no h ↦ rw (digits-low k n (omega arith)) ]
+    elim (decLe 10 n) [
+      | yes h ↦ rw (digits-high k n h, length-append, add-one) (ap (λ (ds : List ℕ). ds ++ ((48 + n % 10) ∷ []))
+          (digits-last k (n / 10)))
+      | no h ↦ rw (digits-low k n (omega arith))
+    ]
 
 -- o as it is once its i bytes from a place on hold the last digits of n
 abbrev pub toWrite : List ℕ → ℕ → ℕ → ℕ → List ℕ
@@ -29,7 +33,8 @@ pub write-all : (o : List ℕ) (at n : ℕ) → take at o ++ (decimal n ++ drop 
 unfolding decimal
 write-all o at n = ap (λ (ds : List ℕ). take at o ++ (ds ++ drop (at + length (digits 5 n)) o)) (digits-last 5 n)
 
-pub write-turn : (o : List ℕ) (at i j n : ℕ) → i ≡ suc j → at + i ≤ length o → toWrite o at i n ≡ toWrite (set o (at + j) (48 + n % 10)) at j (n / 10)
+pub write-turn : (o : List ℕ) (at i j n : ℕ) → i ≡ suc j → at + i ≤ length o
+    → toWrite o at i n ≡ toWrite (set o (at + j) (48 + n % 10)) at j (n / 10)
 unfolding lastDigits
 write-turn o at i j n e h =
     let d : ℕ = 48 + n % 10 in
@@ -37,7 +42,8 @@ write-turn o at i j n e h =
     let t : take at x ≡ take at o = take-set-le at o (at + j) d (omega arith) in
     let k : at + suc j ≡ suc (at + j) = omega arith in
     let u : at + j < length x = rw length-set (omega arith) in
-    let b : drop (at + j) x ≡ d ∷ drop (suc (at + j)) o = drop-cons x (at + j) 0 u ∙ rw (getD-set-same o (at + j) d 0 (omega arith), drop-set-lt (suc (at + j)) o (at + j) d (omega arith)) in
+    let b : drop (at + j) x ≡ d ∷ drop (suc (at + j)) o = drop-cons x (at + j) 0 u
+    ∙ rw (getD-set-same o (at + j) d 0 (omega arith), drop-set-lt (suc (at + j)) o (at + j) d (omega arith)) in
     rw (e, t, b, k, append-assoc)
 
 pub write-end : (o : List ℕ) (at n : ℕ) → toWrite o at 0 n ≡ o

@@ -19,19 +19,22 @@ pub written-one : (o : List ℕ) (at x : ℕ) → at < length o → set o at x �
 written-one o at x h = let e : at + 1 ≡ suc at = omega arith in rw e (set-split o at x h)
 
 -- one piece behind another
-pub written-next : (o : List ℕ) (at : ℕ) (xs ys : List ℕ) → at + length xs ≤ length o → written (written o at xs) (at + length xs) ys ≡ written o at (xs ++ ys)
+pub written-next : (o : List ℕ) (at : ℕ) (xs ys : List ℕ) → at + length xs ≤ length o
+    → written (written o at xs) (at + length xs) ys ≡ written o at (xs ++ ys)
 written-next o at xs ys h =
     let p : List ℕ = take at o ++ xs in
     let n : length p ≡ at + length xs = rw (length-append, length-take-le at o (omega arith)) in
     let d : drop (at + length xs + length ys) (p ++ drop (at + length xs) o) ≡ drop (at + (length xs + length ys)) o =
     let k : length p + length ys ≡ at + (length xs + length ys) = omega arith in
     rw (← n, drop-append-add p (drop (length p) o) (length ys), drop-drop, k) in
-    rw (← append-assoc (take at o) xs (drop (at + length xs) o), take-at p (drop (at + length xs) o) (at + length xs) n, d, length-append) (simp append-assoc)
+    rw (← append-assoc (take at o) xs (drop (at + length xs) o), take-at p (drop (at + length xs) o) (at + length xs) n, d, length-append)
+    (simp append-assoc)
 
 written-length : (o : List ℕ) (at : ℕ) (xs : List ℕ) → at + length xs ≤ length o → length (written o at xs) ≡ length o
 written-length o at xs h = rw (length-append, length-append, length-take-le at o (omega arith), length-drop) (omega arith)
 
-then : (o x y : List ℕ) (at k : ℕ) (xs ys : List ℕ) → at + length xs ≤ length o → x ≡ written o at xs → k ≡ at + length xs → y ≡ written x k ys → y ≡ written o at (xs ++ ys)
+then : (o x y : List ℕ) (at k : ℕ) (xs ys : List ℕ) → at + length xs ≤ length o → x ≡ written o at xs → k ≡ at + length xs
+    → y ≡ written x k ys → y ≡ written o at (xs ++ ys)
 then o x y at k xs ys h ex ek ey = ey ∙ rw (ex, ek) (written-next o at xs ys h)
 
 -- depth, space, node number, and the last three bytes
@@ -45,14 +48,20 @@ line-written o x y at d n a b m removed h ea ex eb ey em =
     let ds : List ℕ = decimal d in
     let ns : List ℕ = decimal n in
     let tail : List ℕ = 32 ∷ m ∷ 10 ∷ [] in
-    let whole : ((ds ++ (32 ∷ [])) ++ ns) ++ tail ≡ lineOf d n removed = rw (append-assoc (ds ++ (32 ∷ [])) ns tail, append-assoc ds (32 ∷ []) (ns ++ tail), em) in
+    let whole : ((ds ++ (32 ∷ [])) ++ ns) ++ tail ≡ lineOf d n removed = rw (
+      append-assoc (ds ++ (32 ∷ [])) ns tail,
+      append-assoc ds
+          (32 ∷ []) (ns ++ tail),
+      em,
+    ) in
     let size : length (lineOf d n removed) ≡ length ds + length ns + 4 = length-line d n removed in
     let lx : length x ≡ length o = rw ex (written-length o at ds (omega arith)) in
     let x′ : List ℕ = set x a 32 in
     let ex′ : x′ ≡ written o at (ds ++ (32 ∷ [])) = then o x x′ at a ds (32 ∷ []) (omega arith) ex ea (written-one x a 32 (omega arith)) in
     let l1 : length (ds ++ (32 ∷ [])) ≡ length ds + 1 = length-append ds (32 ∷ []) in
     let ey′ : y ≡ written o at ((ds ++ (32 ∷ [])) ++ ns) = then o x′ y at (a + 1) (ds ++ (32 ∷ [])) ns (omega arith) ex′ (omega arith) ey in
-    let l2 : length ((ds ++ (32 ∷ [])) ++ ns) ≡ length ds + 1 + length ns = length-append (ds ++ (32 ∷ [])) ns ∙ ap (λ (k : ℕ). k + length ns) l1 in
+    let l2 : length ((ds ++ (32 ∷ [])) ++ ns) ≡ length ds + 1 + length ns = length-append (ds ++ (32 ∷ [])) ns
+    ∙ ap (λ (k : ℕ). k + length ns) l1 in
     let ly : length y ≡ length o = rw ey′ (written-length o at ((ds ++ (32 ∷ [])) ++ ns) (omega arith)) in
     let s1 : b + 1 ≡ suc b = omega arith in
     let s2 : b + 2 ≡ suc (suc b) = omega arith in
@@ -66,4 +75,5 @@ abbrev pub Asked : List ℕ → Pen → ℕ → ℕ → Bool → Type 0
 Asked ys h d n t = (h .bytes + length (lineOf d n t) ≤ length ys) × (h .lines < 65536)
 
 abbrev pub Said : List ℕ → Pen → ℕ → ℕ → Bool → List ℕ → Pen → Type 0
-Said ys h d n t zs r = (zs ≡ take (h .bytes) ys ++ (lineOf d n t ++ drop (h .bytes + length (lineOf d n t)) ys)) × (r .bytes ≡ h .bytes + length (lineOf d n t)) × (r .lines ≡ h .lines + 1)
+Said ys h d n t zs r = (zs ≡ take (h .bytes) ys ++ (lineOf d n t ++ drop (h .bytes + length (lineOf d n t)) ys))
+    × (r .bytes ≡ h .bytes + length (lineOf d n t)) × (r .lines ≡ h .lines + 1)

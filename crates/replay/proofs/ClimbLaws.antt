@@ -9,7 +9,7 @@ use lib.Dec.{eqb, lit≤}
 use native.Mathlib.Decide.{ℕ-discrete}
 use borrow.Author.Tests.{eq-eqb, ne-eqb}
 use Rattle.rules.specs.Tree.{atOrBelow, parentIn, slotOf, climb, depth, path, slot}
-use Rattle.rules.specs.Bytes.{isIn, any}
+use Rattle.lists.specs.Lists.{isIn, any}
 
 -- a slot by cases
 pub slot-low : (n : ℕ) → n < 256 → n ≡ slotOf n
@@ -51,11 +51,13 @@ pub climbs-all : (t : List ℕ) (m n : ℕ) → atOrBelow t m n ≡ climbs t 0 m
 unfolding climbs atOrBelow path
 climbs-all t m n = refl
 
-pub climbs-turn : (t : List ℕ) (i at n : ℕ) → i < 2041 → climbs t i at n ≡ (eqb n at || cond (eqb at 0) false (climbs t (i + 1) (parentIn t at) n))
+pub climbs-turn : (t : List ℕ) (i at n : ℕ) → i < 2041
+    → climbs t i at n ≡ (eqb n at || cond (eqb at 0) false (climbs t (i + 1) (parentIn t at) n))
 unfolding climbs climb isIn any
 climbs-turn t i at n h = let e : 2041 - i ≡ suc (2041 - (i + 1)) = omega arith in rw e (ap (λ (b : Bool). eqb n at || b) (go (eqb at 0)))
   where
-    go : (b : Bool) → any (eqb n) (cond b [] (climb (2041 - (i + 1)) t (parentIn t at))) ≡ cond b false (any (eqb n) (climb (2041 - (i + 1)) t (parentIn t at)))
+    go : (b : Bool) → any (eqb n) (cond b [] (climb (2041 - (i + 1)) t (parentIn t at))) ≡ cond b false
+        (any (eqb n) (climb (2041 - (i + 1)) t (parentIn t at)))
     go true = refl
     go false = refl
 

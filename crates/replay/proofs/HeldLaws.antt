@@ -5,12 +5,13 @@ use mathlib.Core.List.{List}
 use Prim.Native.Nat.{ℕ, _≤_}
 use native.Mathlib.Omega.{arith}
 use native.Mathlib.Nat.{le-refl}
-use Rattle.rules.specs.Op.{countIn, kindOf, Vector}
-use Rattle.rules.specs.Log.{opAt, headerCounts, countsOf, logOf, covered, structural, closed}
+use Rattle.rules.specs.Op.{countIn, Vector, kindOf}
+use Rattle.rules.specs.File.{opAt, headerCounts, countsOf, logOf}
+use Rattle.rules.specs.Log.{covered, structural, closed}
 use Rattle.oplog.specs.Spots.{Spot}
 use Rattle.rules.proofs.StructureLaws.{counts-closed, HeldOp, structural-good, laid-reads, good-ops, structural-laid}
 use Rattle.rules.proofs.FileLaws.{counts-at, counts-logOf}
-use Rattle.order.proofs.GrowLaws.{kinds}
+use Rattle.rules.proofs.KnownLaws.{kinds}
 use Rattle.order.proofs.LevelLaws.{le-within, Cut}
 use Rattle.oplog.proofs.FieldLaws.{counts-in}
 use Rattle.replay.specs.Tables.{Held, InFile, classOf}
@@ -27,7 +28,8 @@ spot {w} {f} x = record {
 }
 
 pub held-op : (w : ℕ) (f : List ℕ) (s q : ℕ) → InFile w f s q → HeldOp (logOf w f) s q (opAt (logOf w f) s q)
-held-op w f s q x = good-ops (structural-good w f (x .is-structural)) s q (x .low) (x .high) (x .first) (rw (counts-in w f s (x .low) (x .high)) (x .last))
+held-op w f s q x = good-ops (structural-good w f (x .is-structural)) s q (x .low) (x .high) (x .first)
+    (rw (counts-in w f s (x .low) (x .high)) (x .last))
 
 -- in a structurally sound file the class of an op is its kind
 pub class-kind : (w : ℕ) (f : List ℕ) (s q : ℕ) → InFile w f s q → classOf (kindOf (opAt (logOf w f) s q)) ≡ kindOf (opAt (logOf w f) s q)

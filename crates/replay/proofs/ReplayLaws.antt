@@ -4,7 +4,8 @@ use mathlib.Core.Bool.{true}
 use mathlib.Core.List.{List, foldl, replicate}
 use Prim.Native.Nat.{ℕ}
 use Rattle.rules.specs.Replay.{State, outcomesOf, parentsOf, replay, start, step}
-use Rattle.rules.specs.Log.{logOf, headerCounts, closed}
+use Rattle.rules.specs.File.{logOf, headerCounts}
+use Rattle.rules.specs.Log.{closed}
 use Rattle.rules.specs.Op.{Vector}
 use Rattle.order.specs.Levels.{levels, nothing}
 use Rattle.order.proofs.LevelLaws.{ordered-levels}
@@ -15,12 +16,16 @@ use Rattle.replay.proofs.TableLaws.{start-tables}
 use Rattle.replay.proofs.HeldLaws.{cut-of}
 
 module _ (w : ℕ) (f : List ℕ) where
-  replayed : (cut : Vector) → Held w f cut → closed (logOf w f) cut ≡ true → foldl step start (levels 2041 (logOf w f) cut 1 nothing) ≡ replay (logOf w f) cut
+  replayed : (cut : Vector) → Held w f cut → closed (logOf w f) cut ≡ true
+      → foldl step start (levels 2041 (logOf w f) cut 1 nothing) ≡ replay (logOf w f) cut
   unfolding replay
-  replayed cut h c = ap (foldl step start) (sym (ordered-levels (logOf w f) (structural-good w f (h .is-structural)) cut (cut-of w f cut h c)))
+  replayed cut h c = ap (foldl step start)
+      (sym (ordered-levels (logOf w f) (structural-good w f (h .is-structural)) cut (cut-of w f cut h c)))
 
   -- from cleared tables
-  pub replayed-from : (cut p o : List ℕ) (st : State) → Held w f cut → closed (logOf w f) cut ≡ true → p ≡ start .parents → o ≡ start .outcomes → st ≡ foldl step (tables p o (replicate 2041 0)) (levels 2041 (logOf w f) cut 1 nothing) → st ≡ replay (logOf w f) cut
+  pub replayed-from : (cut p o : List ℕ) (st : State) → Held w f cut → closed (logOf w f) cut ≡ true → p ≡ start .parents
+      → o ≡ start .outcomes → st ≡ foldl step (tables p o (replicate 2041 0)) (levels 2041 (logOf w f) cut 1 nothing)
+      → st ≡ replay (logOf w f) cut
   replayed-from cut p o st h c ep eo e = e ∙ rw (ep, eo, start-tables) (replayed cut h c)
 
   -- the cut at the held counts

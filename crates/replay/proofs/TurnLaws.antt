@@ -12,12 +12,13 @@ use native.Mathlib.Decide.{decLt}
 use native.Mathlib.Nat.{le-refl}
 use Rattle.rules.specs.Op.{countIn, kindOf, vectorOf, Vector}
 use Rattle.rules.specs.Replay.{Stamped, State, step}
-use Rattle.rules.specs.Log.{opAt, Log, logOf, within}
-use Rattle.rules.specs.Bytes.{upFrom, downFrom, concat}
+use Rattle.rules.specs.File.{opAt, Log, logOf, within}
+use Rattle.lists.specs.Lists.{upFrom, downFrom, concat}
 use Rattle.order.specs.Levels.{levelKind, advancedAt, nextAt, entry, level, levels, nextOf, ready, nothing, advanced}
 use Rattle.rules.proofs.FileLaws.{vector-eta, count-map}
-use Rattle.rules.proofs.ListLaws.{concat-nothing, concat-none}
-use Rattle.rules.proofs.BoolLaws.{and-false, map-replicas}
+use Rattle.lists.proofs.RangeLaws.{concat-nothing, concat-none}
+use Rattle.rules.proofs.ReplicaLaws.{map-replicas}
+use Rattle.lists.proofs.BoolLaws.{and-false}
 use Rattle.order.proofs.LevelLaws.{count-nothing}
 use Rattle.rules.proofs.CausalLaws.{within-le}
 use Rattle.replay.specs.Tables.{stampedAt, Held, InFile, Span, dueAt}
@@ -28,7 +29,8 @@ module _ (log : Log) (cut done : Vector) (s : ℕ) where
   unfolding nextAt ready
   next-none h = rw (le-ltb (countIn done s) (countIn cut s) h)
 
-  pub next-some : countIn done s < countIn cut s → nextAt log cut done s ≡ cond (within (vectorOf (opAt log s (countIn done s + 1))) done) (countIn done s + 1) 0
+  pub next-some : countIn done s < countIn cut s → nextAt log cut done s ≡ cond (within (vectorOf (opAt log s (countIn done s + 1))) done)
+      (countIn done s + 1) 0
   unfolding nextAt ready
   next-some h = rw (lt-ltb (countIn done s) (countIn cut s) h)
 
@@ -86,7 +88,8 @@ module _ (log : Log) (t : ℕ) (next : Vector) (k : ℕ) where
   kindFrom i = concat (map (entry log t next k) (downFrom (8 - i)))
 
   -- replicas above the span have no entry, and none below
-  skip : (F : ℕ → List Stamped) (n m : ℕ) → n ≤ m → ((s : ℕ) → n < s → s ≤ m → F s ≡ []) → concat (map F (downFrom m)) ≡ concat (map F (downFrom n))
+  skip : (F : ℕ → List Stamped) (n m : ℕ) → n ≤ m → ((s : ℕ) → n < s → s ≤ m → F s ≡ [])
+      → concat (map F (downFrom m)) ≡ concat (map F (downFrom n))
   unfolding downFrom concat
   skip F n zero h e = let z : n ≡ 0 = omega arith in rw z
   skip F n (suc m) h e = elim (decLt n (suc m)) [
@@ -106,7 +109,8 @@ module _ (log : Log) (t : ℕ) (next : Vector) (k : ℕ) where
     kind-end st i u =
         rw (concat-none (entry log t next k) (8 - i) (λ s l v. entry-zero s (h .below s l (omega (arith, h .bottom, h .end)))))
 
-  pub kind-turn : (st : State) (i : ℕ) → i < 8 → foldl step st (kindFrom i) ≡ foldl step (foldl step st (entry log t next k (8 - i))) (kindFrom (i + 1))
+  pub kind-turn : (st : State) (i : ℕ) → i < 8 → foldl step st (kindFrom i) ≡ foldl step (foldl step st (entry log t next k (8 - i)))
+      (kindFrom (i + 1))
   unfolding kindFrom downFrom concat
   kind-turn st i h =
       let e : 8 - i ≡ suc (8 - (i + 1)) = omega arith in
@@ -121,7 +125,8 @@ module _ (log : Log) (t : ℕ) (next : Vector) where
   unfolding level levelFrom
   level-all = refl
 
-  pub level-turn : (st : State) (k : ℕ) → k < 5 → foldl step st (levelFrom k) ≡ foldl step (foldl step st (levelKind log t next k)) (levelFrom (k + 1))
+  pub level-turn : (st : State) (k : ℕ) → k < 5 → foldl step st (levelFrom k) ≡ foldl step (foldl step st (levelKind log t next k))
+      (levelFrom (k + 1))
   unfolding levelFrom upFrom concat
   level-turn st k h =
       let e : 5 - k ≡ suc (5 - (k + 1)) = omega arith in
@@ -140,11 +145,14 @@ module _ (log : Log) (cut : Vector) where
   unfolding levelsFrom
   levels-all done = refl
 
-  pub levels-turn : (st : State) (t : ℕ) (done : Vector) → t < 2042 → foldl step st (levelsFrom t done) ≡ foldl step (foldl step st (level log t (nextOf log cut done))) (levelsFrom (t + 1) (advanced done (nextOf log cut done)))
+  pub levels-turn : (st : State) (t : ℕ) (done : Vector) → t < 2042
+      → foldl step st (levelsFrom t done) ≡ foldl step (foldl step st (level log t (nextOf log cut done)))
+      (levelsFrom (t + 1) (advanced done (nextOf log cut done)))
   unfolding levelsFrom levels
   levels-turn st t done h =
       let e : 2042 - t ≡ suc (2042 - (t + 1)) = omega arith in
-      rw (e, ← add-one t) (foldl-append step st (level log t (nextOf log cut done)) (levelsFrom (t + 1) (advanced done (nextOf log cut done))))
+      rw (e, ← add-one t) (foldl-append step st (level log t (nextOf log cut done))
+      (levelsFrom (t + 1) (advanced done (nextOf log cut done))))
 
   pub levels-end : (st : State) (t : ℕ) (done : Vector) → 2042 ≤ t → foldl step st (levelsFrom t done) ≡ st
   unfolding levelsFrom levels
@@ -152,14 +160,16 @@ module _ (log : Log) (cut : Vector) where
 
 ---- the span of the replicas that are ready, from above and from below
 
-pub idle-down : (next : Vector) (i : ℕ) → i < 8 → getD next (7 - i) 0 ≡ 0 → ((s : ℕ) → 8 - i < s → s ≤ 8 → countIn next s ≡ 0) → (s : ℕ) → 8 - (i + 1) < s → s ≤ 8 → countIn next s ≡ 0
+pub idle-down : (next : Vector) (i : ℕ) → i < 8 → getD next (7 - i) 0 ≡ 0 → ((s : ℕ) → 8 - i < s → s ≤ 8 → countIn next s ≡ 0) → (s : ℕ)
+    → 8 - (i + 1) < s → s ≤ 8 → countIn next s ≡ 0
 unfolding countIn
 idle-down next i h z inv s l u = elim (decLt (8 - i) s) [
   | yes a ↦ inv s a u
   | no a ↦ let e : s - 1 ≡ 7 - i = omega (arith, a) in rw e z
 ]
 
-pub idle-up : (next : Vector) (i : ℕ) → getD next i 0 ≡ 0 → ((s : ℕ) → 1 ≤ s → s ≤ i → countIn next s ≡ 0) → (s : ℕ) → 1 ≤ s → s ≤ i + 1 → countIn next s ≡ 0
+pub idle-up : (next : Vector) (i : ℕ) → getD next i 0 ≡ 0 → ((s : ℕ) → 1 ≤ s → s ≤ i → countIn next s ≡ 0) → (s : ℕ) → 1 ≤ s → s ≤ i + 1
+    → countIn next s ≡ 0
 unfolding countIn
 idle-up next i z inv s l u = elim (decLt i s) [
   | yes a ↦ let e : s - 1 ≡ i = omega arith in rw e z
@@ -174,7 +184,8 @@ module _ (log : Log) (cut done : Vector) (eight : length done ≡ 8) (idle : wit
 
   idle-level : (t : ℕ) → level log t (nextOf log cut done) ≡ []
   unfolding level levelKind
-  idle-level t = concat-nothing (levelKind log t (nextOf log cut done)) 4 1 (λ k a b. concat-none (entry log t (nextOf log cut done) k) 8 (λ s l u. entry-zero log t (nextOf log cut done) k s (idle-at s l u)))
+  idle-level t = concat-nothing (levelKind log t (nextOf log cut done)) 4 1 (λ k a b. concat-none (entry log t (nextOf log cut done) k) 8
+      (λ s l u. entry-zero log t (nextOf log cut done) k s (idle-at s l u)))
 
   idle-done : advanced done (nextOf log cut done) ≡ done
   unfolding advanced advancedAt
@@ -201,7 +212,8 @@ next-held w f cut done h = record {
   wide = h .wide;
   is-structural = h .is-structural;
   each = λ s l u. rw (count-map (nextAt (logOf w f) cut done) s l u) (elim (decLt (countIn done s) (countIn cut s)) [
-    | yes y ↦ rw (next-some (logOf w f) cut done s y) (go (within (vectorOf (opAt (logOf w f) s (countIn done s + 1))) done) (omega (arith, h .each s l u)))
+    | yes y ↦ rw (next-some (logOf w f) cut done s y) (go (within (vectorOf (opAt (logOf w f) s (countIn done s + 1))) done)
+        (omega (arith, h .each s l u)))
     | no n ↦ rw (next-none (logOf w f) cut done s (omega arith)) (omega arith)
   ]);
 }

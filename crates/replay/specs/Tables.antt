@@ -4,9 +4,10 @@ use mathlib.Core.Path.{_≡_}
 use mathlib.Core.Bool.{Bool, true, cond, _&&_, _||_, not}
 use mathlib.Core.List.{List}
 use lib.ListN.{length, getD}
-use lib.Dec.{leb, eqb}
+use lib.Dec.{eqb, leb}
 use Rattle.rules.specs.Op.{Op, Vector, countIn, kindOf}
-use Rattle.rules.specs.Log.{Log, countAt, opAt, structural}
+use Rattle.rules.specs.File.{countAt, Log, opAt}
+use Rattle.rules.specs.Log.{structural}
 use Rattle.rules.specs.Tree.{atOrBelow}
 use Rattle.rules.specs.Replay.{State, Stamped}
 

@@ -4,7 +4,8 @@ ghost use mathlib.Core.Path.{_≡_};
 ghost use mathlib.Core.Bool.{true};
 ghost use Prim.Native.Nat.{_≤_};
 ghost use lib.ListN.{length};
-ghost use Rattle.rules.specs.Log.{logOf, closed, structural};
+ghost use Rattle.rules.specs.File.{logOf};
+ghost use Rattle.rules.specs.Log.{closed, structural};
 ghost use Rattle.rules.specs.Replay.{start, replay, parentsOf, outcomesOf};
 ghost use Rattle.replay.specs.Tables.{Held};
 

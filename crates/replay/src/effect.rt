@@ -7,7 +7,7 @@ ghost use mathlib.Core.Bool.{cond, _&&_};
 ghost use Prim.Native.Nat.{_<_};
 ghost use lib.ListN.{length, set};
 ghost use lib.Dec.{eqb};
-ghost use Rattle.rules.specs.Log.{logOf, opAt};
+ghost use Rattle.rules.specs.File.{logOf, opAt};
 ghost use Rattle.rules.specs.Replay.{step};
 ghost use Rattle.replay.specs.Tables.{tables, stampedAt, Sized, InFile, moves, hangs, outcomeBy};
 

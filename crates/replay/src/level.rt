@@ -7,7 +7,7 @@ use oplog::place;
 ghost use mathlib.Core.Path.{_≡_};
 ghost use mathlib.Core.List.{foldl};
 ghost use Prim.Native.Nat.{ℕ, _≤_, _<_};
-ghost use Rattle.rules.specs.Log.{logOf};
+ghost use Rattle.rules.specs.File.{logOf};
 ghost use Rattle.rules.specs.Op.{countIn};
 ghost use Rattle.rules.specs.Replay.{step};
 ghost use Rattle.order.specs.Levels.{entry, levelKind, level, levels, nothing};

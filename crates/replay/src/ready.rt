@@ -4,7 +4,7 @@ use codec::within;
 use oplog::place;
 ghost use mathlib.Core.Path.{_≡_};
 ghost use Prim.Native.Nat.{_≤_};
-ghost use Rattle.rules.specs.Log.{logOf};
+ghost use Rattle.rules.specs.File.{logOf};
 ghost use Rattle.order.specs.Levels.{nextAt, nextOf, advanced};
 ghost use Rattle.replay.specs.Tables.{Held, later};
 

@@ -13,10 +13,11 @@ use Rattle.codec.specs.declared.op.Refusal.{Refusal}
 use Rattle.codec.specs.declared.op.Refusal.the-variants.{Length, Malformed}
 use Rattle.rules.specs.Deliver.{held, admitAnswer, deliverAnswer, heldAnswer, makeAnswer}
 use Rattle.rules.specs.Op.{parentOf, wellFormed, isAdd, replicaOf, nodeOf, seqOf, nodeNumber, kindOf, isRemove, vectorOf, Op}
-use Rattle.rules.specs.Log.{fileOf, fileEnd, namesKnown, headerOf, countsOf, Log, emptyLog, logOf, width, covered, closed, opAt}
+use Rattle.rules.specs.File.{fileOf, fileEnd, headerOf, countsOf, Log, emptyLog, logOf, width, opAt}
+use Rattle.rules.specs.Log.{namesKnown, covered, closed}
 use Rattle.oplog.specs.Spots.{namesBy}
 use Rattle.rules.specs.Answer.{Answer, require, accepted, refused, ifAccepted, hadIt}
-use Rattle.rules.specs.Bytes.{concat, same}
+use Rattle.lists.specs.Lists.{concat, same}
 use Rattle.rules.specs.Sound.{sound}
 use Rattle.codec.specs.declared.op.Read.the-variants as read
 
@@ -51,12 +52,14 @@ module _ (f r : List ℕ) where
     unfolding deliverAnswer require readOf fromRead
     answer-read = rw good (go (eqb (length r) width) (wellFormed r))
       where
-        go : (a b : Bool) → require a 2 (require b 3 (cond (held (logOf width f) r) (heldAnswer (logOf width f) r) (admitAnswer width f r))) ≡ fromRead (cond a (cond b (read.Op (fieldsOf r)) (read.Refused Malformed)) (read.Refused Length))
+        go : (a b : Bool) → require a 2 (require b 3 (cond (held (logOf width f) r) (heldAnswer (logOf width f) r) (admitAnswer width f r)))
+            ≡ fromRead (cond a (cond b (read.Op (fieldsOf r)) (read.Refused Malformed)) (read.Refused Length))
         go true true = refl
         go true false = refl
         go false b = refl
 
-    pub answer-op : (x : Fields) → readOf width r ≡ read.Op x → deliverAnswer width f r ≡ cond (held (logOf width f) r) (heldAnswer (logOf width f) r) (admitAnswer width f r)
+    pub answer-op : (x : Fields) → readOf width r ≡ read.Op x
+        → deliverAnswer width f r ≡ cond (held (logOf width f) r) (heldAnswer (logOf width f) r) (admitAnswer width f r)
     unfolding fromRead
     answer-op x e = answer-read ∙ ap fromRead e
 
@@ -99,6 +102,7 @@ module _ (f r : List ℕ) where
           admitted-all h = rw (is, c, d, n, le-leb (fileEnd width f + width) (length f) h)
 
 -- number 7 by the fields
-pub names-by : (log : Log) (r : Op) → namesKnown log r ≡ namesBy log (vectorOf r) (kindOf r) (nodeOf r) (parentOf r) (nodeNumber (replicaOf r) (seqOf r))
+pub names-by : (log : Log) (r : Op) → namesKnown log r ≡ namesBy log (vectorOf r) (kindOf r) (nodeOf r) (parentOf r)
+    (nodeNumber (replicaOf r) (seqOf r))
 unfolding namesKnown namesBy isAdd isRemove
 names-by log r = refl

@@ -9,14 +9,15 @@ use lib.Dec.{leb, ltb}
 use borrow.Author.Tests.{leb-true, ltb-true, le-leb, lt-leb, lt-ltb, le-ltb}
 use Rattle.rules.specs.Answer.{Answer, accepted, refused, require}
 use Rattle.rules.specs.Op.{isReplica, countIn, Vector}
-use Rattle.rules.specs.Tree.{atOrBelow, depth}
-use Rattle.rules.specs.Issue.{requestKnown, moveKind, requestClear, Request, issueAnswer}
-use Rattle.rules.specs.Log.{fileEnd, countsOf, Log, logOf, width, nodeWithin, known}
+use Rattle.rules.specs.Tree.{atOrBelow, depth, moveKind}
+use Rattle.rules.specs.Issue.{requestKnown, requestClear, Request, issueAnswer}
+use Rattle.rules.specs.File.{fileEnd, countsOf, Log, logOf, width}
+use Rattle.rules.specs.Log.{nodeWithin, known}
 use Rattle.rules.specs.Replay.{parentsOf}
 use Rattle.rules.specs.Sound.{sound}
 use Rattle.codec.specs.Read.{numberOf}
 use Rattle.codec.specs.declared.op.Refusal.{Refusal}
-use Rattle.rules.proofs.BoolLaws.{and-left, and-right}
+use Rattle.lists.proofs.BoolLaws.{and-left, and-right}
 use Rattle.rules.proofs.DeliverLaws.{required}
 use Rattle.replica.specs.Answers.{firstTests, lastTest, kindOrCycle, gateAnswer}
 use Rattle.replica.specs.declared.answer.Gate.{Gate}
@@ -92,7 +93,8 @@ module _ (f : List ℕ) (room s : ℕ) (q : Request) where
   issue-by = refl
 
   -- the first tests refuse
-  pub issue-stops : (g : Gate) (x : Refusal) → ((next : Answer) → gateAnswer g next ≡ firstTests f room s next) → g ≡ Refused x → issueAnswer width f room s q ≡ refused (numberOf x)
+  pub issue-stops : (g : Gate) (x : Refusal) → ((next : Answer) → gateAnswer g next ≡ firstTests f room s next) → g ≡ Refused x
+      → issueAnswer width f room s q ≡ refused (numberOf x)
   issue-stops g x h e = issue-by ∙ sym (h rest) ∙ ap (λ (y : Gate). gateAnswer y rest) e
 
   module _ (h : Opened f room s) where
@@ -147,11 +149,13 @@ module _ (log : Log) (n p : ℕ) where
       go false true e = absurd (omega arith)
       go false false e = absurd (omega arith)
 
-  pub kind-clear : (kindOrCycle log n p ≡ 0 → ⊥) → (atOrBelow (parentsOf log) p n ≡ false) × (kindOrCycle log n p ≡ moveKind (parentsOf log) n p)
+  pub kind-clear : (kindOrCycle log n p ≡ 0 → ⊥)
+      → (atOrBelow (parentsOf log) p n ≡ false) × (kindOrCycle log n p ≡ moveKind (parentsOf log) n p)
   unfolding kindOrCycle
   kind-clear = go (atOrBelow (parentsOf log) p n)
     where
-      go : (b : Bool) → (cond b 0 (moveKind (parentsOf log) n p) ≡ 0 → ⊥) → (b ≡ false) × (cond b 0 (moveKind (parentsOf log) n p) ≡ moveKind (parentsOf log) n p)
+      go : (b : Bool) → (cond b 0 (moveKind (parentsOf log) n p) ≡ 0 → ⊥)
+          → (b ≡ false) × (cond b 0 (moveKind (parentsOf log) n p) ≡ moveKind (parentsOf log) n p)
       go true h = absurd (h refl)
       go false h = (refl, refl)
 

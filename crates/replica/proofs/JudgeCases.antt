@@ -7,7 +7,7 @@ use lib.ListN.{length}
 use borrow.Author.Tests.{le-leb, lt-leb}
 use Rattle.rules.specs.Answer.{done, refused, require}
 use Rattle.rules.specs.Tree.{slots}
-use Rattle.rules.specs.Log.{width}
+use Rattle.rules.specs.File.{width}
 use Rattle.rules.specs.Judge.{judgeAnswer}
 use Rattle.rules.specs.Sound.{sound}
 

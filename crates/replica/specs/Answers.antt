@@ -7,21 +7,20 @@ use lib.ListN.{length}
 use lib.Dec.{leb, ltb}
 use Rattle.rules.specs.Answer.{Answer, refused, hadIt, done, accepted, require}
 use Rattle.rules.specs.Op.{isReplica, countIn, replicaOf, seqOf, wellFormed}
-use Rattle.rules.specs.Log.{Log, width, countsOf, headerCounts, fileEnd, logOf}
+use Rattle.rules.specs.File.{Log, width, countsOf, headerCounts, fileEnd, logOf}
 use Rattle.rules.specs.Sound.{sound}
-use Rattle.rules.specs.Tree.{atOrBelow}
+use Rattle.rules.specs.Tree.{atOrBelow, moveKind}
 use Rattle.rules.specs.Replay.{parentsOf}
-use Rattle.rules.specs.Issue.{moveKind}
 use Rattle.codec.specs.Read.{numberOf}
 use Rattle.replica.specs.declared.answer.Made.{Made}
-use Rattle.replica.specs.declared.answer.Made.the-variants as made
 use Rattle.replica.specs.declared.answer.Delivery.{Delivery}
-use Rattle.replica.specs.declared.answer.Delivery.the-variants as delivery
 use Rattle.replica.specs.declared.answer.Issue.{Issue}
-use Rattle.replica.specs.declared.answer.Issue.the-variants as issue
 use Rattle.replica.specs.declared.answer.Judged.{Judged}
-use Rattle.replica.specs.declared.answer.Judged.the-variants as judged
 use Rattle.replica.specs.declared.answer.Gate.{Gate}
+use Rattle.replica.specs.declared.answer.Made.the-variants as made
+use Rattle.replica.specs.declared.answer.Delivery.the-variants as delivery
+use Rattle.replica.specs.declared.answer.Issue.the-variants as issue
+use Rattle.replica.specs.declared.answer.Judged.the-variants as judged
 use Rattle.replica.specs.declared.answer.Gate.the-variants as gate
 
 abbrev pub madeAnswer : Made → Answer

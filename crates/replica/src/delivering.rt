@@ -18,11 +18,11 @@ use oplog::same_op;
 ghost use mathlib.Core.Path.{_≡_};
 ghost use mathlib.Core.Bool.{true, false};
 ghost use Rattle.rules.specs.Answer.{ifAccepted};
-ghost use Rattle.rules.specs.Log.{width, logOf, headerCounts, appended};
-ghost use Rattle.rules.specs.Deliver as rules;
+ghost use Rattle.rules.specs.File.{width, logOf, headerCounts, appended};
 ghost use Rattle.rules.specs.Deliver.{held, heldAnswer, admitAnswer};
 ghost use Rattle.codec.specs.Read.{fieldsOf};
 ghost use Rattle.replica.specs.Answers.{deliveryAnswer, Deliverable};
+ghost use Rattle.rules.specs.Deliver as rules;
 
 // The answer where an op of this replica and sequence is held: the same, or another.
 fn answer_held(file: &[u8], s: usize, q: usize, op: &[u8]) -> Delivery

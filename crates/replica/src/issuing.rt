@@ -16,15 +16,15 @@ use replay::depth_of;
 use replay::replay_all;
 ghost use mathlib.Core.Path.{_≡_};
 ghost use mathlib.Core.Bool.{true};
-ghost use mathlib.Core.List.{List, _++_};
-ghost use Prim.Native.Nat.{ℕ, _+_, _≤_, _<_};
+ghost use mathlib.Core.List.{_++_};
+ghost use Prim.Native.Nat.{_+_, _≤_, _<_};
 ghost use lib.ListN.{length, drop};
 ghost use Rattle.rules.specs.Answer.{Answer, ifAccepted};
-ghost use Rattle.rules.specs.Log.{width, logOf, headerCounts, appended};
+ghost use Rattle.rules.specs.File.{width, logOf, appended};
 ghost use Rattle.rules.specs.Issue.{opBytes, add, remove, move};
-ghost use Rattle.rules.specs.Issue as rules;
 ghost use Rattle.rules.specs.Sound.{sound};
 ghost use Rattle.replica.specs.Answers.{issueAnswerOf, gateAnswer, firstTests, lastTest, kindOrCycle, Issuable};
+ghost use Rattle.rules.specs.Issue as rules;
 
 // The tests 1, 2, 3 and 9.
 fn first_tests(file: &[u8], replica: u8, room: usize) -> Gate

@@ -4,9 +4,9 @@ use crate::soundness::is_sound;
 use codec::Refusal;
 use replay::replay_all;
 ghost use mathlib.Core.Path.{_≡_};
-ghost use Rattle.rules.specs.Log.{width};
-ghost use Rattle.rules.specs.Judge as rules;
+ghost use Rattle.rules.specs.File.{width};
 ghost use Rattle.replica.specs.Answers.{judgedAnswer};
+ghost use Rattle.rules.specs.Judge as rules;
 
 // Replays a log into the first 2,041 entries of two tables: each node's parent, and each op's
 // outcome.

@@ -3,9 +3,9 @@ use crate::soundness::WIDTH;
 use codec::Refusal;
 use oplog::write_header;
 ghost use mathlib.Core.Path.{_≡_};
-ghost use Rattle.rules.specs.Log.{width};
-ghost use Rattle.rules.specs.Deliver as rules;
+ghost use Rattle.rules.specs.File.{width};
 ghost use Rattle.replica.specs.Answers.{madeAnswer};
+ghost use Rattle.rules.specs.Deliver as rules;
 
 // Makes an empty log in a buffer.
 pub fn make(buf: &mut [u8]) -> Made

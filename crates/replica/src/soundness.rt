@@ -1,6 +1,6 @@
 use oplog::structural;
 ghost use mathlib.Core.Path.{_≡_};
-ghost use Rattle.rules.specs.Log.{width};
+ghost use Rattle.rules.specs.File.{width};
 ghost use Rattle.rules.specs.Sound.{sound};
 
 // The bytes of an op.

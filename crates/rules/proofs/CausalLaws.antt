@@ -7,10 +7,11 @@ use native.Mathlib.Nat.{le-refl, add-zero}
 use native.Mathlib.Omega.{arith}
 use borrow.Author.Tests.{leb-true, leb-false, ne-eqb}
 use lib.Dec.{leb, lit≤}
-use Rattle.rules.specs.Bytes.{upFrom, sum}
+use Rattle.lists.specs.Lists.{upFrom, sum}
 use Rattle.rules.specs.Op.{Vector, replicas, countIn, vectorOf, seqOf, ownCount}
-use Rattle.rules.specs.Log.{Log, opAt, countsOf, within, covered, closedAt, closed}
-use Rattle.rules.proofs.BoolLaws.{replica-passes, replica-fails, replica-cases}
+use Rattle.rules.specs.File.{Log, opAt, countsOf, within}
+use Rattle.rules.specs.Log.{covered, closedAt, closed}
+use Rattle.rules.proofs.ReplicaLaws.{replica-passes, replica-fails, replica-cases}
 use Rattle.rules.proofs.StructureLaws.{held-in, HeldOps}
 
 -- a vector nowhere greater than another
@@ -37,9 +38,11 @@ total-less v u b =
     let b₇ = b 7 (lit≤ tt) (lit≤ tt) in
     let b₈ = b 8 (lit≤ tt) (lit≤ tt) in
     replica-cases (λ s. countIn v s < countIn u s → total v < total u)
-    (λ h. omega arith) (λ h. omega arith) (λ h. omega arith) (λ h. omega arith) (λ h. omega arith) (λ h. omega arith) (λ h. omega arith) (λ h. omega arith)
+    (λ h. omega arith) (λ h. omega arith) (λ h. omega arith) (λ h. omega arith) (λ h. omega arith) (λ h. omega arith) (λ h. omega arith)
+    (λ h. omega arith)
 
-pub closed-le : (log : Log) (v : Vector) → closed log v ≡ true → (s : ℕ) → 1 ≤ s → s ≤ 8 → 1 ≤ countIn v s → Le (vectorOf (opAt log s (countIn v s))) v
+pub closed-le : (log : Log) (v : Vector) → closed log v ≡ true → (s : ℕ) → 1 ≤ s → s ≤ 8 → 1 ≤ countIn v s
+    → Le (vectorOf (opAt log s (countIn v s))) v
 unfolding closed closedAt
 closed-le log v c s l u p =
     within-le _ v (rw (ne-eqb (countIn v s) 0 (λ e. omega arith)) at (replica-passes (closedAt log v) c s l u))
@@ -63,7 +66,8 @@ module _ (log : Log) (ops : HeldOps log) where
       λ t a b. omega (arith, later s q d l u lq (omega arith) t a b, c′ t a b)
 
   -- an op that a closed and held vector counts
-  module _ (v : Vector) (cv : covered log v ≡ true) (cl : closed log v ≡ true) (s q : ℕ) (l : 1 ≤ s) (u : s ≤ 8) (lq : 1 ≤ q) (uq : q ≤ countIn v s) where
+  module _ (v : Vector) (cv : covered log v ≡ true) (cl : closed log v ≡ true) (s q : ℕ) (l : 1 ≤ s) (u : s ≤ 8) (lq : 1 ≤ q)
+      (uq : q ≤ countIn v s) where
     held-q : q ≤ countIn (countsOf log) s
     held-q = omega (arith, held-in log v cv s l u)
 
@@ -87,7 +91,8 @@ pub record Missing (a b : Log) (s q : ℕ) : Type 0 where
 
 module _ (a b : Log) (ops : HeldOps a) where
   -- of what is missing, something is not early
-  pub some-ready : (n s q : ℕ) → Missing a b s q → total (vectorOf (opAt a s q)) < n → (t : ℕ) × (k : ℕ) × Missing a b t k × (covered b (vectorOf (opAt a t k)) ≡ true)
+  pub some-ready : (n s q : ℕ) → Missing a b s q → total (vectorOf (opAt a s q)) < n
+      → (t : ℕ) × (k : ℕ) × Missing a b t k × (covered b (vectorOf (opAt a t k)) ≡ true)
   unfolding covered within
   some-ready zero s q x h = absurd (omega arith)
   some-ready (suc n) s q x h = go (covered b v) refl (some-ready n)
@@ -95,7 +100,9 @@ module _ (a b : Log) (ops : HeldOps a) where
       v : Vector
       v = vectorOf (opAt a s q)
 
-      go : (c : Bool) → covered b v ≡ c → ((t k : ℕ) → Missing a b t k → total (vectorOf (opAt a t k)) < n → (t : ℕ) × (k : ℕ) × Missing a b t k × (covered b (vectorOf (opAt a t k)) ≡ true)) → (t : ℕ) × (k : ℕ) × Missing a b t k × (covered b (vectorOf (opAt a t k)) ≡ true)
+      go : (c : Bool) → covered b v ≡ c → ((t k : ℕ) → Missing a b t k → total (vectorOf (opAt a t k)) < n
+          → (t : ℕ) × (k : ℕ) × Missing a b t k × (covered b (vectorOf (opAt a t k)) ≡ true))
+          → (t : ℕ) × (k : ℕ) × Missing a b t k × (covered b (vectorOf (opAt a t k)) ≡ true)
       go true e ih = (s, q, x, e)
       go false e ih =
           let (t, lt, ut, f) = replica-fails (λ r. leb (countIn v r) (countIn (countsOf b) r)) e in

@@ -8,11 +8,14 @@ use native.Mathlib.Omega.{arith}
 use lib.ListN.{length, take, drop, getD, set, length-append, length-take, length-drop, length-map}
 use lib.Seq.{take-add, drop-drop, getD-take, getD-drop, take-at, drop-at, drop-cons}
 use lib.Arith.{digits-div, digits-mod}
-use Rattle.rules.specs.Bytes.{byte, wordAt, word, upFrom, sum, concat}
+use Rattle.rules.specs.Bytes.{byte, wordAt, word}
+use Rattle.lists.specs.Lists.{upFrom, sum, concat}
 use Rattle.rules.specs.Op.{Op, Vector, replicas, countIn}
-use Rattle.rules.specs.Log.{Log, opsOf, opAt, countsOf, countAt, startAt, headerCounts, startOf, endOf, fileEnd, chunks, chunksOf, logOf, headerEntry, headerOf, fileOf}
-use Rattle.rules.proofs.ListLaws.{concat-append, map-getD, mul-step}
-use Rattle.rules.proofs.BoolLaws.{map-replicas, replica-cases}
+use Rattle.rules.specs.File.{Log, opsOf, opAt, countsOf, countAt, startAt, headerCounts, startOf, endOf, fileEnd, chunks, chunksOf, logOf, headerEntry, headerOf, fileOf}
+use Rattle.lists.proofs.ListLaws.{concat-append}
+use Rattle.lists.proofs.RangeLaws.{map-getD}
+use Rattle.lists.proofs.NumberLaws.{mul-step}
+use Rattle.rules.proofs.ReplicaLaws.{map-replicas, replica-cases}
 
 ---- chunks
 
@@ -41,9 +44,16 @@ pub bodies-chunksOf : (w : ℕ) (ns bs : List ℕ) → concat (concat (chunksOf 
 unfolding chunksOf sum concat
 bodies-chunksOf w [] bs = rw mul-zero
 bodies-chunksOf w (n ∷ ns) bs =
-    rw (concat-append (chunks w n bs) (concat (chunksOf w ns (drop (w * n) bs))), concat-chunks, bodies-chunksOf w ns (drop (w * n) bs), mul-add w n (sum ns), take-add)
+    rw (
+      concat-append (chunks w n bs) (concat (chunksOf w ns (drop (w * n) bs))),
+      concat-chunks,
+      bodies-chunksOf w ns (drop (w * n) bs),
+      mul-add w n (sum ns),
+      take-add,
+    )
 
-pub ops-chunksOf : (w : ℕ) (ns bs : List ℕ) (i : ℕ) → i < length ns → getD (chunksOf w ns bs) i [] ≡ chunks w (getD ns i 0) (drop (w * sum (take i ns)) bs)
+pub ops-chunksOf : (w : ℕ) (ns bs : List ℕ) (i : ℕ) → i < length ns
+    → getD (chunksOf w ns bs) i [] ≡ chunks w (getD ns i 0) (drop (w * sum (take i ns)) bs)
 unfolding chunksOf sum
 ops-chunksOf w [] bs i h = absurd (not-suc-le-zero h)
 ops-chunksOf w (n ∷ ns) bs zero h = rw mul-zero
@@ -93,18 +103,38 @@ header-drop w c t = refl
 pub chunks-concat : (w : ℕ) (ops : List Op) (t : List ℕ) → Wide w ops → chunks w (length ops) (concat ops ++ t) ≡ ops
 unfolding chunks concat
 chunks-concat w [] t h = refl
-chunks-concat w (r ∷ rs) t h = rw (append-assoc, take-at r (concat rs ++ t) w (h .0), drop-at r (concat rs ++ t) w (h .0), chunks-concat w rs t (h .1))
+chunks-concat w (r ∷ rs) t h = rw (
+  append-assoc,
+  take-at r (concat rs ++ t) w (h .0),
+  drop-at r (concat rs ++ t) w (h .0),
+  chunks-concat w
+      rs t (h .1),
+)
 
 pub drop-concat : (w : ℕ) (ops : List Op) (t : List ℕ) → Wide w ops → drop (w * length ops) (concat ops ++ t) ≡ t
 unfolding concat
 drop-concat w [] t h = rw mul-zero
-drop-concat w (r ∷ rs) t h = rw (mul-step, ← drop-drop (w * length rs) w, append-assoc, drop-at r (concat rs ++ t) w (h .0), drop-concat w rs t (h .1))
+drop-concat w (r ∷ rs) t h = rw (
+  mul-step,
+  ← drop-drop (w * length rs) w,
+  append-assoc,
+  drop-at r (concat rs ++ t) w (h .0),
+  drop-concat w
+      rs t (h .1),
+)
 
 pub chunksOf-bodies : (w : ℕ) (log : Log) (t : List ℕ) → WideLog w log → chunksOf w (map length log) (concat (concat log) ++ t) ≡ log
 unfolding chunksOf concat
 chunksOf-bodies w [] t h = refl
 chunksOf-bodies w (ops ∷ rest) t h =
-    rw (concat-append ops (concat rest), append-assoc, chunks-concat w ops (concat (concat rest) ++ t) (h .0), drop-concat w ops (concat (concat rest) ++ t) (h .0), chunksOf-bodies w rest t (h .1))
+    rw (
+      concat-append ops (concat rest),
+      append-assoc,
+      chunks-concat w ops (concat (concat rest) ++ t) (h .0),
+      drop-concat w ops
+          (concat (concat rest) ++ t) (h .0),
+      chunksOf-bodies w rest t (h .1),
+    )
 
 pub logOf-fileOf : (w : ℕ) (log : Log) (t : List ℕ) → length log ≡ 8 → WideLog w log → logOf w (fileOf w log ++ t) ≡ log
 unfolding logOf fileOf countsOf
@@ -113,11 +143,20 @@ logOf-fileOf w log t e h =
 
 ---- a byte of an op
 
-pub op-byte : (w : ℕ) (f : List ℕ) (s q j : ℕ) → 1 ≤ s → s ≤ 8 → 1 ≤ q → q ≤ countAt f s → j < w → byte (opAt (logOf w f) s q) j ≡ byte f (startOf w (headerCounts f) s + w * (q - 1) + j)
+pub op-byte : (w : ℕ) (f : List ℕ) (s q j : ℕ) → 1 ≤ s → s ≤ 8 → 1 ≤ q → q ≤ countAt f s → j < w
+    → byte (opAt (logOf w f) s q) j ≡ byte f (startOf w (headerCounts f) s + w * (q - 1) + j)
 unfolding opAt opsOf logOf startOf countIn
 op-byte w f s q j ls us lq uq hj =
     let c : q - 1 < getD (headerCounts f) (s - 1) 0 = rw (counts-at f s ls us) (omega arith) in
-    rw (ops-chunksOf w (headerCounts f) (drop 32 f) (s - 1) (omega (arith, length-counts f)), chunk-at w (getD (headerCounts f) (s - 1) 0) _ (q - 1) c, getD-take, getD-drop, getD-drop, getD-drop)
+    rw (
+      ops-chunksOf w (headerCounts f) (drop 32 f) (s - 1) (omega (arith, length-counts f)),
+      chunk-at w (getD (headerCounts f) (s - 1) 0) _
+          (q - 1) c,
+      getD-take,
+      getD-drop,
+      getD-drop,
+      getD-drop,
+    )
     (ap (byte f) (omega arith))
 
 ---- a sound file is its log's
@@ -133,7 +172,8 @@ unfolding word wordAt
 word-wordAt f i h = rw (digits-div (byte f i) h, digits-mod (byte f i) h)
 
 -- a header whose starts are right is the header of its counts
-module _ (w : ℕ) (f : List ℕ) (bytes : (i : ℕ) → byte f i < 256) (starts : (s : ℕ) → 1 ≤ s → s ≤ 8 → startAt f s ≡ startOf w (headerCounts f) s) where
+module _ (w : ℕ) (f : List ℕ) (bytes : (i : ℕ) → byte f i < 256) (starts : (s : ℕ) → 1 ≤ s → s ≤ 8
+    → startAt f s ≡ startOf w (headerCounts f) s) where
   entry-bytes : (s : ℕ) → 1 ≤ s → s ≤ 8 → map (byte f) (upFrom (4 * (s - 1)) 4) ≡ headerEntry w (headerCounts f) s
   unfolding headerEntry upFrom countAt startAt
   entry-bytes s l u =
@@ -141,7 +181,8 @@ module _ (w : ℕ) (f : List ℕ) (bytes : (i : ℕ) → byte f i < 256) (starts
 
   pub header-bytes : 32 ≤ length f → take 32 f ≡ headerOf w (headerCounts f)
   unfolding headerOf replicas upFrom concat
-  header-bytes l = take-bytes f 32 0 (omega arith) ∙ ap concat (map-replicas (λ s. map (byte f) (upFrom (4 * (s - 1)) 4)) (headerEntry w (headerCounts f)) entry-bytes)
+  header-bytes l = take-bytes f 32 0 (omega arith) ∙ ap concat (map-replicas (λ s. map (byte f) (upFrom (4 * (s - 1)) 4))
+      (headerEntry w (headerCounts f)) entry-bytes)
 
 pub fileOf-logOf : (w : ℕ) (f : List ℕ) → take 32 f ≡ headerOf w (headerCounts f) → take (fileEnd w f) f ≡ fileOf w (logOf w f)
 unfolding fileEnd endOf fileOf logOf countsOf
@@ -158,8 +199,11 @@ wide-chunks w (suc n) bs h =
 pub wide-chunksOf : (w : ℕ) (ns bs : List ℕ) → w * sum ns ≤ length bs → WideLog w (chunksOf w ns bs)
 unfolding chunksOf sum
 wide-chunksOf w [] bs h = tt
-wide-chunksOf w (n ∷ ns) bs h =
-    (wide-chunks w n bs (omega (arith, mul-add w n (sum ns))), wide-chunksOf w ns (drop (w * n) bs) (simp length-drop (omega (arith, mul-add w n (sum ns)))))
+wide-chunksOf w (n ∷ ns) bs h = (
+  wide-chunks w n bs (omega (arith, mul-add w n (sum ns))),
+  wide-chunksOf w ns (drop (w * n) bs)
+      (simp length-drop (omega (arith, mul-add w n (sum ns)))),
+)
 
 pub wide-last : (w : ℕ) (ops : List Op) (r : Op) → Wide w ops → length r ≡ w → Wide w (ops ++ (r ∷ []))
 wide-last w [] r h e = (e, tt)
@@ -189,7 +233,8 @@ length-bodies w (ops ∷ log) h = rw (concat-append, length-append, length-ops w
 
 pub length-logOf : (w : ℕ) (f : List ℕ) → length (logOf w f) ≡ 8
 unfolding logOf
-length-logOf w f = sym (length-map (chunksOf w (headerCounts f) (drop 32 f)) length) ∙ ap length (counts-chunksOf w (headerCounts f) (drop 32 f)) ∙ length-counts f
+length-logOf w f = sym (length-map (chunksOf w (headerCounts f) (drop 32 f)) length)
+    ∙ ap length (counts-chunksOf w (headerCounts f) (drop 32 f)) ∙ length-counts f
 
 pub counts-logOf : (w : ℕ) (f : List ℕ) → countsOf (logOf w f) ≡ headerCounts f
 unfolding logOf countsOf
@@ -203,7 +248,8 @@ pub header-starts : (w : ℕ) (c t : List ℕ) (s : ℕ) → 1 ≤ s → s ≤ 8
 unfolding startAt wordAt replicas upFrom headerOf headerEntry concat word
 header-starts w c t =
     replica-cases (λ s. startAt (headerOf w c ++ t) s ≡ startOf w c s)
-    (div-add-mod' _ _) (div-add-mod' _ _) (div-add-mod' _ _) (div-add-mod' _ _) (div-add-mod' _ _) (div-add-mod' _ _) (div-add-mod' _ _) (div-add-mod' _ _)
+    (div-add-mod' _ _) (div-add-mod' _ _) (div-add-mod' _ _) (div-add-mod' _ _) (div-add-mod' _ _) (div-add-mod' _ _) (div-add-mod' _ _)
+    (div-add-mod' _ _)
 
 pub file-counts : (w : ℕ) (log : Log) (t : List ℕ) → length log ≡ 8 → headerCounts (fileOf w log ++ t) ≡ countsOf log
 unfolding fileOf countsOf

@@ -11,14 +11,15 @@ use lib.Seq.{take-all}
 use lib.Dec.{leb, ltb, eqb}
 use Rattle.rules.specs.Bytes.{wordAt, word}
 use Rattle.rules.specs.Op.{Op, Vector, isReplica, countIn, kindOf, replicaOf, nodeOf, parentOf, vectorOf, ownCount, seqOf, nodeNumber, isAdd, isRemove, wellFormed}
-use Rattle.rules.specs.Log.{Log, countsOf, fileEnd, logOf, known, knownParent, namesKnown, width}
+use Rattle.rules.specs.File.{Log, countsOf, fileEnd, logOf, width}
+use Rattle.rules.specs.Log.{known, knownParent, namesKnown}
 use Rattle.rules.specs.Deliver.{held}
-use Rattle.rules.specs.Tree.{depth}
+use Rattle.rules.specs.Tree.{depth, moveKind}
 use Rattle.rules.specs.Replay.{parentsOf}
-use Rattle.rules.specs.Issue.{Request, add, remove, move, opBytes, moveKind, issued, requestKnown, issueAnswer, requestClear}
+use Rattle.rules.specs.Issue.{Request, add, remove, move, opBytes, issued, requestKnown, issueAnswer, requestClear}
 use Rattle.rules.specs.Sound.{sound}
 use Rattle.rules.specs.Answer.{accepted}
-use Rattle.rules.proofs.BoolLaws.{and-both}
+use Rattle.lists.proofs.BoolLaws.{and-both}
 use Rattle.rules.proofs.DeliverLaws.{required, Admitted, accepted-same}
 use Rattle.rules.proofs.StructureLaws.{GoodLog, counts-covered, counts-closed}
 use Rattle.rules.proofs.AppendLaws.{Admits}
@@ -47,7 +48,8 @@ module _ (log : Log) (g : GoodLog log) where
   counts-eight = length-map log length ∙ g .eight
 
   -- an op with the held counts that is well formed and names what is known
-  module _ (k s n p : ℕ) (ls : isReplica s ≡ true) (full : countIn (countsOf log) s < 255) (kind : (leb 1 k && leb k 4) ≡ true) (parent : (not (eqb k 2) || eqb p 0) ≡ true) where
+  module _ (k s n p : ℕ) (ls : isReplica s ≡ true) (full : countIn (countsOf log) s < 255) (kind : (leb 1 k && leb k 4) ≡ true)
+      (parent : (not (eqb k 2) || eqb p 0) ≡ true) where
     abbrev r : Op
     r = opBytes k s n p (countsOf log)
 
@@ -58,7 +60,8 @@ module _ (log : Log) (g : GoodLog log) where
     formed : wellFormed r ≡ true
     unfolding wellFormed kindOf replicaOf isRemove opBytes
     formed =
-        and-both (and-both (and-both ls kind) (lt-ltb (ownCount r) 255 (omega (arith, own)))) (rw (bytes-parent k s n p (countsOf log)) parent)
+        and-both (and-both (and-both ls kind) (lt-ltb (ownCount r) 255 (omega (arith, own))))
+        (rw (bytes-parent k s n p (countsOf log)) parent)
 
     new : held log r ≡ false
     unfolding held seqOf replicaOf opBytes
@@ -88,13 +91,15 @@ module _ (log : Log) (g : GoodLog log) where
     unfolding namesKnown isAdd isRemove kindOf opBytes
     names-remove h = rw (bytes-vector 2 s n p counts counts-eight, bytes-node 2 s n p counts) (and-both h refl)
 
-    names-move : (k : ℕ) → eqb k 1 ≡ false → eqb k 2 ≡ false → known log counts n ≡ true → knownParent log counts p ≡ true → not (eqb p n) ≡ true → namesKnown log (opBytes k s n p counts) ≡ true
+    names-move : (k : ℕ) → eqb k 1 ≡ false → eqb k 2 ≡ false → known log counts n ≡ true → knownParent log counts p ≡ true
+        → not (eqb p n) ≡ true → namesKnown log (opBytes k s n p counts) ≡ true
     unfolding namesKnown isAdd isRemove kindOf opBytes
     names-move k a b h i j =
         rw (bytes-vector k s n p counts counts-eight, bytes-parent k s n p counts, bytes-node k s n p counts, a, b)
         (and-both h (and-both i j))
 
-    move-names : known log counts n ≡ true → knownParent log counts p ≡ true → not (eqb p n) ≡ true → (b : Bool) → namesKnown log (opBytes (cond b 3 4) s n p counts) ≡ true
+    move-names : known log counts n ≡ true → knownParent log counts p ≡ true → not (eqb p n) ≡ true → (b : Bool)
+        → namesKnown log (opBytes (cond b 3 4) s n p counts) ≡ true
     move-names h i j true = names-move 3 refl refl h i j
     move-names h i j false = names-move 4 refl refl h i j
 
@@ -105,9 +110,11 @@ module _ (log : Log) (g : GoodLog log) where
     issued-admits (add p) h = issue-admits 1 s _ p ls full refl refl (names-add s _ p h refl)
     issued-admits (remove n) h = issue-admits 2 s n 0 ls full refl refl (names-remove s n 0 h)
     issued-admits (move n p) h =
-        let t = simp and-eq-true-iff at h in go (ltb (depth (parentsOf log) p) (depth (parentsOf log) n)) (move-names s n p (t .0 .0) (t .0 .1) (t .1))
+        let t = simp and-eq-true-iff at h in go (ltb (depth (parentsOf log) p) (depth (parentsOf log) n))
+        (move-names s n p (t .0 .0) (t .0 .1) (t .1))
       where
-        go : (b : Bool) → ((b : Bool) → namesKnown log (opBytes (cond b 3 4) s n p (countsOf log)) ≡ true) → Admits log (opBytes (cond b 3 4) s n p (countsOf log))
+        go : (b : Bool) → ((b : Bool) → namesKnown log (opBytes (cond b 3 4) s n p (countsOf log)) ≡ true)
+            → Admits log (opBytes (cond b 3 4) s n p (countsOf log))
         go true names = issue-admits 3 s n p ls full refl refl (names true)
         go false names = issue-admits 4 s n p ls full refl refl (names false)
 
@@ -154,7 +161,8 @@ allowed w f room s q n e =
     }
 
 -- an issued op is one that delivery would accept in its place
-pub issue-admitted : (f : List ℕ) (room s : ℕ) (q : Request) (n : ℕ) → issueAnswer width f room s q ≡ accepted n → Admitted width f (issued (logOf width f) s q) n
+pub issue-admitted : (f : List ℕ) (room s : ℕ) (q : Request) (n : ℕ) → issueAnswer width f room s q ≡ accepted n
+    → Admitted width f (issued (logOf width f) s q) n
 issue-admitted f room s q n e =
     let a = allowed width f room s q n e in
     let g = sound-good width f (a .is-sound) in

@@ -1,18 +1,20 @@
 -- Laws of structural soundness: what it says of a file, and of every op of its log. Assumes nothing.
 use Prim.Native.Nat.{zero, ℕ, _≤_, _-_, _<_, _+_, suc}
 use mathlib.Core.List.{List, _∷_, _++_, append-assoc, []}
-use lib.ListN.{length, List·getD-map, take, getD, length-append}
+use lib.ListN.{length, List·getD-map, getD, length-append}
 use mathlib.Core.Path.{_≡_, _∙_}
 use mathlib.Core.Bool.{true, and-eq-true-iff, false, or-true}
 use native.Mathlib.Omega.{arith}
 use borrow.Author.Tests.{leb-true, eqb-true, le-leb, eq-eqb, eqb-false}
 use lib.Dec.{eqb, leb}
 use native.Mathlib.Nat.{le-refl, not-suc-le-zero, add-zero, add-suc, suc-add, le-of-suc-le-suc}
-use Rattle.rules.specs.Log.{Log, closed, covered, opAt, soundOps, closedAt, countsOf, soundOp, within, countAt, laid, opsOf, structural, soundHeader, soundLog, startAt, logOf, startOf, fileEnd, headerCounts, fileOf, namesKnown}
+use Rattle.rules.specs.File.{Log, opAt, countsOf, within, countAt, opsOf, startAt, logOf, startOf, fileEnd, headerCounts, fileOf}
+use Rattle.rules.specs.Log.{closed, covered, soundOps, closedAt, soundOp, laid, structural, soundHeader, soundLog, namesKnown}
 use Rattle.rules.specs.Op.{countIn, Op, Vector, replicaOf, seqOf, wellFormed, vectorOf}
-use Rattle.rules.specs.Bytes.{byte, concat}
-use Rattle.rules.proofs.BoolLaws.{all-replicas, and-both, and-left, or-under, replica-passes, and-right}
-use Rattle.rules.proofs.FileLaws.{length-logOf, counts-logOf, counts-at, fileOf-logOf, header-bytes, WideLog, file-counts, header-starts, file-end, length-file, end-header, logOf-fileOf}
+use Rattle.lists.specs.Lists.{concat}
+use Rattle.rules.proofs.ReplicaLaws.{all-replicas, replica-passes}
+use Rattle.lists.proofs.BoolLaws.{and-both, and-left, or-under, and-right}
+use Rattle.rules.proofs.FileLaws.{length-logOf, counts-logOf, counts-at, WideLog, file-counts, header-starts, file-end, length-file, end-header, logOf-fileOf}
 
 -- what a right layout says
 pub record Laid (w : ℕ) (f : List ℕ) : Type 0 where
@@ -80,17 +82,14 @@ module _ (w : ℕ) (f : List ℕ) where
   unfolding structural soundLog
   structural-of h g = and-both (laid-of h) (all-replicas _ (g .ops))
 
--- a structurally sound file is its log's
-pub structural-file : (w : ℕ) (f : List ℕ) → ((i : ℕ) → byte f i < 256) → laid w f ≡ true → take (fileEnd w f) f ≡ fileOf w (logOf w f)
-structural-file w f b e = let h = laid-reads w f e in fileOf-logOf w f (header-bytes w f b (h .starts) (h .header))
-
 ---- every op
 
 pub count-held : (log : Log) (s : ℕ) → countIn (countsOf log) s ≡ length (opsOf log s)
 unfolding countIn countsOf opsOf
 count-held log s = List·getD-map length log (s - 1) []
 
-soundOps-at : (log : Log) (s q : ℕ) (rs : List Op) (i : ℕ) → soundOps log s q rs ≡ true → i < length rs → soundOp log s (q + i) (getD rs i []) ≡ true
+soundOps-at : (log : Log) (s q : ℕ) (rs : List Op) (i : ℕ) → soundOps log s q rs ≡ true → i < length rs
+    → soundOp log s (q + i) (getD rs i []) ≡ true
 unfolding soundOps
 soundOps-at log s q [] i e h = absurd (not-suc-le-zero h)
 soundOps-at log s q (r ∷ rs) zero e h = rw (add-zero q) (and-left (soundOp log s q r) _ e)

@@ -1,21 +1,26 @@
 -- The paper's worked examples P1 to P12 but P4, as rows of one table that one theorem covers. Assumes nothing.
-use Prim.Native.Nat.{ℕ, zero, suc, _<_}
-use lib.ListN.{length, getD, replicate}
+use Prim.Native.Nat.{ℕ, zero, suc, _-_, _<_}
+use lib.ListN.{length, getD, set, replicate}
 use mathlib.Core.Bool.{true}
 use mathlib.Core.List.{List, [], _∷_, _++_, map}
 use mathlib.Core.Path.{_≡_, refl}
 use native.Mathlib.Nat.{le-of-suc-le-suc, not-suc-le-zero}
-use Rattle.rules.specs.Answer.{Answer, refused, hadIt, accepted, require}
-use Rattle.rules.specs.Bytes.{wordAt, word, upFrom, downFrom, sum, greatest, same, concat, all, any, filter, isIn}
+use Rattle.rules.specs.Answer.{Answer, refused, hadIt, done, accepted, require}
+use Rattle.rules.specs.Bytes.{wordAt, word}
+use Rattle.lists.specs.Lists.{upFrom, downFrom, sum, greatest, same, concat, all, any, filter, isIn}
 use Rattle.rules.specs.Deliver.{makeAnswer, held, heldAnswer, admitAnswer, deliverAnswer}
-use Rattle.rules.specs.Issue.{Request, add, move, opBytes, moveKind, issued, requestKnown, requestClear, issueAnswer, issueOut}
-use Rattle.rules.specs.Listing.{children, preorder, digits, decimal, lineOf, line, listingIn, listingOf, refusedLine, outline}
-use Rattle.rules.specs.Log.{Log, emptyLog, opsOf, opAt, countsOf, append, countAt, startAt, headerCounts, startOf, endOf, fileEnd, chunks, chunksOf, logOf, headerEntry, headerOf, fileOf, within, covered, closedAt, closed, nodeWithin, known, knownParent, namesKnown, soundOp, soundOps, soundLog, soundHeader, laid, structural}
+use Rattle.rules.specs.Issue.{Request, add, remove, move, opBytes, issued, requestKnown, requestClear, issueAnswer, issueOut}
+use Rattle.rules.specs.Tree.{moveKind, slots, slot, slotOf, parentIn, climb, path, depth, atOrBelow}
+use Rattle.rules.specs.Judge.{judgeAnswer}
+use Rattle.rules.specs.Listing.{children, preorder, digits, decimal, lineOf, line, listingIn, listingOf, listingAnswer, listing, refusedLine, outline}
+use Rattle.rules.specs.File.{Log, emptyLog, opsOf, opAt, countsOf, append, countAt, startAt, headerCounts, startOf, endOf, fileEnd, chunks, chunksOf, logOf, headerEntry, headerOf, fileOf, within, width}
+use Rattle.rules.specs.Log.{covered, closedAt, closed, nodeWithin, known, knownParent, namesKnown, soundOp, soundOps, soundLog, soundHeader, laid, structural}
 use Rattle.rules.specs.Op.{Op, Vector, replicas, isReplica, countIn, kindOf, replicaOf, nodeOf, parentOf, vectorOf, ownCount, seqOf, nodeNumber, isAdd, isRemove, isMove, wellFormed}
+use Rattle.rules.specs.Path.{pathOf, pathAnswer, pathCall}
 use Rattle.rules.specs.Replay.{opsWithin, addedIn, removedIn, timestampIn, timestamp, stamp, stamped, ofReplica, ofKind, ofTime, byTime, ordered, start, outcomeSlot, outcomeOf, step, replay, parentsOf, outcomesOf}
 use Rattle.rules.specs.Sound.{sound}
-use Rattle.rules.specs.Tree.{slot, slotOf, parentIn, climb, path, depth, atOrBelow}
-use Rattle.rules.specs.Views.{nodes, tombstone, shown}
+use Rattle.rules.specs.Views.{View, keeping, skipping, nodes, shown}
+use Rattle.rules.specs.Marks.{tombstone}
 
 -- what a function says of each op of a log, replica by replica
 unfoldable pub ofOps : (ℕ → ℕ → ℕ) → Log → List (List ℕ)
@@ -26,28 +31,37 @@ pub data Row : Type 0 where
   laidOut : Log → List ℕ → Row
   -- delivering to a buffer answers
   delivers : (buffer op : List ℕ) → Answer → Row
-  -- a replica that issues at a buffer, with 14 bytes for the op, is answered
+  -- a replica that issues at a buffer, with just the room for the op, is answered
   issues : (buffer : List ℕ) (replica : ℕ) → Request → Answer → Row
   -- and finds there, where nines were lent
   fills : (buffer : List ℕ) (replica : ℕ) → Request → (out : List ℕ) → Row
   -- the op that a replica issues
   puts : Log → (replica : ℕ) → Request → Op → Row
+  -- judging into tables of so many entries answers
+  judges : (file : List ℕ) (parents outcomes : ℕ) → Answer → Row
   -- the outcomes of all ops; their timestamps
   outcomes : Log → List (List ℕ) → Row
   times : Log → List (List ℕ) → Row
+  -- the path of a node, put into lent entries, is answered, and they hold
+  paths : (file : List ℕ) (node : ℕ) (out : List ℕ) → Answer → (after : List ℕ) → Row
+  -- the listing of a view, put into lent bytes, is answered, and they hold
+  lists : (file : List ℕ) → View → (out : List ℕ) → Answer → (after : List ℕ) → Row
   -- the program prints
   prints : (input text : List ℕ) → Row
 
 -- what a row says
 abbrev pub Holds : Row → Type 0
-Holds (laidOut log f) = (fileOf 14 log ≡ f) × (sound 14 f ≡ true)
-Holds (delivers f r a) = deliverAnswer 14 f r ≡ a
-Holds (issues f s q a) = issueAnswer 14 f 14 s q ≡ a
-Holds (fills f s q out) = issueOut 14 f (replicate 15 9) s q ≡ out
+Holds (laidOut log f) = (fileOf width log ≡ f) × (sound width f ≡ true)
+Holds (delivers f r a) = deliverAnswer width f r ≡ a
+Holds (issues f s q a) = issueAnswer width f width s q ≡ a
+Holds (fills f s q out) = issueOut width f (replicate (suc width) 9) s q ≡ out
+Holds (judges f p o a) = judgeAnswer width f (replicate p 9) (replicate o 9) ≡ a
 Holds (puts log s q r) = issued log s q ≡ r
 Holds (outcomes log os) = ofOps (λ s q. getD (outcomesOf log) (slot s q) 0) log ≡ os
 Holds (times log ts) = ofOps (λ s q. timestamp log (opAt log s q)) log ≡ ts
-Holds (prints f text) = outline 14 f ≡ text
+Holds (paths f n out a after) = pathCall width f n out ≡ record { answer = a; out = after }
+Holds (lists f view out a after) = listing width f view out ≡ record { answer = a; out = after }
+Holds (prints f text) = outline width f ≡ text
 
 abbrev pub AllHold : List Row → Type 0
 AllHold [] = Unit {0}
@@ -71,15 +85,27 @@ p1 = three []
     ((4 ∷ 2 ∷ 1 ∷ 1 ∷ 1 ∷ 2 ∷ 2 ∷ 0 ∷ 0 ∷ 0 ∷ 0 ∷ 0 ∷ 0 ∷ 0 ∷ []) ∷ [])
     []
 
+-- a file by its counts and starts, and the bodies of a log; all below 256
+abbrev pub entryOf : (count start : ℕ) → List ℕ
+entryOf count from = 0 ∷ count ∷ 0 ∷ from ∷ []
+
+abbrev pub fileBy : List (List ℕ) → Log → List ℕ
+fileBy entries log = concat entries ++ concat (concat log)
+
+-- "Counts and starts: 3, 32; 1, 74; then six times 0, 88"
 unfoldable pub p1File : List ℕ
-p1File = 0 ∷ 3 ∷ 0 ∷ 32 ∷ 0 ∷ 1 ∷ 0 ∷ 74 ∷ 0 ∷ 0 ∷ 0 ∷ 88 ∷ 0 ∷ 0 ∷ 0 ∷ 88 ∷ 0 ∷ 0 ∷ 0 ∷ 88 ∷ 0 ∷ 0 ∷ 0 ∷ 88 ∷ 0 ∷ 0 ∷ 0 ∷ 88 ∷ 0 ∷ 0 ∷ 0 ∷ 88 ∷ concat (concat p1)
+p1File = fileBy (three (entryOf 0 88) (entryOf 3 32) (entryOf 1 74) (entryOf 0 88)) p1
 
 -- P1's file in a buffer with room for one op more
 unfoldable pub p1Buffer : List ℕ
-p1Buffer = p1File ++ replicate 14 0
+p1Buffer = p1File ++ replicate width 0
 
+-- the log without ops, as a file, and in a buffer of so many bytes
 unfoldable pub emptyFile : List ℕ
-emptyFile = fileOf 14 emptyLog
+emptyFile = fileOf width emptyLog
+
+abbrev pub emptyIn : ℕ → List ℕ
+emptyIn n = emptyFile ++ replicate (n - 32) 0
 
 -- the add that replica s issues as its op q, under p
 abbrev pub adds : (s q p : ℕ) → Vector → Op
@@ -88,6 +114,14 @@ adds s q p v = opBytes 1 s (nodeNumber s q) p v
 -- the siblings a, b and c by replica s
 abbrev pub siblings : ℕ → (ℕ → Vector) → List Op
 siblings s v = adds s 1 0 (v 0) ∷ adds s 2 0 (v 1) ∷ adds s 3 0 (v 2) ∷ []
+
+-- P6: the record that P1's buffer holds as replica 1's second
+abbrev pub p6 : Op
+p6 = adds 1 2 0 (vector 1 0 0)
+
+-- P10 before the three moves; and the whole
+abbrev pub p10Adds : Log
+p10Adds = three [] (siblings 1 (λ k. vector k 0 0)) [] []
 
 unfoldable pub p10 : Log
 p10 = three []
@@ -132,6 +166,23 @@ clash3 = clash (opBytes 4 1 257 259 (vector 3 0 0)) (opBytes 4 2 257 258 (vector
 unfoldable pub chain : Log
 chain = three [] (adds 1 1 0 (vector 0 0 0) ∷ []) (adds 2 1 0 (vector 0 0 0) ∷ []) (adds 3 1 257 (vector 1 1 0) ∷ [])
 
+-- removes: 257, with 258 below it, and 259 are removed; 513 is not
+unfoldable pub pruned : Log
+pruned = three []
+    ((adds 1 1 0 (vector 0 0 0) ∷ adds 1 2 257 (vector 1 0 0) ∷ adds 1 3 0 (vector 2 0 0) ∷ [])
+    ++ (opBytes 2 1 257 0 (vector 3 0 0) ∷ opBytes 2 1 259 0 (vector 4 0 0) ∷ []))
+    (adds 2 1 0 (vector 0 0 0) ∷ [])
+    []
+
+unfoldable pub prunedFile : List ℕ
+prunedFile = fileBy (three (entryOf 0 116) (entryOf 5 32) (entryOf 1 102) (entryOf 0 116)) pruned
+
+-- "0 0 k", "1 257 r", "2 258 k", "1 513 k"
+abbrev pub prunedText : List ℕ
+prunedText =
+    48 ∷ 32 ∷ 48 ∷ 32 ∷ 107 ∷ 10 ∷ 49 ∷ 32 ∷ 50 ∷ 53 ∷ 55 ∷ 32 ∷ 114 ∷ 10
+    ∷ 50 ∷ 32 ∷ 50 ∷ 53 ∷ 56 ∷ 32 ∷ 107 ∷ 10 ∷ 49 ∷ 32 ∷ 53 ∷ 49 ∷ 51 ∷ 32 ∷ 107 ∷ 10 ∷ []
+
 ---- the table
 
 unfoldable pub table : List Row
@@ -147,12 +198,19 @@ table =
     -- P3
     ∷ delivers (replicate 31 0) (adds 1 1 0 (vector 0 0 0)) (refused 1)
     ∷ issues (replicate 31 0) 1 (add 0) (refused 1)
+    ∷ judges (replicate 31 0) slots slots (refused 1)
+    ∷ paths (replicate 31 0) 0 (9 ∷ []) (refused 1) (9 ∷ [])
+    ∷ lists (replicate 31 0) keeping (replicate 6 9) (refused 1) (replicate 6 9)
     ∷ prints (replicate 31 0) refusedLine
     -- P5
     ∷ delivers p1Buffer (adds 1 5 0 (vector 4 0 0)) (refused 5)
-    -- P6
-    ∷ delivers p1Buffer (adds 1 2 0 (vector 1 0 0)) hadIt
-    ∷ delivers p1Buffer (adds 1 2 257 (vector 1 0 0)) (refused 4)
+    -- P6: the same; then one byte changed: the parent's low byte, the node's, a foreign count, the kind
+    ∷ delivers p1Buffer p6 hadIt
+    ∷ delivers p1Buffer (set p6 5 1) (refused 4)
+    ∷ delivers p1Buffer (set p6 3 3) (refused 4)
+    ∷ delivers p1Buffer (set p6 7 1) (refused 4)
+    ∷ delivers p1Buffer (set p6 0 2) (refused 4)
+    ∷ delivers p1Buffer (set p6 0 4) (refused 4)
     -- P7
     ∷ delivers p1Buffer (opBytes 4 1 257 257 (vector 3 0 0)) (refused 7)
     ∷ issues p1Buffer 1 (move 257 257) (refused 7)
@@ -162,19 +220,27 @@ table =
     ∷ delivers p1Buffer (opBytes 3 1 257 0 (vector 3 0 0)) (accepted 102)
     ∷ issues p1Buffer 1 (move 257 0) (accepted 102)
     -- P9
-    ∷ delivers (emptyFile ++ replicate 13 0) (adds 1 1 0 (vector 0 0 0)) (refused 8)
-    ∷ delivers (emptyFile ++ replicate 14 0) (adds 1 1 0 (vector 0 0 0)) (accepted 46)
-    ∷ issues (emptyFile ++ replicate 13 0) 1 (add 0) (refused 8)
-    ∷ issues (emptyFile ++ replicate 14 0) 1 (add 0) (accepted 46)
-    ∷ fills (emptyFile ++ replicate 13 0) 1 (add 0) (replicate 15 9)
-    ∷ fills (emptyFile ++ replicate 14 0) 1 (add 0) (adds 1 1 0 (vector 0 0 0) ++ (9 ∷ []))
+    ∷ delivers (emptyIn 45) (adds 1 1 0 (vector 0 0 0)) (refused 8)
+    ∷ delivers (emptyIn 46) (adds 1 1 0 (vector 0 0 0)) (accepted 46)
+    ∷ issues (emptyIn 45) 1 (add 0) (refused 8)
+    ∷ issues (emptyIn 46) 1 (add 0) (accepted 46)
+    ∷ fills (emptyIn 45) 1 (add 0) (replicate 15 9)
+    ∷ fills (emptyIn 46) 1 (add 0) (adds 1 1 0 (vector 0 0 0) ++ (9 ∷ []))
     -- P10
+    ∷ laidOut p10 (fileBy (three (entryOf 0 116) (entryOf 4 32) (entryOf 1 88) (entryOf 1 102)) p10)
+    ∷ puts p10Adds 1 (move 257 258) (opBytes 4 1 257 258 (vector 3 0 0))
+    ∷ puts p10Adds 2 (move 258 259) (opBytes 4 2 258 259 (vector 3 0 0))
+    ∷ puts p10Adds 3 (move 259 257) (opBytes 4 3 259 257 (vector 3 0 0))
     ∷ outcomes p10 (three [] (1 ∷ 1 ∷ 1 ∷ 3 ∷ []) (1 ∷ []) (1 ∷ []))
     -- P11
+    ∷ laidOut p11All (fileBy (three (entryOf 0 130) (entryOf 2 32) (entryOf 2 60) (entryOf 3 88)) p11All)
+    ∷ puts (p11 [] []) 1 (move 769 771) (opBytes 4 1 769 771 (vector 0 0 3))
+    ∷ puts (p11 [] []) 2 (move 770 771) (opBytes 4 2 770 771 (vector 0 0 3))
     ∷ puts (p11 p11One []) 1 (move 769 770) (opBytes 3 1 769 770 (vector 1 0 3))
     ∷ puts (p11 [] p11Two) 2 (move 770 769) (opBytes 3 2 770 769 (vector 0 1 3))
     ∷ outcomes p11All (three [] (1 ∷ 3 ∷ []) (1 ∷ 1 ∷ []) (1 ∷ 1 ∷ 1 ∷ []))
     -- P12
+    ∷ laidOut p12All (fileBy (three (entryOf 0 116) (entryOf 5 32) (entryOf 1 102) (entryOf 0 116)) p12All)
     ∷ puts (p12 [] []) 1 (move 258 0) (opBytes 3 1 258 0 (vector 4 0 0))
     ∷ puts (p12 [] []) 2 (move 258 260) (opBytes 4 2 258 260 (vector 4 0 0))
     ∷ outcomes p12All (three [] (1 ∷ 1 ∷ 1 ∷ 1 ∷ 1 ∷ []) (2 ∷ []) [])
@@ -182,12 +248,49 @@ table =
     ∷ outcomes clash2 (three [] (1 ∷ 1 ∷ 1 ∷ 2 ∷ []) (1 ∷ []) (1 ∷ []))
     ∷ outcomes clash3 (three [] (1 ∷ 1 ∷ 1 ∷ 1 ∷ []) (3 ∷ []) (1 ∷ []))
     ∷ times chain (three [] (1 ∷ []) (1 ∷ []) (2 ∷ []))
+    -- removes: the keeping view shows 257 for 258 below it, as removed, and not 259; the skipping view shows neither 257 nor 258
+    ∷ puts p10Adds 2 (remove 257) (opBytes 2 2 257 0 (vector 3 0 0))
+    ∷ laidOut pruned prunedFile
+    ∷ outcomes pruned (three [] (1 ∷ 1 ∷ 1 ∷ 1 ∷ 1 ∷ []) (1 ∷ []) [])
+    ∷ lists prunedFile keeping (replicate 31 9) (accepted 30) (prunedText ++ (9 ∷ []))
+    ∷ lists prunedFile keeping (replicate 29 9) (refused 8) (replicate 29 9)
+    ∷ lists prunedFile skipping (replicate 15 9) (accepted 14) (48 ∷ 32 ∷ 48 ∷ 32 ∷ 107 ∷ 10 ∷ 49 ∷ 32 ∷ 53 ∷ 49 ∷ 51 ∷ 32 ∷ 107 ∷ 10 ∷ 9 ∷ [])
+    ∷ prints prunedFile prunedText
+    -- paths, of removed nodes too
+    ∷ paths prunedFile 258 (replicate 4 9) (accepted 3) (258 ∷ 257 ∷ 0 ∷ 9 ∷ [])
+    ∷ paths prunedFile 259 (replicate 2 9) (accepted 2) (259 ∷ 0 ∷ [])
+    ∷ paths prunedFile 0 (replicate 2 9) (accepted 1) (0 ∷ 9 ∷ [])
+    ∷ paths prunedFile 260 (replicate 4 9) (refused 7) (replicate 4 9)
+    ∷ paths prunedFile 258 (replicate 2 9) (refused 8) (replicate 2 9)
+    ∷ paths p1File 257 (replicate 3 9) (accepted 3) (257 ∷ 258 ∷ 0 ∷ [])
+    -- judging
+    ∷ judges p1File slots slots done
+    ∷ judges p1File 2040 slots (refused 2)
+    ∷ judges p1File slots 2040 (refused 2)
     ∷ []
+
+-- one row holds, and the others
+infixr 40 _&_
+abbrev _&_ : {A B : Type 0} → A → B → A × B
+_&_ a b = (a, b)
 
 -- every row of the table holds
 pub table-holds : AllHold table
-unfolding ofOps table p1 p1File p1Buffer emptyFile p10 p11 p11All p12 p12All clash clash2 clash3 chain require wordAt word upFrom downFrom sum greatest same concat all any filter isIn replicas isReplica countIn kindOf replicaOf nodeOf parentOf vectorOf ownCount seqOf nodeNumber isAdd isRemove isMove wellFormed emptyLog opsOf opAt countsOf append countAt startAt headerCounts startOf endOf fileEnd chunks chunksOf logOf headerEntry headerOf fileOf within covered closedAt closed nodeWithin known knownParent namesKnown soundOp soundOps soundLog soundHeader laid structural sound makeAnswer held heldAnswer admitAnswer deliverAnswer slot slotOf parentIn climb path depth atOrBelow opsWithin addedIn removedIn timestampIn timestamp stamp stamped ofReplica ofKind ofTime byTime ordered start outcomeSlot outcomeOf step replay parentsOf outcomesOf opBytes moveKind issued requestKnown requestClear issueAnswer issueOut nodes tombstone shown children preorder digits decimal lineOf line listingIn listingOf refusedLine outline
-table-holds = ((refl, refl), (refl, (refl, (refl, (refl, (refl, (refl, (refl, (refl, (refl, (refl, (refl, (refl, (refl, (refl, (refl, (refl, (refl, (refl, (refl, (refl, (refl, (refl, (refl, (refl, (refl, (refl, (refl, (refl, (refl, (refl, (refl, (refl, (refl, tt))))))))))))))))))))))))))))))))))
+unfolding ofOps table p1 p1File p1Buffer emptyFile p10 p11 p11All p12 p12All clash clash2 clash3 chain pruned prunedFile require wordAt
+    word upFrom downFrom sum greatest same concat all any filter isIn replicas isReplica countIn kindOf replicaOf nodeOf parentOf
+    vectorOf ownCount seqOf nodeNumber isAdd isRemove isMove wellFormed emptyLog opsOf opAt countsOf append countAt startAt headerCounts
+    startOf endOf fileEnd chunks chunksOf logOf headerEntry headerOf fileOf within covered closedAt closed nodeWithin known knownParent
+    namesKnown soundOp soundOps soundLog soundHeader laid structural sound makeAnswer held heldAnswer admitAnswer deliverAnswer slot
+    slotOf parentIn climb path depth atOrBelow opsWithin addedIn removedIn timestampIn timestamp stamp stamped ofReplica ofKind ofTime
+    byTime ordered start outcomeSlot outcomeOf step replay parentsOf outcomesOf opBytes moveKind issued requestKnown requestClear
+    issueAnswer issueOut nodes tombstone shown children preorder digits decimal lineOf line listingIn listingOf listingAnswer listing
+    refusedLine outline judgeAnswer pathOf pathAnswer pathCall
+table-holds =
+    (refl, refl) & refl & refl & refl & refl & refl & refl & refl & refl & refl & refl & refl & refl & refl & refl
+    & refl & refl & refl & refl & refl & refl & refl & refl & refl & refl & refl & refl & refl & refl & refl & refl
+    & (refl, refl) & refl & refl & refl & refl & (refl, refl) & refl & refl & refl & refl & refl & (refl, refl) & refl
+    & refl & refl & refl & refl & refl & refl & (refl, refl) & refl & refl & refl & refl & refl & refl & refl & refl
+    & refl & refl & refl & refl & refl & refl & tt
 
 -- what holds of all rows holds of each
 each : (xs : List Row) (d : Row) → AllHold xs → (k : ℕ) → k < length xs → Holds (getD xs k d)

@@ -7,9 +7,10 @@ use lib.Dec.{leb, ltb, eqb}
 use Rattle.rules.specs.Answer.{Answer, accepted, require, ifAccepted}
 use Rattle.rules.specs.Bytes.{word}
 use Rattle.rules.specs.Op.{Op, Vector, isReplica, countIn, nodeNumber}
-use Rattle.rules.specs.Log.{Log, countsOf, fileEnd, logOf, appended, known, knownParent}
+use Rattle.rules.specs.File.{Log, countsOf, fileEnd, logOf, appended}
+use Rattle.rules.specs.Log.{known, knownParent}
 use Rattle.rules.specs.Sound.{sound}
-use Rattle.rules.specs.Tree.{depth, atOrBelow}
+use Rattle.rules.specs.Tree.{depth, atOrBelow, moveKind}
 use Rattle.rules.specs.Replay.{parentsOf}
 
 -- what a caller asks for
@@ -21,10 +22,6 @@ pub data Request : Type 0 where
 -- an op's bytes
 unfoldable pub opBytes : (kind replica node parent : ℕ) → Vector → Op
 opBytes kind s node parent v = kind ∷ s ∷ (word node ++ (word parent ++ v))
-
--- "a move is upward if the node's depth is greater than the new parent's, else downward", in the tree before it
-unfoldable pub moveKind : List ℕ → ℕ → ℕ → ℕ
-moveKind parents n p = cond (ltb (depth parents p) (depth parents n)) 3 4
 
 -- the op that replica s issues; "its context is the held counts"
 unfoldable pub issued : Log → ℕ → Request → Op

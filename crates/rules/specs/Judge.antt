@@ -5,7 +5,7 @@ use mathlib.Core.List.{List, _++_}
 use lib.ListN.{length, drop}
 use lib.Dec.{leb}
 use Rattle.rules.specs.Answer.{Answer, done, require, ifDone}
-use Rattle.rules.specs.Log.{logOf}
+use Rattle.rules.specs.File.{logOf}
 use Rattle.rules.specs.Sound.{sound}
 use Rattle.rules.specs.Tree.{slots}
 use Rattle.rules.specs.Replay.{parentsOf, outcomesOf}

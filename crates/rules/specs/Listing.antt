@@ -1,17 +1,18 @@
 -- The listing of a view, and what the program `outline` prints. Tests 1, 8. Assumes nothing.
+use Rattle.rules.specs.File.{countsOf, Log, fileEnd, logOf}
 use Prim.Native.Nat.{ℕ, zero, suc, _+_, _/_, _%_}
 use mathlib.Core.Bool.{Bool, cond, _&&_}
 use mathlib.Core.List.{List, [], _∷_, _++_, map}
 use lib.ListN.{length, drop}
 use lib.Dec.{leb, ltb, eqb}
 use Rattle.rules.specs.Answer.{Answer, accepted, require, ifAccepted}
-use Rattle.rules.specs.Bytes.{concat, filter}
-use Rattle.rules.specs.Log.{Log, fileEnd, logOf}
+use Rattle.lists.specs.Lists.{concat, filter}
 use Rattle.rules.specs.Sound.{sound}
 use Rattle.rules.specs.Tree.{slots, parentIn, depth}
 use Rattle.rules.specs.Replay.{parentsOf}
 use Rattle.rules.specs.Path.{Written}
-use Rattle.rules.specs.Views.{nodes, tombstone, View, keeping, shown}
+use Rattle.rules.specs.Views.{nodes, View, keeping, shown}
+use Rattle.rules.specs.Marks.{tombstone}
 
 unfoldable pub children : Log → List ℕ → ℕ → List ℕ
 children log parents n = filter (λ m. eqb (parentIn parents m) n) (nodes log)
@@ -34,7 +35,7 @@ unfoldable pub lineOf : (depth node : ℕ) (removed : Bool) → List ℕ
 lineOf d n removed = decimal d ++ (32 ∷ (decimal n ++ (32 ∷ cond removed 114 107 ∷ 10 ∷ [])))
 
 unfoldable pub line : Log → List ℕ → ℕ → List ℕ
-line log parents n = lineOf (depth parents n) n (tombstone log n)
+line log parents n = lineOf (depth parents n) n (tombstone log (countsOf log) n)
 
 unfoldable pub listingIn : View → Log → List ℕ → List ℕ
 listingIn view log parents = concat (map (line log parents) (filter (shown view log parents) (preorder slots log parents 0)))

@@ -1,94 +1,14 @@
--- The log (the paper's collection): the ops of each replica in sequence order; its layout in bytes; the tests of an op against a log
--- (numbers 5, 6 and 7); and structural soundness. Assumes nothing.
-use Prim.Native.Nat.{ℕ, zero, suc, _+_, _*_, _-_, _/_, _%_}
+-- The tests of an op against a log (numbers 5, 6 and 7), and structural soundness.
+use Rattle.rules.specs.File.{headerCounts, startOf, countsOf, startAt, opAt, within, fileEnd, logOf, opsOf, countAt, Log}
+use Prim.Native.Nat.{ℕ, suc, _/_, _%_}
 use mathlib.Core.Bool.{Bool, true, cond, _&&_, _||_, not}
-use mathlib.Core.List.{List, [], _∷_, _++_, map}
-use lib.ListN.{length, take, drop, getD, set, replicate}
+use mathlib.Core.List.{List, [], _∷_}
+use lib.ListN.{length}
 use lib.Dec.{leb, eqb}
-use Rattle.rules.specs.Bytes.{wordAt, word, sum, concat, all}
+use Rattle.lists.specs.Lists.{all}
 use Rattle.rules.specs.Op.{Op, Vector, replicas, isReplica, countIn, replicaOf, nodeOf, parentOf, vectorOf, seqOf, nodeNumber, isAdd, isRemove, wellFormed}
 
--- a list of ops for each of the replicas 1 to 8
-abbrev pub Log : Type 0
-Log = List (List Op)
-
-unfoldable pub emptyLog : Log
-emptyLog = replicate 8 []
-
-unfoldable pub opsOf : Log → ℕ → List Op
-opsOf log s = getD log (s - 1) []
-
--- replica s's op number q, from 1
-unfoldable pub opAt : Log → ℕ → ℕ → Op
-opAt log s q = getD (opsOf log s) (q - 1) []
-
--- the held counts
-unfoldable pub countsOf : Log → Vector
-countsOf log = map length log
-
--- the log with one op more, last among its replica's
-unfoldable pub append : Log → Op → Log
-append log r = set log (replicaOf r - 1) (opsOf log (replicaOf r) ++ (r ∷ []))
-
----- layout
-
--- the bytes of an op; the layout is stated for ops of w bytes
-abbrev pub width : ℕ
-width = 14
-
--- the count and the start that the header (the paper's table of contents) gives for replica s
-unfoldable pub countAt : List ℕ → ℕ → ℕ
-countAt f s = wordAt f (4 * (s - 1))
-
-unfoldable pub startAt : List ℕ → ℕ → ℕ
-startAt f s = wordAt f (4 * (s - 1) + 2)
-
-unfoldable pub headerCounts : List ℕ → Vector
-headerCounts f = map (countAt f) replicas
-
--- "a start is 32 + 14 x the records of all lower seats"; "the file ends at 32 + 14 x all records"
-unfoldable pub startOf : ℕ → Vector → ℕ → ℕ
-startOf w counts s = 32 + w * sum (take (s - 1) counts)
-
-unfoldable pub endOf : ℕ → Vector → ℕ
-endOf w counts = 32 + w * sum counts
-
-unfoldable pub fileEnd : ℕ → List ℕ → ℕ
-fileEnd w f = endOf w (headerCounts f)
-
--- n bodies of w bytes from the front of bytes; the bodies of each replica
-unfoldable pub chunks : ℕ → ℕ → List ℕ → List Op
-chunks w zero bs = []
-chunks w (suc n) bs = take w bs ∷ chunks w n (drop w bs)
-
-unfoldable pub chunksOf : ℕ → List ℕ → List ℕ → Log
-chunksOf w [] bs = []
-chunksOf w (n ∷ ns) bs = chunks w n bs ∷ chunksOf w ns (drop (w * n) bs)
-
--- the log that bytes hold
-unfoldable pub logOf : ℕ → List ℕ → Log
-logOf w f = chunksOf w (headerCounts f) (drop 32 f)
-
--- the header: for each replica a two-byte count and a two-byte start
-unfoldable pub headerEntry : ℕ → Vector → ℕ → List ℕ
-headerEntry w counts s = word (countIn counts s) ++ word (startOf w counts s)
-
-unfoldable pub headerOf : ℕ → Vector → List ℕ
-headerOf w counts = concat (map (headerEntry w counts) replicas)
-
--- a log as bytes: the header, then the bodies, replica by replica in sequence order
-unfoldable pub fileOf : ℕ → Log → List ℕ
-fileOf w log = headerOf w (countsOf log) ++ concat (concat log)
-
--- the buffer with one op more; what lies past the new file end stays
-unfoldable pub appended : ℕ → List ℕ → Op → List ℕ
-appended w f r = fileOf w (append (logOf w f) r) ++ drop (fileEnd w f + w) f
-
 ---- the tests of an op against a log
-
--- a vector nowhere greater than another
-unfoldable pub within : Vector → Vector → Bool
-within v u = all (λ s. leb (countIn v s) (countIn u s)) replicas
 
 -- number 5: no count of the vector is above what is held
 unfoldable pub covered : Log → Vector → Bool
@@ -113,7 +33,8 @@ known log v n = nodeWithin v n && isAdd (opAt log (n / 256) (n % 256))
 unfoldable pub knownParent : Log → Vector → ℕ → Bool
 knownParent log v n = eqb n 0 || known log v n
 
--- number 7: of an add the parent is known and the node has its number; of a remove the node is known; of a move node and parent are known, and
+-- number 7: of an add the parent is known and the node has its number; of a remove the node is known; of a move node and parent are known,
+-- and
 -- the parent is not the node
 unfoldable pub namesKnown : Log → Op → Bool
 namesKnown log r =

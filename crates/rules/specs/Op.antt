@@ -1,11 +1,13 @@
--- An op (the paper's record): its fields, and the test of its form (number 3). An op is the list of its bytes; a version vector (the paper's
+-- An op (the paper's record): its fields, and the test of its form (number 3). An op is the list of its bytes; a version vector (the
+-- paper's
 -- context) is a list of eight counts. "The record, 14 bytes". Assumes nothing.
 use Prim.Native.Nat.{ℕ, _+_, _*_, _-_}
 use mathlib.Core.Bool.{Bool, _&&_, _||_, not}
 use mathlib.Core.List.{List}
 use lib.ListN.{take, drop, getD}
 use lib.Dec.{leb, ltb, eqb}
-use Rattle.rules.specs.Bytes.{byte, wordAt, upFrom}
+use Rattle.rules.specs.Bytes.{byte, wordAt}
+use Rattle.lists.specs.Lists.{upFrom}
 
 abbrev pub Op : Type 0
 Op = List ℕ

@@ -4,7 +4,8 @@ use mathlib.Core.List.{List, _++_}
 use lib.ListN.{length, drop}
 use lib.Dec.{leb}
 use Rattle.rules.specs.Answer.{Answer, accepted, require, ifAccepted}
-use Rattle.rules.specs.Log.{Log, countsOf, logOf, knownParent}
+use Rattle.rules.specs.File.{Log, countsOf, logOf}
+use Rattle.rules.specs.Log.{knownParent}
 use Rattle.rules.specs.Sound.{sound}
 use Rattle.rules.specs.Tree.{path}
 use Rattle.rules.specs.Replay.{parentsOf}

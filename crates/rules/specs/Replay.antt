@@ -1,13 +1,14 @@
--- Replay (the paper's judging) of the ops within a cut, which is a version vector: timestamps, the order of the ops, and what each op does to
+-- Replay (the paper's judging) of the ops within a cut, which is a version vector: timestamps, the order of the ops, and what each op does
+-- to
 -- the tree. Assumes nothing.
 use Prim.Native.Nat.{ℕ, zero, suc, _+_}
 use mathlib.Core.Bool.{cond, _&&_, _||_, not}
-use mathlib.Core.List.{List, [], _∷_, _++_, map, foldl}
+use mathlib.Core.List.{List, [], _∷_, map, foldl}
 use lib.ListN.{length, take, getD, set, replicate}
-use lib.Dec.{leb, ltb, eqb}
-use Rattle.rules.specs.Bytes.{upFrom, downFrom, greatest, concat, filter}
+use lib.Dec.{eqb}
+use Rattle.lists.specs.Lists.{upFrom, downFrom, greatest, concat, filter}
 use Rattle.rules.specs.Op.{Op, Vector, replicas, countIn, kindOf, replicaOf, nodeOf, parentOf, vectorOf, seqOf, isAdd, isRemove, isMove}
-use Rattle.rules.specs.Log.{Log, opsOf, countsOf}
+use Rattle.rules.specs.File.{Log, opsOf, countsOf}
 use Rattle.rules.specs.Tree.{slot, slotOf, slots, noParent, atOrBelow}
 
 ---- the ops of a cut, and timestamps
@@ -65,7 +66,8 @@ ordered log cut = byTime (stamped log cut)
 
 ---- effects
 
--- the parent table, the outcome table (the paper's fates), and for the slot of each node the timestamp of the applied move that placed it last
+-- the parent table, the outcome table (the paper's fates), and for the slot of each node the timestamp of the applied move that placed it
+-- last
 pub record State : Type 0 where
   pub parents : List ℕ
   pub outcomes : List ℕ
@@ -83,7 +85,8 @@ start = record {
 unfoldable pub outcomeSlot : Op → ℕ
 outcomeSlot r = slot (replicaOf r) (seqOf r)
 
--- 1 applied; a move: 2 "if an applied move of the same stamp already placed its node", else 3 "if the new parent is the node or lies below it"
+-- 1 applied; a move: 2 "if an applied move of the same stamp already placed its node", else 3 "if the new parent is the node or lies below
+-- it"
 unfoldable pub outcomeOf : State → Stamped → ℕ
 outcomeOf st x =
     cond (not (isMove (x .op))) 1

@@ -3,8 +3,8 @@ use Prim.Native.Nat.{ℕ, zero, suc, _+_, _*_, _-_, _/_, _%_}
 use mathlib.Core.Bool.{Bool, cond}
 use mathlib.Core.List.{List, [], _∷_}
 use lib.ListN.{length, getD}
-use lib.Dec.{eqb}
-use Rattle.rules.specs.Bytes.{isIn}
+use lib.Dec.{eqb, ltb}
+use Rattle.lists.specs.Lists.{isIn}
 
 -- "seat s, sequence q has slot 255 x (s - 1) + q"; slot 0 is the root
 unfoldable pub slot : ℕ → ℕ → ℕ
@@ -39,3 +39,7 @@ depth parents n = length (path parents n) - 1
 -- m is n or lies below it
 unfoldable pub atOrBelow : List ℕ → ℕ → ℕ → Bool
 atOrBelow parents m n = isIn n (path parents m)
+
+-- "a move is upward if the node's depth is greater than the new parent's, else downward", in the tree before it
+unfoldable pub moveKind : List ℕ → ℕ → ℕ → ℕ
+moveKind parents n p = cond (ltb (depth parents p) (depth parents n)) 3 4

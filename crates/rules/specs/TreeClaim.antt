@@ -4,9 +4,10 @@ use mathlib.Core.Path.{_≡_}
 use mathlib.Core.Bool.{true}
 use mathlib.Core.List.{List}
 use lib.ListN.{length, getD}
-use Rattle.rules.specs.Bytes.{isIn}
+use Rattle.lists.specs.Lists.{isIn}
 use Rattle.rules.specs.Op.{Vector}
-use Rattle.rules.specs.Log.{logOf, covered, closed, structural}
+use Rattle.rules.specs.File.{logOf}
+use Rattle.rules.specs.Log.{covered, closed, structural}
 use Rattle.rules.specs.Tree.{slotOf, slots, noParent, climb}
 use Rattle.rules.specs.Replay.{addedIn, replay}
 

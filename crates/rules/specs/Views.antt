@@ -3,18 +3,15 @@ use Prim.Native.Nat.{ℕ}
 use mathlib.Core.Bool.{Bool, _&&_, _||_, not}
 use mathlib.Core.List.{List}
 use lib.Dec.{eqb}
-use Rattle.rules.specs.Bytes.{all, any, isIn}
-use Rattle.rules.specs.Log.{Log, countsOf}
+use Rattle.lists.specs.Lists.{all, any}
+use Rattle.rules.specs.File.{Log, countsOf}
 use Rattle.rules.specs.Tree.{path, atOrBelow}
-use Rattle.rules.specs.Replay.{addedIn, removedIn}
+use Rattle.rules.specs.Replay.{addedIn}
+use Rattle.rules.specs.Marks.{tombstone}
 
 -- "the added nodes are those made by the adds among the held records", in rising order
 unfoldable pub nodes : Log → List ℕ
 nodes log = addedIn log (countsOf log)
-
--- the node has a tombstone (the paper's mark): "remove marks it; the mark stays"
-unfoldable pub tombstone : Log → ℕ → Bool
-tombstone log n = isIn n (removedIn log (countsOf log))
 
 pub data View : Type 0 where
   keeping : View
@@ -22,5 +19,5 @@ pub data View : Type 0 where
 
 -- keeping: "it or some node below it is unmarked"; skipping: "neither it nor any node above it is marked". The root is always shown
 unfoldable pub shown : View → Log → List ℕ → ℕ → Bool
-shown keeping log parents n = eqb n 0 || any (λ m. atOrBelow parents m n && not (tombstone log m)) (nodes log)
-shown skipping log parents n = eqb n 0 || all (λ m. not (tombstone log m)) (path parents n)
+shown keeping log parents n = eqb n 0 || any (λ m. atOrBelow parents m n && not (tombstone log (countsOf log) m)) (nodes log)
+shown skipping log parents n = eqb n 0 || all (λ m. not (tombstone log (countsOf log) m)) (path parents n)

@@ -1,4 +1,3 @@
-pub mod SeqLaws
 pub mod TreePathLaws
 pub mod TombstoneLaws
 pub mod ViewLaws

@@ -10,9 +10,9 @@ use mathlib.Core.Logic.{_⊎_, ⊎-elim}
 use mathlib.Core.Path.{refl, sym, _∙_, _≡_}
 use native.Mathlib.Decide.{ℕ-discrete}
 use native.Mathlib.Omega.{arith}
-use Rattle.rules.proofs.BoolLaws.{and-false}
-use Rattle.rules.proofs.TreeLaws.{Valid, slot-injective}
-use Rattle.rules.specs.Bytes.{downFrom, filter, upFrom}
+use Rattle.lists.proofs.BoolLaws.{and-false}
+use Rattle.rules.proofs.SlotLaws.{Valid, slot-injective}
+use Rattle.lists.specs.Lists.{downFrom, filter, upFrom}
 use Rattle.rules.specs.Tree.{noParent, slots}
 use Rattle.view.proofs.NodesLaws.{valid-parent}
 use Rattle.view.proofs.SlotLaws.{node-nonzero, spot-below, spot-node, spot-valid}
@@ -38,7 +38,8 @@ module _ (parents hidden : List ℕ) (entries : (k : ℕ) → 0 < k → k < 2041
     pub chains : (n : ℕ) → Valid n → Chain (l .next) (entry (l .first) n) (kids i n)
 
   -- a slot below those of a chain may change
-  chain-kept : (next : List ℕ) (k v : ℕ) (q : ℕ → Bool) (m i x : ℕ) → k < i → i + m ≤ 2041 → Chain next x (map nodeAt (filter q (upFrom i m))) → Chain (set next k v) x (map nodeAt (filter q (upFrom i m)))
+  chain-kept : (next : List ℕ) (k v : ℕ) (q : ℕ → Bool) (m i x : ℕ) → k < i → i + m ≤ 2041
+      → Chain next x (map nodeAt (filter q (upFrom i m))) → Chain (set next k v) x (map nodeAt (filter q (upFrom i m)))
   unfolding filter upFrom
   chain-kept next k v q zero i x h b c = c
   chain-kept next k v q (suc m) i x h b c = go (q i) x c (λ y. chain-kept next k v q m (suc i) y (omega arith) (omega arith))
@@ -46,7 +47,10 @@ module _ (parents hidden : List ℕ) (entries : (k : ℕ) → 0 < k → k < 2041
       same : entry (set next k v) (nodeAt i) ≡ entry next (nodeAt i)
       same = rw (spot-node i (omega arith) (omega arith)) (getD-set-other next k i v 0 (λ e. omega arith))
 
-      go : (t : Bool) (x : ℕ) → Chain next x (map nodeAt (cond t (i ∷ filter q (upFrom (suc i) m)) (filter q (upFrom (suc i) m)))) → ((y : ℕ) → Chain next y (map nodeAt (filter q (upFrom (suc i) m))) → Chain (set next k v) y (map nodeAt (filter q (upFrom (suc i) m)))) → Chain (set next k v) x (map nodeAt (cond t (i ∷ filter q (upFrom (suc i) m)) (filter q (upFrom (suc i) m))))
+      go : (t : Bool) (x : ℕ) → Chain next x (map nodeAt (cond t (i ∷ filter q (upFrom (suc i) m)) (filter q (upFrom (suc i) m))))
+          → ((y : ℕ) → Chain next y (map nodeAt (filter q (upFrom (suc i) m)))
+          → Chain (set next k v) y (map nodeAt (filter q (upFrom (suc i) m))))
+          → Chain (set next k v) x (map nodeAt (cond t (i ∷ filter q (upFrom (suc i) m)) (filter q (upFrom (suc i) m))))
       go true x (a, b, c) ih = (a, b, rw same (ih _ c))
       go false x c ih = ih x c
 
@@ -54,14 +58,16 @@ module _ (parents hidden : List ℕ) (entries : (k : ℕ) → 0 < k → k < 2041
   unfolding filter upFrom
   kids-turn k n h = let e : 2041 - k ≡ suc (2041 - suc k) = omega arith in rw e (go (under n k))
     where
-      go : (b : Bool) → map nodeAt (cond b (k ∷ filter (under n) (upFrom (suc k) (2041 - suc k))) (filter (under n) (upFrom (suc k) (2041 - suc k)))) ≡ cond b (nodeAt k ∷ kids (suc k) n) (kids (suc k) n)
+      go : (b : Bool) → map nodeAt (cond b (k ∷ filter (under n) (upFrom (suc k) (2041 - suc k)))
+          (filter (under n) (upFrom (suc k) (2041 - suc k)))) ≡ cond b (nodeAt k ∷ kids (suc k) n) (kids (suc k) n)
       go true = refl
       go false = refl
 
   not-under : (k n : ℕ) → k < 2041 → under n k ≡ false → kids k n ≡ kids (suc k) n
   not-under k n h e = kids-turn k n h ∙ rw e
 
-  module _ (k : ℕ) (p : 0 < k) (u : k < 2041) (l : Links) (d : Linked (suc k) l) (vp : Valid (getD parents k 0)) (shown : eqb (getD hidden k 0) 0 ≡ true) where
+  module _ (k : ℕ) (p : 0 < k) (u : k < 2041) (l : Links) (d : Linked (suc k) l) (vp : Valid (getD parents k 0))
+      (shown : eqb (getD hidden k 0) 0 ≡ true) where
     abbrev q : ℕ
     q = getD parents k 0
 
@@ -69,17 +75,21 @@ module _ (parents hidden : List ℕ) (entries : (k : ℕ) → 0 < k → k < 2041
     after = links (set (l .first) (spot q) (nodeAt k)) (set (l .next) k (getD (l .first) (spot q) 0))
 
     rest : (n : ℕ) → Valid n → Chain (after .next) (entry (l .first) n) (kids (suc k) n)
-    rest n v = chain-kept (l .next) k (getD (l .first) (spot q) 0) (under n) (2041 - suc k) (suc k) (entry (l .first) n) (omega arith) (omega arith) (d .chains n v)
+    rest n v = chain-kept (l .next) k (getD (l .first) (spot q) 0) (under n) (2041 - suc k) (suc k) (entry (l .first) n) (omega arith)
+        (omega arith) (d .chains n v)
 
     linked-here : (n : ℕ) → Valid n → q ≡ n → Chain (after .next) (entry (after .first) n) (kids k n)
     linked-here n v z =
-        let a : entry (after .first) n ≡ nodeAt k = rw (← z) (getD-set-same (l .first) (spot q) (nodeAt k) 0 (omega (arith, d .first-size, spot-below q))) in
-        let b : entry (after .next) (nodeAt k) ≡ entry (l .first) n = rw (spot-node k p u, ← z) (getD-set-same (l .next) k (getD (l .first) (spot q) 0) 0 (omega (arith, d .next-size))) in
+        let a : entry (after .first) n ≡ nodeAt k = rw (← z) (getD-set-same (l .first) (spot q) (nodeAt k) 0
+        (omega (arith, d .first-size, spot-below q))) in
+        let b : entry (after .next) (nodeAt k) ≡ entry (l .first) n = rw (spot-node k p u, ← z)
+        (getD-set-same (l .next) k (getD (l .first) (spot q) 0) 0 (omega (arith, d .next-size))) in
         rw (kids-turn k n u, eq-eqb q n z, shown) (a, node-nonzero k p, rw b (rest n v))
 
     linked-else : (n : ℕ) → Valid n → (q ≡ n → ⊥) → Chain (after .next) (entry (after .first) n) (kids k n)
     linked-else n v nz =
-        let a : entry (after .first) n ≡ entry (l .first) n = getD-set-other (l .first) (spot q) (spot n) (nodeAt k) 0 (λ e. nz (sym (slot-injective n q v vp (sym (spot-valid n v) ∙ e ∙ spot-valid q vp)))) in
+        let a : entry (after .first) n ≡ entry (l .first) n = getD-set-other (l .first) (spot q) (spot n) (nodeAt k) 0
+        (λ e. nz (sym (slot-injective n q v vp (sym (spot-valid n v) ∙ e ∙ spot-valid q vp)))) in
         rw (not-under k n u (rw (ne-eqb q n nz)), a) (rest n v)
 
     linked-after : Linked k after
@@ -105,7 +115,9 @@ module _ (parents hidden : List ℕ) (entries : (k : ℕ) → 0 < k → k < 2041
       bare : getD parents k 0 ≡ noParent → Linked k (linkSlot parents hidden l k)
       bare e = rw (eq-eqb _ _ e) (same (λ n v. rw (e, ne-eqb 65535 n (λ q. valid-parent n v (sym q)))))
 
-      go : Valid (getD parents k 0) → (b : Bool) → eqb (getD hidden k 0) 0 ≡ b → Linked k (cond b (links (set (l .first) (spot (getD parents k 0)) (nodeAt k)) (set (l .next) k (getD (l .first) (spot (getD parents k 0)) 0))) l)
+      go : Valid (getD parents k 0) → (b : Bool) → eqb (getD hidden k 0) 0 ≡ b
+          → Linked k (cond b (links (set (l .first) (spot (getD parents k 0)) (nodeAt k))
+          (set (l .next) k (getD (l .first) (spot (getD parents k 0)) 0))) l)
       go vp false e = same (λ n v. rw (e, and-false (eqb (getD parents k 0) n)))
       go vp true e = linked-after k p u l d vp e
 

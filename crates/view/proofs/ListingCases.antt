@@ -9,9 +9,9 @@ use mathlib.Core.Path.{ap, refl, sym, _∙_, _≡_}
 use native.Mathlib.Omega.{arith}
 use Rattle.rules.proofs.SoundLaws.{sound-good}
 use Rattle.rules.specs.Answer.{accepted, refused, require}
-use Rattle.rules.specs.Bytes.{concat, downFrom}
+use Rattle.lists.specs.Lists.{concat, downFrom}
 use Rattle.rules.specs.Listing.{listingAnswer, listingOf}
-use Rattle.rules.specs.Log.{Log, logOf, width}
+use Rattle.rules.specs.File.{Log, logOf, width}
 use Rattle.rules.specs.Replay.{parentsOf}
 use Rattle.rules.specs.Sound.{sound}
 use Rattle.rules.specs.Tree.{slots}
@@ -27,7 +27,8 @@ pub marks-made : (log : Log) (t : List ℕ) → t ≡ noMarks → foldl mark t (
 unfolding marksOf
 marks-made log t e = rw e
 
-pub order-made : (log : Log) (view : View) (parents marks : List ℕ) (l : Links) → parents ≡ parentsOf log → marks ≡ marksOf log → l ≡ foldl (linkSlot parents (hiddenOf parents marks view)) noLinks (downFrom 2040) → tourOf l ≡ orderOf log view
+pub order-made : (log : Log) (view : View) (parents marks : List ℕ) (l : Links) → parents ≡ parentsOf log → marks ≡ marksOf log
+    → l ≡ foldl (linkSlot parents (hiddenOf parents marks view)) noLinks (downFrom 2040) → tourOf l ≡ orderOf log view
 unfolding orderOf linksOf
 order-made log view parents marks l p m e = rw (e, p, m)
 
@@ -53,6 +54,7 @@ module _ (f out : List ℕ) (view : View) where
     unfolding listingAnswer require
     listing-short h = rw (e, lt-leb (length (listingOf view (logOf width f))) (length out) h)
 
-    pub listing-done : length (listingOf view (logOf width f)) ≤ length out → listingAnswer width f view (length out) ≡ accepted (length (listingOf view (logOf width f)))
+    pub listing-done : length (listingOf view (logOf width f)) ≤ length out
+        → listingAnswer width f view (length out) ≡ accepted (length (listingOf view (logOf width f)))
     unfolding listingAnswer require
     listing-done h = rw (e, le-leb (length (listingOf view (logOf width f))) (length out) h)

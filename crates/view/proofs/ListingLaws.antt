@@ -8,26 +8,29 @@ use mathlib.Core.Logic.{inl}
 use mathlib.Core.Path.{ap, refl, sym, _∙_, _≡_}
 use native.Mathlib.Nat.{le-trans}
 use native.Mathlib.Omega.{arith}
-use Rattle.order.proofs.DepthLaws.{climb-length}
-use Rattle.order.proofs.FuelLaws.{Depth, depth-child, depth-unique, has-depth}
-use Rattle.order.proofs.GrowLaws.{Named, named-valid}
-use Rattle.order.proofs.TourLaws.{preorder-length, filter-length}
+use Rattle.rules.proofs.ClimbLaws.{climb-length, Depth, depth-child, depth-unique, up}
+use Rattle.order.proofs.FuelLaws.{has-depth}
+use Rattle.rules.proofs.KnownLaws.{Named, named-valid}
+use Rattle.order.proofs.TourLaws.{preorder-length}
+use Rattle.lists.proofs.FilterLaws.{filter-length, filter-map-filter}
 use Rattle.rules.proofs.StructureLaws.{GoodLog}
-use Rattle.rules.proofs.TreeLaws.{Valid, slot-root, up}
-use Rattle.rules.specs.Bytes.{concat, filter}
+use Rattle.rules.proofs.SlotLaws.{Valid, slot-root}
+use Rattle.lists.specs.Lists.{concat, filter}
 use Rattle.rules.specs.Listing.{children, line, listingIn, listingOf, preorder}
-use Rattle.rules.specs.Log.{Log, countsOf}
+use Rattle.rules.specs.File.{Log, countsOf}
 use Rattle.rules.specs.Replay.{parentsOf}
 use Rattle.rules.specs.Tree.{climb, depth, path, slots}
-use Rattle.rules.specs.Views.{View, keeping, shown, skipping, tombstone}
-use Rattle.order.proofs.AllLaws.{All, all-kept, all-map}
+use Rattle.rules.specs.Views.{View, keeping, shown, skipping}
+use Rattle.rules.specs.Marks.{tombstone}
+use Rattle.lists.proofs.EachLaws.{Each, each-filter, each-map, map-each}
 use Rattle.view.proofs.LinkLaws.{Chain, Linked, kids, links-right}
 use Rattle.view.proofs.MarkLaws.{mark-tombstone}
 use Rattle.view.proofs.NodesLaws.{children-slots, slot-entry}
 use Rattle.view.proofs.OrderLaws.{pre-nodes}
 use Rattle.view.proofs.PruneLaws.{pruned}
 use Rattle.view.proofs.RevealLaws.{keeping-hidden}
-use Rattle.view.proofs.SeqLaws.{filter-map-filter, map-all, map-concat, map-map, not-not, under-and}
+use Rattle.lists.proofs.ListLaws.{map-concat, map-map}
+use Rattle.lists.proofs.BoolLaws.{not-not, under-and}
 use Rattle.view.proofs.SlotLaws.{spot-node, spot-valid}
 use Rattle.view.proofs.TourLaws.{pre, tour-root}
 use Rattle.view.proofs.TreePathLaws.{Under, children-under}
@@ -51,13 +54,15 @@ module _ (log : Log) (good : GoodLog log) where
   node-is-valid : (n : ℕ) → Node n → Valid n
   node-is-valid n w = named-valid log (countsOf log) n w
 
-  unmarked-node : (n : ℕ) → Valid n → eqb (entry marks n) 0 ≡ not (tombstone log n)
+  unmarked-node : (n : ℕ) → Valid n → eqb (entry marks n) 0 ≡ not (tombstone log (countsOf log) n)
   unmarked-node n v = rw (← mark-tombstone log good n v) (sym (not-not (eqb (entry marks n) 0)))
 
   -- a node is shown if its parent is and it is not hidden itself
-  shown-child : (view : View) (n c : ℕ) → Node n → Under log good n c → shown view log P c ≡ (shown view log P n && eqb (entry (hiddenOf P marks view) c) 0)
+  shown-child : (view : View) (n c : ℕ) → Node n → Under log good n c
+      → shown view log P c ≡ (shown view log P n && eqb (entry (hiddenOf P marks view) c) 0)
   unfolding hiddenOf
-  shown-child keeping n c w u = rw (keeping-hidden log good c (node-is-valid c (u .node))) (under-and (shown keeping log P n) (shown keeping log P c) (keeping-child log good n c u))
+  shown-child keeping n c w u = rw (keeping-hidden log good c (node-is-valid c (u .node)))
+      (under-and (shown keeping log P n) (shown keeping log P c) (keeping-child log good n c u))
   shown-child skipping n c w u = rw (unmarked-node c (node-is-valid c (u .node))) (skipping-child log good n c w u)
 
   module _ (view : View) where
@@ -75,23 +80,25 @@ module _ (log : Log) (good : GoodLog log) where
 
     shown-order : filter (shown view log P) (preorder slots log P 0) ≡ pre kidsOf slots 0
     shown-order =
-        pruned log P (shown view log P) unhidden Node (λ n w. all-map _ _ (children log P n) (λ c u. (u .node, shown-child view n c w u)) (children-under log good n)) slots 0 (inl refl)
+        pruned log P (shown view log P) unhidden Node (λ n w. each-map _ _ (children log P n) (λ c u. (u .node, shown-child view n c w u))
+        (children-under log good n)) slots 0 (inl refl)
         ∙ rw (root-shown log good view)
 
     is-linked : Linked P hidden (slot-entry log good) 1 l
     is-linked = links-right P hidden (slot-entry log good)
 
     kids-same : (n : ℕ) → Valid n → kidsOf n ≡ kids P hidden (slot-entry log good) 1 n
-    kids-same n v = rw (children-slots log good n v) (filter-map-filter unhidden nodeAt (λ k. eqb (getD P k 0) n) _ 2040 1 (λ k a b. rw (spot-node k a (omega arith))))
+    kids-same n v = rw (children-slots log good n v) (filter-map-filter unhidden nodeAt (λ k. eqb (getD P k 0) n) _ 2040 1
+        (λ k a b. rw (spot-node k a (omega arith))))
 
-    kids-under : (n : ℕ) → All (Under log good n) (kidsOf n)
-    kids-under n = all-kept _ unhidden (children log P n) (children-under log good n)
+    kids-under : (n : ℕ) → Each (Under log good n) (kidsOf n)
+    kids-under n = each-filter _ unhidden (children log P n) (children-under log good n)
 
     pub order-short : length (pre kidsOf slots 0) ≤ 2041
     order-short = rw (← shown-order) (le-trans (filter-length (shown view log P) (preorder slots log P 0)) (preorder-length log good slots))
 
-    order-nodes : All Node (pre kidsOf slots 0)
-    order-nodes = pre-nodes kidsOf Node (λ n w. all-map _ _ (kidsOf n) (λ c u. u .node) (kids-under n)) slots 0 (inl refl)
+    order-nodes : Each Node (pre kidsOf slots 0)
+    order-nodes = pre-nodes kidsOf Node (λ n w. each-map _ _ (kidsOf n) (λ c u. u .node) (kids-under n)) slots 0 (inl refl)
 
     ---- the tour
 
@@ -108,15 +115,16 @@ module _ (log : Log) (good : GoodLog log) where
 
     depth-is : (d n : ℕ) → Good d n → depth P n ≡ d
     unfolding depth path
-    depth-is d n g = let e : length (climb slots P n) ≡ suc d = climb-length P slots d n (omega (arith, g .low)) (g .deep .root) (g .deep .first) in omega arith
+    depth-is d n g = let e : length (climb slots P n) ≡ suc d = climb-length P slots d n (omega (arith, g .low)) (g .deep .root)
+        (g .deep .first) in omega arith
 
     opens : (d n : ℕ) → Good d n → tree d n ≡ entryOf n d ∷ concat (map (tree (suc d)) (kidsOf n))
     opens d n g =
         let e : 2041 - d ≡ suc (2041 - suc d) = omega (arith, g .low) in
         rw (e, pre-turn kidsOf (2041 - suc d) n, depth-is d n g, map-concat withDepth (pre kidsOf (2041 - suc d)) (kidsOf n))
 
-    below : (d n : ℕ) → Good d n → All (Good (suc d)) (kidsOf n)
-    below d n g = all-map _ _ (kidsOf n) (λ c u.
+    below : (d n : ℕ) → Good d n → Each (Good (suc d)) (kidsOf n)
+    below d n g = each-map _ _ (kidsOf n) (λ c u.
         let (j, b, dc) = has-depth log good c (u .node) in
         let d′ = depth-child P d n c (u .parent) (u .below-root) (g .deep) in
         let z : suc d ≡ j = depth-unique P (suc d) j c d′ dc in
@@ -130,7 +138,8 @@ module _ (log : Log) (good : GoodLog log) where
     root-good = record { node = inl refl; deep = record { root = refl; first = λ k h z. omega arith }; low = omega arith }
 
     tour-is : tourOf l ≡ map withDepth (pre kidsOf slots 0)
-    tour-is = tour-root l kidsOf tree Good chain opens below (λ d n g. omega (arith, g .low)) root-good (rw (spot-valid 0 (inl refl), slot-root 0 refl) (is-linked .root-last)) (rw length-map order-short)
+    tour-is = tour-root l kidsOf tree Good chain opens below (λ d n g. omega (arith, g .low)) root-good
+        (rw (spot-valid 0 (inl refl), slot-root 0 refl) (is-linked .root-last)) (rw length-map order-short)
 
     ---- the lines
 
@@ -145,4 +154,5 @@ module _ (log : Log) (good : GoodLog log) where
 
     pub listing-is : linesOf marks (orderOf log view) ≡ listingOf view log
     unfolding orderOf linesOf listingOf listingIn
-    listing-is = rw (tour-is, shown-order) (ap concat (map-map (lineFor marks) withDepth (pre kidsOf slots 0) ∙ map-all Node (λ n. lineFor marks (withDepth n)) (line log P) (pre kidsOf slots 0) line-is order-nodes))
+    listing-is = rw (tour-is, shown-order) (ap concat (map-map (lineFor marks) withDepth (pre kidsOf slots 0) ∙ map-each Node
+        (λ n. lineFor marks (withDepth n)) (line log P) (pre kidsOf slots 0) line-is order-nodes))

@@ -10,25 +10,34 @@ use mathlib.Core.Logic.{inl, inr, _⊎_}
 use mathlib.Core.Path.{ap, refl, sym, _∙_, _≡_}
 use native.Mathlib.Nat.{add-zero, le-of-suc-le-suc, not-suc-le-zero}
 use native.Mathlib.Omega.{arith}
-use Rattle.order.proofs.GrowLaws.{Named, known-of, known-reads, named-valid, names-add}
+use Rattle.rules.proofs.KnownLaws.{Named, known-of, known-reads, named-valid, names-add}
 use Rattle.order.proofs.NodeLaws.{added-is}
 use Rattle.order.proofs.TreeTheorem.{is-tree}
 use Rattle.replay.proofs.ClimbLaws.{parent-read}
-use Rattle.rules.proofs.BoolLaws.{both-ways, fails, never}
-use Rattle.rules.proofs.ListLaws.{map-upFrom}
+use Rattle.lists.proofs.BoolLaws.{both-ways, fails, never}
+use Rattle.lists.proofs.RangeLaws.{map-upFrom, upFrom-add, upFrom-cons, upFrom-none}
 use Rattle.rules.proofs.StructureLaws.{GoodLog, count-held, good-ops}
-use Rattle.rules.proofs.TreeLaws.{Valid}
-use Rattle.rules.specs.Bytes.{concat, filter, upFrom}
+use Rattle.rules.proofs.SlotLaws.{Valid}
+use Rattle.lists.specs.Lists.{concat, filter, upFrom}
 use Rattle.rules.specs.Listing.{children}
-use Rattle.rules.specs.Log.{Log, countsOf, known, opAt, opsOf}
+use Rattle.rules.specs.File.{Log, countsOf, opAt, opsOf}
+use Rattle.rules.specs.Log.{known}
 use Rattle.rules.specs.Op.{Op, countIn, isAdd, nodeNumber, nodeOf, replicas}
 use Rattle.rules.specs.Replay.{addedIn, opsWithin, parentsOf}
 use Rattle.rules.specs.Tree.{noParent, parentIn}
 use Rattle.rules.specs.Views.{nodes}
-use Rattle.view.proofs.SeqLaws.{blocks, filter-map-filter, map-filter-concat, none-from}
+use Rattle.lists.proofs.FilterLaws.{filter-map-filter, map-filter-concat, none-from}
 use Rattle.view.proofs.SlotLaws.{node-nonzero, node-slot, seat-node, slot-node}
 use Rattle.view.proofs.TreePathLaws.{named-parent, table-size, whole}
 use Rattle.view.specs.Tables.{nodeAt}
+
+pub blocks : (n a : ℕ) → 1 ≤ a → concat (map (λ s. upFrom (255 * (s - 1) + 1) 255) (upFrom a n)) ≡ upFrom (255 * (a - 1) + 1) (255 * n)
+unfolding concat
+blocks zero a l = rw (upFrom-none a) (sym (upFrom-none (255 * (a - 1) + 1)))
+blocks (suc n) a l =
+    let e : 255 * suc n ≡ 255 + 255 * n = omega arith in
+    let q : 255 * (suc a - 1) + 1 ≡ 255 * (a - 1) + 1 + 255 = omega arith in
+    rw (upFrom-cons a n, blocks n (suc a) (omega arith), e, q) (sym (upFrom-add (255 * (a - 1) + 1) 255 (255 * n)))
 
 ops-nodes : (p : ℕ → Bool) (g : ℕ → ℕ) (rs : List Op) (n a : ℕ) → length rs ≤ n
     → ((i : ℕ) → i < length rs → (isAdd (getD rs i []) ≡ p (a + i)) × (isAdd (getD rs i []) ≡ true → nodeOf (getD rs i []) ≡ g (a + i)))
@@ -45,7 +54,9 @@ ops-nodes p g (r ∷ rs) (suc n) a l h o =
     (λ i b c. let q : suc a + i ≡ a + suc i = omega arith in rw q (o (suc i) (omega arith) (omega arith))) in
     go (isAdd r) refl (rw z at e) (rw z at g₀) ih
   where
-    go : (b : Bool) → isAdd r ≡ b → isAdd r ≡ p a → (isAdd r ≡ true → nodeOf r ≡ g a) → map nodeOf (filter isAdd rs) ≡ map g (filter p (upFrom (suc a) n)) → map nodeOf (cond b (r ∷ filter isAdd rs) (filter isAdd rs)) ≡ map g (cond (p a) (a ∷ filter p (upFrom (suc a) n)) (filter p (upFrom (suc a) n)))
+    go : (b : Bool) → isAdd r ≡ b → isAdd r ≡ p a → (isAdd r ≡ true → nodeOf r ≡ g a)
+        → map nodeOf (filter isAdd rs) ≡ map g (filter p (upFrom (suc a) n)) → map nodeOf (cond b (r ∷ filter isAdd rs) (filter isAdd rs))
+        ≡ map g (cond (p a) (a ∷ filter p (upFrom (suc a) n)) (filter p (upFrom (suc a) n)))
     go true q e m ih = rw (← e, q, m q, ih)
     go false q e m ih = rw (← e, q, ih)
 
@@ -67,13 +78,21 @@ module _ (log : Log) (good : GoodLog log) where
     held-add : i < countIn (countsOf log) s → isAdd (opAt log s (i + 1)) ≡ held (255 * (s - 1) + 1 + i)
     held-add h =
         both-ways (isAdd (opAt log s (i + 1))) (held (255 * (s - 1) + 1 + i))
-        (λ e. known-of log (countsOf log) _ (record { low = rw high l; high = rw high u; first = rw low (omega arith); last = rw (low, high) (omega arith) }) (rw (low, high) e))
+        (λ e. known-of log (countsOf log) _ (record {
+          low = rw high l;
+          high = rw high u;
+          first = rw low (omega arith);
+          last = rw (low, high)
+              (omega arith);
+        }) (rw (low, high) e))
         (λ e. rw (low, high) at (known-reads log (countsOf log) _ e .1))
 
     unheld : countIn (countsOf log) s ≤ i → held (255 * (s - 1) + 1 + i) ≡ false
-    unheld h = fails _ (λ e. let w = known-reads log (countsOf log) _ e .0 .last in let w′ : i + 1 ≤ countIn (countsOf log) s = rw (low, high) at w in omega arith)
+    unheld h = fails _ (λ e. let w = known-reads log (countsOf log) _ e .0 .last in let w′ : i + 1 ≤ countIn (countsOf log) s =
+        rw (low, high) at w in omega arith)
 
-    add-node : i < countIn (countsOf log) s → isAdd (opAt log s (i + 1)) ≡ true → nodeOf (opAt log s (i + 1)) ≡ nodeAt (255 * (s - 1) + 1 + i)
+    add-node : i < countIn (countsOf log) s → isAdd (opAt log s (i + 1)) ≡ true
+        → nodeOf (opAt log s (i + 1)) ≡ nodeAt (255 * (s - 1) + 1 + i)
     unfolding isAdd nodeNumber
     add-node h e =
         let x = good-ops good s (i + 1) l u (omega arith) (omega arith) in
@@ -83,11 +102,13 @@ module _ (log : Log) (good : GoodLog log) where
   unfolding opAt
   op-at s i = let e : i + 1 - 1 ≡ i = omega arith in rw e
 
-  seat-nodes : (s : ℕ) → 1 ≤ s → s ≤ 8 → map nodeOf (filter isAdd (take (countIn (countsOf log) s) (opsOf log s))) ≡ map nodeAt (filter held (upFrom (255 * (s - 1) + 1) 255))
+  seat-nodes : (s : ℕ) → 1 ≤ s → s ≤ 8 → map nodeOf (filter isAdd (take (countIn (countsOf log) s) (opsOf log s))) ≡ map nodeAt
+      (filter held (upFrom (255 * (s - 1) + 1) 255))
   seat-nodes s l u =
       let c = count-held log s in
       let few = good .counts s l u in
-      let t : take (countIn (countsOf log) s) (opsOf log s) ≡ opsOf log s = take-all (countIn (countsOf log) s) (opsOf log s) (omega arith) in
+      let t : take (countIn (countsOf log) s) (opsOf log s) ≡ opsOf log s = take-all (countIn (countsOf log) s) (opsOf log s)
+      (omega arith) in
       rw t (ops-nodes held nodeAt (opsOf log s) 255 (255 * (s - 1) + 1) (omega arith)
       (λ i h. rw (op-at s i) (held-add s i l u (omega arith) (omega arith), add-node s i l u (omega arith) (omega arith)))
       (λ i h b. unheld s i l u b (omega arith)))
@@ -96,7 +117,8 @@ module _ (log : Log) (good : GoodLog log) where
   unfolding nodes addedIn opsWithin replicas
   nodes-slots =
       map-filter-concat nodeOf isAdd (λ s. take (countIn (countsOf log) s) (opsOf log s)) (upFrom 1 8)
-      ∙ ap concat (map-upFrom _ (λ s. map nodeAt (filter held (upFrom (255 * (s - 1) + 1) 255))) 8 1 (λ s l u. seat-nodes s l (omega arith)))
+      ∙ ap concat (map-upFrom _ (λ s. map nodeAt (filter held (upFrom (255 * (s - 1) + 1) 255))) 8 1
+      (λ s l u. seat-nodes s l (omega arith)))
       ∙ sym (map-filter-concat nodeAt held (λ s. upFrom (255 * (s - 1) + 1) 255) (upFrom 1 8))
       ∙ ap (λ ks. map nodeAt (filter held ks)) (blocks 8 1 (omega arith))
 
@@ -123,9 +145,11 @@ module _ (log : Log) (good : GoodLog log) where
       go false e = inl (unheld-parent k l u e)
 
   -- children, by slots
-  pub children-slots : (n : ℕ) → Valid n → children log (parentsOf log) n ≡ map nodeAt (filter (λ k. eqb (getD (parentsOf log) k 0) n) (upFrom 1 2040))
+  pub children-slots : (n : ℕ) → Valid n
+      → children log (parentsOf log) n ≡ map nodeAt (filter (λ k. eqb (getD (parentsOf log) k 0) n) (upFrom 1 2040))
   unfolding children
-  children-slots n v = rw nodes-slots (filter-map-filter (λ m. eqb (parentIn (parentsOf log) m) n) nodeAt held (λ k. eqb (getD (parentsOf log) k 0) n) 2040 1 (λ k l u. same k (omega arith) (omega arith)))
+  children-slots n v = rw nodes-slots (filter-map-filter (λ m. eqb (parentIn (parentsOf log) m) n) nodeAt held
+      (λ k. eqb (getD (parentsOf log) k 0) n) 2040 1 (λ k l u. same k (omega arith) (omega arith)))
     where
       same : (k : ℕ) → 0 < k → k < 2041 → (held k && eqb (parentIn (parentsOf log) (nodeAt k)) n) ≡ eqb (getD (parentsOf log) k 0) n
       same k l u = rw (slot-parent k l u) (go (held k) refl)

@@ -11,7 +11,7 @@ use native.Mathlib.Omega.{arith}
 use Rattle.order.proofs.TourLaws.{sound-listing}
 use Rattle.rules.specs.Answer.{accepted, refused, require}
 use Rattle.rules.specs.Listing.{listing, listingAnswer, listingOf, outline, refusedLine}
-use Rattle.rules.specs.Log.{fileEnd, logOf, width}
+use Rattle.rules.specs.File.{fileEnd, logOf, width}
 use Rattle.rules.specs.Sound.{sound}
 use Rattle.rules.specs.Views.{View, keeping}
 use Rattle.view.specs.Answers.{putText, textAnswer}
@@ -66,6 +66,8 @@ outline-size f = go (sound width f) refl
     ]
 
 -- lent so many bytes, the call puts the whole output in front
-pub outline-printed : (f out : List ℕ) → 24492 ≤ length out → (putText (outline width f) out .answer ≡ accepted (length (outline width f))) × (putText (outline width f) out .out ≡ outline width f ++ drop (length (outline width f)) out)
+pub outline-printed : (f out : List ℕ) → 24492 ≤ length out
+    → (putText (outline width f) out .answer ≡ accepted (length (outline width f))) × (putText (outline width f) out .out ≡ outline width f
+    ++ drop (length (outline width f)) out)
 unfolding putText
 outline-printed f out h = let s = outline-size f in rw (text-done (outline width f) out (omega arith)) (refl, refl)

@@ -6,10 +6,11 @@ use mathlib.Core.Bool.{false, true}
 use mathlib.Core.List.{List}
 use mathlib.Core.Path.{_≡_}
 use native.Mathlib.Omega.{arith}
-use Rattle.order.proofs.GrowLaws.{parent-reads}
+use Rattle.rules.proofs.KnownLaws.{parent-reads}
 use Rattle.rules.proofs.SoundLaws.{sound-good}
 use Rattle.rules.specs.Answer.{accepted, refused, require}
-use Rattle.rules.specs.Log.{countsOf, knownParent, logOf, width}
+use Rattle.rules.specs.File.{countsOf, logOf, width}
+use Rattle.rules.specs.Log.{knownParent}
 use Rattle.rules.specs.Path.{pathAnswer, pathOf}
 use Rattle.rules.specs.Replay.{parentsOf}
 use Rattle.rules.specs.Sound.{sound}
@@ -35,6 +36,12 @@ module _ (f out : List ℕ) (n : ℕ) where
       unfolding pathAnswer require pathOf
       path-short h = rw (e, k, lt-leb (length (path (parentsOf (logOf width f)) n)) (length out) (omega (arith, known-way .long)))
 
-      pub path-done : depth (parentsOf (logOf width f)) n < length out → pathAnswer width f (length out) n ≡ accepted (depth (parentsOf (logOf width f)) n + 1)
+      pub path-done : depth (parentsOf (logOf width f)) n < length out
+          → pathAnswer width f (length out) n ≡ accepted (depth (parentsOf (logOf width f)) n + 1)
       unfolding pathAnswer require pathOf
-      path-done h = rw (e, k, le-leb (length (path (parentsOf (logOf width f)) n)) (length out) (omega (arith, known-way .long)), known-way .long)
+      path-done h = rw (
+        e,
+        k,
+        le-leb (length (path (parentsOf (logOf width f)) n)) (length out) (omega (arith, known-way .long)),
+        known-way .long,
+      )

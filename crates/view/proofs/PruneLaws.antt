@@ -3,27 +3,30 @@ use Prim.Native.Nat.{suc, zero, ℕ}
 use mathlib.Core.Bool.{_&&_, Bool, cond, false, true}
 use mathlib.Core.List.{_++_, List, [], map, _∷_}
 use mathlib.Core.Path.{_≡_, refl, _∙_}
-use Rattle.rules.specs.Bytes.{concat, filter}
+use Rattle.lists.specs.Lists.{concat, filter}
 use Rattle.rules.specs.Listing.{children, preorder}
-use Rattle.rules.specs.Log.{Log}
-use Rattle.order.proofs.AllLaws.{All, all-map}
-use Rattle.view.proofs.SeqLaws.{filter-concat}
+use Rattle.rules.specs.File.{Log}
+use Rattle.lists.proofs.EachLaws.{Each, each-map}
+use Rattle.lists.proofs.FilterLaws.{filter-concat}
 use Rattle.view.proofs.TourLaws.{pre}
 
-kept-children : (g : ℕ → Bool) (b : Bool) (F G : ℕ → List ℕ) (cs : List ℕ) → All (λ c. F c ≡ cond (b && g c) (G c) []) cs → concat (map F cs) ≡ cond b (concat (map G (filter g cs))) []
+kept-children : (g : ℕ → Bool) (b : Bool) (F G : ℕ → List ℕ) (cs : List ℕ) → Each (λ c. F c ≡ cond (b && g c) (G c) []) cs
+    → concat (map F cs) ≡ cond b (concat (map G (filter g cs))) []
 unfolding concat filter
 kept-children g true F G [] a = refl
 kept-children g false F G [] a = refl
 kept-children g false F G (c ∷ cs) a = rw (a .0) (kept-children g false F G cs (a .1))
 kept-children g true F G (c ∷ cs) a = go (g c) (a .0) (kept-children g true F G cs (a .1))
   where
-    go : (t : Bool) → F c ≡ cond t (G c) [] → concat (map F cs) ≡ concat (map G (filter g cs)) → F c ++ concat (map F cs) ≡ concat (map G (cond t (c ∷ filter g cs) (filter g cs)))
+    go : (t : Bool) → F c ≡ cond t (G c) [] → concat (map F cs) ≡ concat (map G (filter g cs))
+        → F c ++ concat (map F cs) ≡ concat (map G (cond t (c ∷ filter g cs) (filter g cs)))
     go true e ih = rw (e, ih)
     go false e ih = rw (e, ih)
 
 module _ (log : Log) (parents : List ℕ) (shows g : ℕ → Bool) (Node : ℕ → Type 0)
-    (by-parent : (n : ℕ) → Node n → All (λ c. Node c × (shows c ≡ (shows n && g c))) (children log parents n)) where
-  pub pruned : (k n : ℕ) → Node n → filter shows (preorder k log parents n) ≡ cond (shows n) (pre (λ m. filter g (children log parents m)) k n) []
+    (by-parent : (n : ℕ) → Node n → Each (λ c. Node c × (shows c ≡ (shows n && g c))) (children log parents n)) where
+  pub pruned : (k n : ℕ) → Node n
+      → filter shows (preorder k log parents n) ≡ cond (shows n) (pre (λ m. filter g (children log parents m)) k n) []
   unfolding preorder pre filter
   pruned zero n w = go (shows n)
     where
@@ -31,8 +34,16 @@ module _ (log : Log) (parents : List ℕ) (shows g : ℕ → Bool) (Node : ℕ �
       go true = refl
       go false = refl
   pruned (suc k) n w =
-      rw (filter-concat shows (preorder k log parents) (children log parents n), kept-children g (shows n) (λ c. filter shows (preorder k log parents c)) (pre (λ m. filter g (children log parents m)) k) (children log parents n) (all-map _ _ (children log parents n) (λ c h. pruned k c (h .0) ∙ rw (h .1)) (by-parent n w))) (go (shows n))
+      rw (
+        filter-concat shows (preorder k log parents) (children log parents n),
+        kept-children g (shows n)
+            (λ c. filter shows (preorder k log parents c)) (pre (λ m. filter g (children log parents m)) k) (children log parents n)
+            (each-map _ _ (children log parents n) (λ c h. pruned k c (h .0) ∙ rw (h .1)) (by-parent n w)),
+      ) (go (shows n))
     where
-      go : (b : Bool) → cond b (n ∷ cond b (concat (map (pre (λ m. filter g (children log parents m)) k) (filter g (children log parents n)))) []) (cond b (concat (map (pre (λ m. filter g (children log parents m)) k) (filter g (children log parents n)))) []) ≡ cond b (n ∷ concat (map (pre (λ m. filter g (children log parents m)) k) (filter g (children log parents n)))) []
+      go : (b : Bool) → cond b
+          (n ∷ cond b (concat (map (pre (λ m. filter g (children log parents m)) k) (filter g (children log parents n)))) [])
+          (cond b (concat (map (pre (λ m. filter g (children log parents m)) k) (filter g (children log parents n)))) []) ≡ cond b
+          (n ∷ concat (map (pre (λ m. filter g (children log parents m)) k) (filter g (children log parents n)))) []
       go true = refl
       go false = refl

@@ -9,17 +9,19 @@ use mathlib.Core.List.{List, [], map, _∷_}
 use mathlib.Core.Path.{ap, refl, _∙_, _≡_}
 use native.Mathlib.Decide.{ℕ-discrete}
 use native.Mathlib.Omega.{arith}
-use Rattle.order.proofs.GrowLaws.{known-more, known-reads, names-node}
+use Rattle.rules.proofs.KnownLaws.{known-later, known-reads, names-node}
 use Rattle.order.proofs.LevelLaws.{counted-bound}
-use Rattle.rules.proofs.BoolLaws.{and-left, and-right, map-replicas}
+use Rattle.lists.proofs.BoolLaws.{and-left, and-right}
+use Rattle.rules.proofs.ReplicaLaws.{map-replicas}
 use Rattle.rules.proofs.FileLaws.{log-eta}
 use Rattle.rules.proofs.StructureLaws.{GoodLog, count-held, good-ops, held-in}
-use Rattle.rules.specs.Bytes.{all, any, concat, filter, isIn}
-use Rattle.rules.specs.Log.{Log, countsOf, known, opAt, opsOf}
+use Rattle.lists.specs.Lists.{all, any, concat, filter, isIn}
+use Rattle.rules.specs.File.{Log, countsOf, opAt, opsOf}
+use Rattle.rules.specs.Log.{known}
 use Rattle.rules.specs.Op.{Op, countIn, isRemove, kindOf, nodeOf, vectorOf}
 use Rattle.rules.specs.Replay.{opsWithin, removedIn}
-use Rattle.rules.specs.Views.{tombstone}
-use Rattle.order.proofs.OnceLaws.{all-greatest}
+use Rattle.rules.specs.Marks.{tombstone}
+use Rattle.lists.proofs.GreatestLaws.{all-greatest}
 
 pub ops-all : (log : Log) → length log ≡ 8 → opsWithin log (countsOf log) ≡ concat log
 unfolding opsWithin
@@ -35,13 +37,16 @@ removesKnown log r = not (isRemove r) || known log (countsOf log) (nodeOf r)
 module _ (log : Log) (good : GoodLog log) where
   pub removes-known : all (removesKnown log) (opsWithin log (countsOf log)) ≡ true
   unfolding isRemove
-  removes-known = all-greatest (removesKnown log) (opsWithin log (countsOf log)) (counted-bound log (countsOf log) (λ r. cond (removesKnown log r) 0 1) 0 (λ s q l u lq uq. rw (one s q l u lq uq) (omega arith)))
+  removes-known = all-greatest (removesKnown log) (opsWithin log (countsOf log))
+      (counted-bound log (countsOf log) (λ r. cond (removesKnown log r) 0 1) 0 (λ s q l u lq uq. rw (one s q l u lq uq) (omega arith)))
     where
       one : (s q : ℕ) → 1 ≤ s → s ≤ 8 → 1 ≤ q → q ≤ countIn (countsOf log) s → removesKnown log (opAt log s q) ≡ true
       one s q l u lq uq = elim (ℕ-discrete (kindOf (opAt log s q)) 2) [
         | yes e ↦
             let x = good-ops good s q l u lq uq in
-            rw (known-more log (vectorOf (opAt log s q)) (countsOf log) (held-in log (vectorOf (opAt log s q)) (x .is-covered)) (nodeOf (opAt log s q)) (names-node log (opAt log s q) (x .names) (λ k. omega arith))) (or-true (not (eqb (kindOf (opAt log s q)) 2)))
+            rw (known-later log (vectorOf (opAt log s q)) (countsOf log) (held-in log (vectorOf (opAt log s q)) (x .is-covered))
+            (nodeOf (opAt log s q)) (names-node log (opAt log s q) (x .names) (λ k. omega arith)))
+            (or-true (not (eqb (kindOf (opAt log s q)) 2)))
         | no e ↦ rw (ne-eqb (kindOf (opAt log s q)) 2 e)
       ]
 
@@ -50,13 +55,14 @@ module _ (log : Log) (good : GoodLog log) where
   root-in [] f = refl
   root-in (r ∷ rs) f = go (isRemove r) refl (root-in rs (and-right (removesKnown log r) _ f))
     where
-      go : (b : Bool) → isRemove r ≡ b → any (eqb 0) (map nodeOf (filter isRemove rs)) ≡ false → any (eqb 0) (map nodeOf (cond b (r ∷ filter isRemove rs) (filter isRemove rs))) ≡ false
+      go : (b : Bool) → isRemove r ≡ b → any (eqb 0) (map nodeOf (filter isRemove rs)) ≡ false
+          → any (eqb 0) (map nodeOf (cond b (r ∷ filter isRemove rs) (filter isRemove rs))) ≡ false
       go false e ih = ih
       go true e ih =
           let w : known log (countsOf log) (nodeOf r) ≡ true = rw e at (and-left (removesKnown log r) _ f) in
           let h = known-reads log (countsOf log) (nodeOf r) w .0 in
           rw (ne-eqb 0 (nodeOf r) (λ z. omega (arith, h .low)), ih)
 
-  pub root-unmarked : tombstone log 0 ≡ false
+  pub root-unmarked : tombstone log (countsOf log) 0 ≡ false
   unfolding tombstone removedIn
   root-unmarked = root-in (opsWithin log (countsOf log)) removes-known

@@ -6,9 +6,9 @@ use mathlib.Core.List.{_++_, List, [], append-assoc, append-nil, map, _∷_}
 use mathlib.Core.Path.{ap, refl, sym, _∙_, _≡_}
 use native.Mathlib.Nat.{le-of-suc-le-suc, not-suc-le-zero}
 use native.Mathlib.Omega.{arith}
-use Rattle.rules.specs.Bytes.{concat}
+use Rattle.lists.specs.Lists.{concat}
 use Rattle.rules.specs.Tree.{slots}
-use Rattle.order.proofs.AllLaws.{All}
+use Rattle.lists.proofs.EachLaws.{Each}
 use Rattle.view.proofs.LinkLaws.{Chain, kids}
 use Rattle.view.specs.Tables.{Links, entry, entryOf, push, tour, tourOf}
 
@@ -32,7 +32,7 @@ record Group : Type 0 where
 module _ (l : Links) (kids : ℕ → List ℕ) (T : ℕ → ℕ → List ℕ) (Good : ℕ → ℕ → Type 0)
     (chain : (d n : ℕ) → Good d n → Chain (l .next) (entry (l .first) n) (kids n))
     (opens : (d n : ℕ) → Good d n → T d n ≡ entryOf n d ∷ concat (map (T (suc d)) (kids n)))
-    (below : (d n : ℕ) → Good d n → All (Good (suc d)) (kids n))
+    (below : (d n : ℕ) → Good d n → Each (Good (suc d)) (kids n))
     (small : (d n : ℕ) → Good d n → d < 65535) where
   abbrev heads : List Group → List ℕ
   heads [] = []
@@ -44,13 +44,13 @@ module _ (l : Links) (kids : ℕ → List ℕ) (T : ℕ → ℕ → List ℕ) (G
 
   abbrev Fine : ℕ → List ℕ → Type 0
   Fine d [] = Unit {0}
-  Fine d (x ∷ xs) = Good d x × All (Good d) xs × Chain (l .next) (entry (l .next) x) xs
+  Fine d (x ∷ xs) = Good d x × Each (Good d) xs × Chain (l .next) (entry (l .next) x) xs
 
   abbrev Right : List Group → Type 0
   Right [] = Unit {0}
   Right (g ∷ gs) = Fine (g .depth) (g .members) × Right gs
 
-  fine-of : (d y : ℕ) (ys : List ℕ) → All (Good d) ys → Chain (l .next) y ys → Fine d ys
+  fine-of : (d y : ℕ) (ys : List ℕ) → Each (Good d) ys → Chain (l .next) y ys → Fine d ys
   fine-of d y [] a c = tt
   fine-of d y (x ∷ xs) (g, a) (e, nz, c) = (g, a, c)
 
@@ -71,7 +71,8 @@ module _ (l : Links) (kids : ℕ → List ℕ) (T : ℕ → ℕ → List ℕ) (G
   abbrev Tours : ℕ → Type 0
   Tours k = (gs : List Group) → Right gs → length (flat gs) ≤ k → tour k l (heads gs) ≡ flat gs
 
-  module _ (k : ℕ) (ih : Tours k) (gs : List Group) (r : Right gs) (d x : ℕ) (xs : List ℕ) (good : Good d x) (a : All (Good d) xs) (c : Chain (l .next) (entry (l .next) x) xs) where
+  module _ (k : ℕ) (ih : Tours k) (gs : List Group) (r : Right gs) (d x : ℕ) (xs : List ℕ) (good : Good d x) (a : Each (Good d) xs)
+      (c : Chain (l .next) (entry (l .next) x) xs) where
     abbrev after : List Group
     after = (record { depth = suc d; members = kids x }) ∷ (record { depth = d; members = xs }) ∷ gs
 
@@ -79,20 +80,25 @@ module _ (l : Links) (kids : ℕ → List ℕ) (T : ℕ → ℕ → List ℕ) (G
     right-after = (fine-of (suc d) _ (kids x) (below d x good) (chain d x good), (fine-of d _ xs a c, r))
 
     heads-after : heads after ≡ push (entry (l .first) x) (suc d) (push (entry (l .next) x) d (heads gs))
-    heads-after = push-top (suc d) (entry (l .first) x) (kids x) (top d xs (heads gs)) (chain d x good) ∙ ap (push (entry (l .first) x) (suc d)) (push-top d (entry (l .next) x) xs (heads gs) c)
+    heads-after = push-top (suc d) (entry (l .first) x) (kids x) (top d xs (heads gs)) (chain d x good)
+        ∙ ap (push (entry (l .first) x) (suc d)) (push-top d (entry (l .next) x) xs (heads gs) c)
 
     flat-after : concat (map (T d) (x ∷ xs)) ++ flat gs ≡ entryOf x d ∷ flat after
     unfolding concat
-    flat-after = rw (opens d x good) (ap (λ ys. entryOf x d ∷ ys) (append-assoc (concat (map (T (suc d)) (kids x))) (concat (map (T d) xs)) (flat gs)))
+    flat-after = rw (opens d x good) (ap (λ ys. entryOf x d ∷ ys) (append-assoc (concat (map (T (suc d)) (kids x))) (concat (map (T d) xs))
+        (flat gs)))
 
     tour-step : tour (suc k) l (entryOf x d ∷ heads gs) ≡ entryOf x d ∷ tour k l (heads after)
     unfolding tour
     tour-step = rw (node-back x d (small d x good), depth-back x d (small d x good), depth-next d (small d x good), heads-after)
 
-    tour-one : length (concat (map (T d) (x ∷ xs)) ++ flat gs) ≤ suc k → tour (suc k) l (entryOf x d ∷ heads gs) ≡ concat (map (T d) (x ∷ xs)) ++ flat gs
-    tour-one h = let h′ : suc (length (flat after)) ≤ suc k = rw flat-after at h in tour-step ∙ ap (λ ys. entryOf x d ∷ ys) (ih after right-after (le-of-suc-le-suc h′)) ∙ sym flat-after
+    tour-one : length (concat (map (T d) (x ∷ xs)) ++ flat gs) ≤ suc k
+        → tour (suc k) l (entryOf x d ∷ heads gs) ≡ concat (map (T d) (x ∷ xs)) ++ flat gs
+    tour-one h = let h′ : suc (length (flat after)) ≤ suc k = rw flat-after at h in tour-step ∙ ap (λ ys. entryOf x d ∷ ys)
+        (ih after right-after (le-of-suc-le-suc h′)) ∙ sym flat-after
 
-  none : (d : ℕ) (gs : List Group) (k : ℕ) → (length (flat gs) ≤ suc k → tour (suc k) l (heads gs) ≡ flat gs) → length (concat (map (T d) []) ++ flat gs) ≤ suc k → tour (suc k) l (heads gs) ≡ concat (map (T d) []) ++ flat gs
+  none : (d : ℕ) (gs : List Group) (k : ℕ) → (length (flat gs) ≤ suc k → tour (suc k) l (heads gs) ≡ flat gs)
+      → length (concat (map (T d) []) ++ flat gs) ≤ suc k → tour (suc k) l (heads gs) ≡ concat (map (T d) []) ++ flat gs
   unfolding concat
   none d gs k rest h = rest h
 
@@ -101,7 +107,9 @@ module _ (l : Links) (kids : ℕ → List ℕ) (T : ℕ → ℕ → List ℕ) (G
   tour-suc k ih [] r h = refl
   tour-suc k ih (g ∷ gs) r h = go (g .depth) (g .members) (r .0) h (tour-suc k ih gs (r .1))
     where
-      go : (d : ℕ) (ys : List ℕ) → Fine d ys → length (concat (map (T d) ys) ++ flat gs) ≤ suc k → (length (flat gs) ≤ suc k → tour (suc k) l (heads gs) ≡ flat gs) → tour (suc k) l (top d ys (heads gs)) ≡ concat (map (T d) ys) ++ flat gs
+      go : (d : ℕ) (ys : List ℕ) → Fine d ys → length (concat (map (T d) ys) ++ flat gs) ≤ suc k
+          → (length (flat gs) ≤ suc k → tour (suc k) l (heads gs) ≡ flat gs) → tour (suc k) l (top d ys (heads gs)) ≡ concat (map (T d) ys)
+          ++ flat gs
       go d [] f h rest = none d gs k rest h
       go d (x ∷ xs) (good, a, c) h rest = tour-one k ih gs (r .1) d x xs good a c h
 

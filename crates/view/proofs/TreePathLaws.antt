@@ -9,41 +9,45 @@ use mathlib.Core.Logic.{inr, ⊎-elim}
 use mathlib.Core.Path.{ap, refl, sym, _∙_, _≡_}
 use native.Mathlib.Nat.{le-of-suc-le-suc, not-suc-le-zero}
 use native.Mathlib.Omega.{arith}
-use Rattle.order.proofs.FuelLaws.{Depth, climb-enough, depth-unique, has-depth}
-use Rattle.order.proofs.GrowLaws.{Named, known-reads, replay-reaches}
+use Rattle.rules.proofs.ClimbLaws.{Depth, climb-enough, depth-unique, Reaches, up, up-add}
+use Rattle.order.proofs.FuelLaws.{has-depth}
+use Rattle.rules.proofs.KnownLaws.{Named, known-reads}
+use Rattle.order.proofs.RunLaws.{replay-reaches}
 use Rattle.order.proofs.LevelLaws.{Cut}
 use Rattle.order.proofs.NodeLaws.{added-is}
 use Rattle.order.proofs.TreeTheorem.{is-tree}
-use Rattle.rules.proofs.BoolLaws.{or-cases}
+use Rattle.lists.proofs.BoolLaws.{or-cases}
 use Rattle.rules.proofs.StructureLaws.{GoodLog, counts-closed, counts-covered}
-use Rattle.rules.proofs.TreeLaws.{Reaches, up, up-add}
-use Rattle.rules.specs.Bytes.{any, isIn}
+use Rattle.lists.specs.Lists.{any, isIn}
 use Rattle.rules.specs.Listing.{children}
-use Rattle.rules.specs.Log.{Log, countsOf, known}
+use Rattle.rules.specs.File.{Log, countsOf}
+use Rattle.rules.specs.Log.{known}
 use Rattle.rules.specs.Replay.{parentsOf}
 use Rattle.rules.specs.Tree.{climb, parentIn, path, slots}
 use Rattle.rules.specs.Views.{nodes}
-use Rattle.order.proofs.AllLaws.{All}
-use Rattle.view.proofs.SeqLaws.{all-filtered}
+use Rattle.lists.proofs.EachLaws.{Each, each-passing}
 
 pub up-none : (parents : List ℕ) (n : ℕ) → up parents 0 n ≡ n
 unfolding up
 up-none parents n = refl
 
-pub climb-at : (parents : List ℕ) (k j n i : ℕ) → j < k → i ≤ j → ((i : ℕ) → i < j → up parents i n ≡ 0 → ⊥) → getD (climb k parents n) i 0 ≡ up parents i n
+pub climb-at : (parents : List ℕ) (k j n i : ℕ) → j < k → i ≤ j → ((i : ℕ) → i < j → up parents i n ≡ 0 → ⊥)
+    → getD (climb k parents n) i 0 ≡ up parents i n
 unfolding climb up
 climb-at parents zero j n i h l o = absurd (not-suc-le-zero h)
 climb-at parents (suc k) j n zero h l o = refl
 climb-at parents (suc k) zero n (suc i) h l o = absurd (not-suc-le-zero l)
 climb-at parents (suc k) (suc j) n (suc i) h l o =
-    rw (ne-eqb n 0 (o 0 (omega arith))) (climb-at parents k j (parentIn parents n) i (le-of-suc-le-suc h) (le-of-suc-le-suc l) (λ m b. o (suc m) (omega arith)))
+    rw (ne-eqb n 0 (o 0 (omega arith))) (climb-at parents k j (parentIn parents n) i (le-of-suc-le-suc h) (le-of-suc-le-suc l)
+    (λ m b. o (suc m) (omega arith)))
 
 pub climb-turn : (parents : List ℕ) (k n : ℕ) → climb (suc k) parents n ≡ n ∷ cond (eqb n 0) [] (climb k parents (parentIn parents n))
 unfolding climb
 climb-turn parents k n = refl
 
 -- what is above a node of a climb is on it
-pub climb-closed : (parents : List ℕ) (k j m c : ℕ) → Depth parents j m → j < k → isIn c (climb k parents m) ≡ true → (c ≡ 0 → ⊥) → isIn (parentIn parents c) (climb k parents m) ≡ true
+pub climb-closed : (parents : List ℕ) (k j m c : ℕ) → Depth parents j m → j < k → isIn c (climb k parents m) ≡ true → (c ≡ 0 → ⊥)
+    → isIn (parentIn parents c) (climb k parents m) ≡ true
 unfolding climb isIn any up
 climb-closed parents zero j m c d h i nz = absurd (not-suc-le-zero h)
 climb-closed parents (suc k) zero m c d h i nz =
@@ -56,14 +60,16 @@ climb-closed parents (suc k) (suc j) m c d h i nz =
     let d′ : Depth parents j (parentIn parents m) = record { root = d .root; first = λ n w. d .first (suc n) (omega arith) } in
     rw e (⊎-elim
     (λ (q : eqb c m ≡ true). rw (eqb-true c m q, head k (parentIn parents m) (omega arith)) (or-true (eqb (parentIn parents m) m)))
-    (λ (q : isIn c (climb k parents (parentIn parents m)) ≡ true). rw (climb-closed parents k j (parentIn parents m) c d′ (le-of-suc-le-suc h) q nz) (or-true (eqb (parentIn parents c) m)))
+    (λ (q : isIn c (climb k parents (parentIn parents m)) ≡ true). rw (climb-closed parents k j (parentIn parents m) c d′
+    (le-of-suc-le-suc h) q nz) (or-true (eqb (parentIn parents c) m)))
     (or-cases (eqb c m) _ (rw e at i)))
   where
     head : (k n : ℕ) → 0 < k → any (eqb n) (climb k parents n) ≡ true
     head zero n l = absurd (not-suc-le-zero l)
     head (suc k) n l = rw (eq-eqb n n refl)
 
-pub depth-parent : (parents : List ℕ) (j n : ℕ) → Depth parents j n → (n ≡ 0 → ⊥) → (i : ℕ) × (suc i ≡ j) × Depth parents i (parentIn parents n)
+pub depth-parent : (parents : List ℕ) (j n : ℕ) → Depth parents j n → (n ≡ 0 → ⊥)
+    → (i : ℕ) × (suc i ≡ j) × Depth parents i (parentIn parents n)
 unfolding up
 depth-parent parents zero n d nz = absurd (nz (d .root))
 depth-parent parents (suc j) n d nz = (j, refl, record { root = d .root; first = λ m w. d .first (suc m) (omega arith) })
@@ -95,7 +101,8 @@ module _ (log : Log) (good : GoodLog log) where
   table-size = is-tree log good (countsOf log) whole .size
 
   -- the way to the root
-  pub root-way : (n : ℕ) → Named log (countsOf log) n → (j : ℕ) × (j ≤ 2040) × Reaches (Named log (countsOf log)) (parentsOf log) j n × ((k : ℕ) → k < j → up (parentsOf log) k n ≡ 0 → ⊥)
+  pub root-way : (n : ℕ) → Named log (countsOf log) n
+      → (j : ℕ) × (j ≤ 2040) × Reaches (Named log (countsOf log)) (parentsOf log) j n × ((k : ℕ) → k < j → up (parentsOf log) k n ≡ 0 → ⊥)
   unfolding parentsOf
   root-way n w = replay-reaches log good (countsOf log) whole n w
 
@@ -106,7 +113,8 @@ module _ (log : Log) (good : GoodLog log) where
       let (j, b, r, o) = root-way n w in
       go j (r .root) (r .on)
     where
-      go : (j : ℕ) → up (parentsOf log) j n ≡ 0 → ((i : ℕ) → i ≤ j → Named log (countsOf log) (up (parentsOf log) i n)) → Named log (countsOf log) (parentIn (parentsOf log) n)
+      go : (j : ℕ) → up (parentsOf log) j n ≡ 0 → ((i : ℕ) → i ≤ j → Named log (countsOf log) (up (parentsOf log) i n))
+          → Named log (countsOf log) (parentIn (parentsOf log) n)
       go zero z on = absurd (nz z)
       go (suc j) z on = on 1 (omega arith)
 
@@ -128,7 +136,13 @@ module _ (log : Log) (good : GoodLog log) where
   path-child n c u =
       let (j, b, d) = has-depth log good c (u .node) in
       let (i, e, d′) = depth-parent P j c d (u .below-root) in
-      rw (climb-turn P 2040 c, ne-eqb c 0 (u .below-root), climb-enough P i 2040 slots (parentIn P c) d′ (omega arith) (omega arith), u .parent)
+      rw (
+        climb-turn P 2040 c,
+        ne-eqb c 0 (u .below-root),
+        climb-enough P i 2040 slots (parentIn P c) d′ (omega arith)
+            (omega arith),
+        u .parent,
+      )
 
   pub path-root : path P 0 ≡ 0 ∷ []
   unfolding path
@@ -139,8 +153,8 @@ module _ (log : Log) (good : GoodLog log) where
   path-closed m c w i nz = let (j, b, d) = has-depth log good m w in climb-closed P slots j m c d (omega arith) i nz
 
   -- the children of a node hang under it
-  pub children-under : (n : ℕ) → All (Under n) (children log P n)
+  pub children-under : (n : ℕ) → Each (Under n) (children log P n)
   unfolding children
-  children-under n = all-filtered (λ m. eqb (parentIn P m) n) (Under n) (nodes log) (λ c i e.
+  children-under n = each-passing (λ m. eqb (parentIn P m) n) (Under n) (nodes log) (λ c i e.
       let k : known log (countsOf log) c ≡ true = sym (nodes-known c) ∙ i in
       record { node = inr k; parent = eqb-true _ _ e; below-root = known-nonzero c k })

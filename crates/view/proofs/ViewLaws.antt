@@ -6,15 +6,17 @@ use mathlib.Core.Bool.{_&&_, not, or-true, true}
 use mathlib.Core.List.{List}
 use mathlib.Core.Logic.{inl, inr}
 use mathlib.Core.Path.{refl, sym, _∙_, _≡_}
-use Rattle.order.proofs.GrowLaws.{Named}
-use Rattle.rules.proofs.BoolLaws.{and-both, and-left, and-right}
+use Rattle.rules.proofs.KnownLaws.{Named}
+use Rattle.lists.proofs.BoolLaws.{and-both, and-left, and-right, and-swap}
 use Rattle.rules.proofs.StructureLaws.{GoodLog}
-use Rattle.rules.specs.Bytes.{all, isIn}
-use Rattle.rules.specs.Log.{Log, countsOf, known}
+use Rattle.lists.specs.Lists.{all, isIn}
+use Rattle.rules.specs.File.{Log, countsOf}
+use Rattle.rules.specs.Log.{known}
 use Rattle.rules.specs.Replay.{parentsOf}
 use Rattle.rules.specs.Tree.{atOrBelow, path}
-use Rattle.rules.specs.Views.{View, keeping, nodes, shown, skipping, tombstone}
-use Rattle.view.proofs.SeqLaws.{and-swap, any-more}
+use Rattle.rules.specs.Views.{View, keeping, nodes, shown, skipping}
+use Rattle.rules.specs.Marks.{tombstone}
+use Rattle.lists.proofs.MemberLaws.{any-more}
 use Rattle.view.proofs.TombstoneLaws.{root-unmarked}
 use Rattle.view.proofs.TreePathLaws.{Under, known-nonzero, nodes-known, path-child, path-closed, path-root}
 
@@ -27,23 +29,25 @@ module _ (log : Log) (good : GoodLog log) where
 
   ---- the skipping view
 
-  skipping-path : (n : ℕ) → Node n → shown skipping log P n ≡ all (λ m. not (tombstone log m)) (path P n)
+  skipping-path : (n : ℕ) → Node n → shown skipping log P n ≡ all (λ m. not (tombstone log (countsOf log) m)) (path P n)
   unfolding shown all
   skipping-path n (inl e) = rw (e, path-root log good, root-unmarked log good)
   skipping-path n (inr e) = rw (ne-eqb n 0 (known-nonzero log good n e))
 
-  pub skipping-child : (n c : ℕ) → Node n → Under log good n c → shown skipping log P c ≡ (shown skipping log P n && not (tombstone log c))
+  pub skipping-child : (n c : ℕ) → Node n → Under log good n c → shown skipping log P c ≡ (shown skipping log P n && not (tombstone log (countsOf log) c))
   unfolding all
-  skipping-child n c w u = skipping-path c (u .node) ∙ rw (path-child log good n c u, skipping-path n w) (and-swap (not (tombstone log c)) (all (λ m. not (tombstone log m)) (path P n)))
+  skipping-child n c w u = skipping-path c (u .node) ∙ rw (path-child log good n c u, skipping-path n w)
+      (and-swap (not (tombstone log (countsOf log) c)) (all (λ m. not (tombstone log (countsOf log) m)) (path P n)))
 
   ---- the keeping view
 
   pub keeping-child : (n c : ℕ) → Under log good n c → shown keeping log P c ≡ true → shown keeping log P n ≡ true
   unfolding shown atOrBelow
   keeping-child n c u e =
-      rw (any-more (λ m. isIn c (path P m) && not (tombstone log m)) (λ m. isIn n (path P m) && not (tombstone log m)) (nodes log) (λ m i h.
+      rw (any-more (λ m. isIn c (path P m) && not (tombstone log (countsOf log) m)) (λ m. isIn n (path P m) && not (tombstone log (countsOf log) m)) (nodes log) (λ m i h.
       let k : known log (countsOf log) m ≡ true = sym (nodes-known log good m) ∙ i in
-      and-both (rw (u .parent) at (path-closed log good m c (inr k) (and-left (isIn c (path P m)) _ h) (u .below-root))) (and-right (isIn c (path P m)) _ h))
+      and-both (rw (u .parent) at (path-closed log good m c (inr k) (and-left (isIn c (path P m)) _ h) (u .below-root)))
+      (and-right (isIn c (path P m)) _ h))
       (rw (ne-eqb c 0 (u .below-root)) at e)) (or-true (eqb n 0))
 
   pub root-shown : (view : View) → shown view log P 0 ≡ true

@@ -4,7 +4,8 @@ use mathlib.Core.Path.{_≡_}
 use mathlib.Core.Bool.{true}
 use mathlib.Core.List.{List, []}
 use lib.ListN.{length}
-use Rattle.rules.specs.Log.{Log, width, countsOf, logOf, known, knownParent, structural}
+use Rattle.rules.specs.File.{Log, width, countsOf, logOf}
+use Rattle.rules.specs.Log.{known, knownParent, structural}
 use Rattle.rules.specs.Replay.{parentsOf, removedIn}
 use Rattle.rules.specs.Tree.{parentIn}
 use Rattle.rules.specs.Views.{View, keeping, skipping, shown}

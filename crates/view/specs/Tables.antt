@@ -4,9 +4,9 @@ use mathlib.Core.Bool.{cond, not}
 use mathlib.Core.List.{List, [], _∷_, map, foldl}
 use lib.ListN.{getD, set, replicate}
 use lib.Dec.{ltb, eqb}
-use Rattle.rules.specs.Bytes.{upFrom, downFrom, concat}
+use Rattle.lists.specs.Lists.{upFrom, downFrom, concat}
 use Rattle.rules.specs.Op.{Op, nodeOf, isRemove}
-use Rattle.rules.specs.Log.{Log}
+use Rattle.rules.specs.File.{Log}
 use Rattle.rules.specs.Tree.{slotOf, slots, noParent}
 use Rattle.rules.specs.Replay.{parentsOf}
 use Rattle.rules.specs.Views.{View, keeping, skipping}

@@ -4,7 +4,7 @@ ghost use mathlib.Core.Path.{_≡_};
 ghost use mathlib.Core.List.{foldl};
 ghost use Prim.Native.Nat.{_<_};
 ghost use lib.ListN.{length};
-ghost use Rattle.rules.specs.Bytes.{upFrom};
+ghost use Rattle.lists.specs.Lists.{upFrom};
 ghost use Rattle.rules.specs.Tree.{slots};
 ghost use Rattle.view.specs.Tables as tables;
 

@@ -5,7 +5,7 @@ use crate::slots::spot_of;
 ghost use mathlib.Core.Path.{_≡_};
 ghost use mathlib.Core.List.{foldl};
 ghost use Prim.Native.Nat.{_<_};
-ghost use Rattle.rules.specs.Bytes.{downFrom};
+ghost use Rattle.lists.specs.Lists.{downFrom};
 ghost use Rattle.view.specs.Answers.{viewOf, Sized};
 ghost use Rattle.view.specs.Tables.{links, linkSlot, hiddenOf};
 

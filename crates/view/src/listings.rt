@@ -13,11 +13,11 @@ ghost use mathlib.Core.Path.{_≡_};
 ghost use mathlib.Core.Bool.{true};
 ghost use Prim.Native.Nat.{_≤_};
 ghost use lib.ListN.{length, take};
-ghost use Rattle.rules.specs.Log.{width, logOf};
+ghost use Rattle.rules.specs.File.{width, logOf};
 ghost use Rattle.rules.specs.Sound.{sound};
-ghost use Rattle.rules.specs.Listing as rules;
 ghost use Rattle.view.specs.Answers.{listedAnswer, viewOf};
 ghost use Rattle.view.specs.Tables.{noMarks, marksOf, orderOf};
+ghost use Rattle.rules.specs.Listing as rules;
 
 // Arranges the nodes that a view shows, and marks those with a tombstone.
 fn arrange(file: &[u8], view: View, marks: &mut [u8], order: &mut [u32]) -> usize

@@ -7,8 +7,9 @@ ghost use mathlib.Core.Path.{_≡_};
 ghost use mathlib.Core.Bool.{true};
 ghost use mathlib.Core.List.{foldl};
 ghost use lib.ListN.{length};
-ghost use Rattle.rules.specs.Bytes.{concat};
-ghost use Rattle.rules.specs.Log.{width, logOf, opAt, laid};
+ghost use Rattle.lists.specs.Lists.{concat};
+ghost use Rattle.rules.specs.File.{width, logOf, opAt};
+ghost use Rattle.rules.specs.Log.{laid};
 ghost use Rattle.oplog.specs.Spots.{Spot};
 ghost use Rattle.view.specs.Tables.{mark};
 

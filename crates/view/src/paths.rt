@@ -11,10 +11,10 @@ ghost use mathlib.Core.Path.{_≡_};
 ghost use mathlib.Core.List.{_++_};
 ghost use Prim.Native.Nat.{_+_, _<_};
 ghost use lib.ListN.{length, drop};
-ghost use Rattle.rules.specs.Log.{width};
-ghost use Rattle.rules.specs.Tree as tree;
+ghost use Rattle.rules.specs.File.{width};
 ghost use Rattle.rules.specs.Path.{pathCall};
 ghost use Rattle.view.specs.Answers.{listedAnswer, Way};
+ghost use Rattle.rules.specs.Tree as tree;
 
 // Writes a node, its parent, and so on to the root.
 fn write_path(parents: &[u16], node: u16, steps: usize, out: &mut [u16])

@@ -6,10 +6,10 @@ use oplog::end_of;
 use replica::WIDTH;
 use replica::is_sound;
 ghost use mathlib.Core.Path.{_≡_};
-ghost use Rattle.rules.specs.Log.{width};
-ghost use Rattle.rules.specs.Listing as rules;
+ghost use Rattle.rules.specs.File.{width};
 ghost use Rattle.rules.specs.Listing.{refusedLine};
 ghost use Rattle.view.specs.Answers.{listedAnswer, putText};
+ghost use Rattle.rules.specs.Listing as rules;
 
 // Writes the line of a refused input.
 fn refuse(out: &mut [u8]) -> Listed

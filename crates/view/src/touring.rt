@@ -4,8 +4,8 @@ ghost use mathlib.Core.Path.{_≡_};
 ghost use mathlib.Core.List.{_++_};
 ghost use Prim.Native.Nat.{_+_, _*_, _/_, _%_, _<_, _≤_};
 ghost use lib.ListN.{length, drop};
-ghost use Rattle.view.specs.Tables as tables;
 ghost use Rattle.view.specs.Tables.{links, tourOf};
+ghost use Rattle.view.specs.Tables as tables;
 
 // An entry of a tour: a node with its depth.
 fn entry_of(node: u16, depth: u16) -> u32

@@ -6,7 +6,7 @@ use lib.ListN.{length, take, drop, length-drop, length-set}
 use denote.Ref.{now}
 use lib.Seq.{take-all, getD-drop}
 use Rattle.codec.proofs.vector.vector_at.Statement.{statement}
-use Rattle.codec.proofs.VectorLaws.{copy-step}
+use Rattle.lists.proofs.ListLaws.{copy-step}
 use Rattle.codec.proofs.vector.vector_at.Tie as tie
 
 abbrev Inv-loop : tie.InvT-loop

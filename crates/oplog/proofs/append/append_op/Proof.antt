@@ -7,7 +7,8 @@ use lib.ListN.{length, getD, set}
 use borrow.Author.Needs.{needs}
 use denote.Ref.{now}
 use Rattle.rules.specs.Op.{replicaOf, countIn}
-use Rattle.rules.specs.Log.{logOf, countAt, soundHeader, countsOf, fileEnd, append}
+use Rattle.rules.specs.File.{logOf, countAt, countsOf, fileEnd, append}
+use Rattle.rules.specs.Log.{soundHeader}
 use Rattle.rules.proofs.StructureLaws.{laid-reads}
 use Rattle.rules.proofs.FileLaws.{counts-at}
 use Rattle.oplog.proofs.append.append_op.Statement.{statement}

@@ -3,7 +3,7 @@ use mathlib.Core.Path.{_≡_, sym, _∙_}
 use native.Mathlib.Omega.{arith}
 use borrow.Author.Needs.{needs}
 use denote.Ref.{now}
-use Rattle.rules.specs.Log.{logOf, opAt}
+use Rattle.rules.specs.File.{logOf, opAt}
 use Rattle.rules.specs.Op.{vectorOf, countIn}
 use Rattle.oplog.specs.Spots.{Spot}
 use Rattle.oplog.proofs.check.closed_at.Statement.{statement}

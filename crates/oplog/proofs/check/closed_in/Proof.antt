@@ -3,8 +3,9 @@ use mathlib.Core.Path.{_≡_, sym, _∙_}
 use Prim.Native.Nat.{_-_, _≤_}
 use native.Mathlib.Omega.{arith}
 use borrow.Author.Tests.{not-true, not-false}
-use Rattle.rules.specs.Log.{closedAt, logOf, closed}
-use Rattle.rules.proofs.BoolLaws.{pass-turn, passFrom, pass-end}
+use Rattle.rules.specs.Log.{closedAt, closed}
+use Rattle.rules.specs.File.{logOf}
+use Rattle.rules.proofs.ReplicaLaws.{pass-turn, passFrom, pass-end}
 use Rattle.oplog.proofs.check.closed_in.Statement.{statement}
 use Rattle.oplog.proofs.TestLaws.{closed-all}
 use Rattle.oplog.proofs.check.closed_in.Tie as tie

@@ -8,7 +8,8 @@ use borrow.Author.Tests.{not-true, not-false}
 use borrow.Author.Needs.{needs}
 use denote.Ref.{now}
 use Rattle.rules.specs.Op.{kindOf, vectorOf, countIn, parentOf, replicaOf, nodeOf}
-use Rattle.rules.specs.Log.{opAt, soundOp, logOf, covered, within, closed}
+use Rattle.rules.specs.File.{opAt, logOf, within}
+use Rattle.rules.specs.Log.{soundOp, covered, closed}
 use Rattle.codec.specs.Read.{kindFits}
 use Rattle.rules.proofs.FileLaws.{counts-logOf}
 use Rattle.oplog.specs.Spots.{namesBy, Counted}

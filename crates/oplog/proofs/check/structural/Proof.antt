@@ -4,7 +4,8 @@ use mathlib.Core.Bool.{true}
 use native.Mathlib.Omega.{arith}
 use borrow.Author.Tests.{not-true, not-false}
 use denote.Ref.{now}
-use Rattle.rules.specs.Log.{soundHeader, fileEnd, laid}
+use Rattle.rules.specs.Log.{soundHeader, laid}
+use Rattle.rules.specs.File.{fileEnd}
 use Rattle.oplog.proofs.check.structural.Statement.{statement}
 use Rattle.oplog.proofs.HeaderLaws.{laid-out, end-is, structural-ops, long, short, wrong}
 use Rattle.oplog.proofs.check.structural.Tie as tie

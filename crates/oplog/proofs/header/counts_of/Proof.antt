@@ -6,7 +6,7 @@ use native.Mathlib.Omega.{arith}
 use lib.ListN.{length, take, getD, length-set}
 use denote.Ref.{now}
 use lib.Seq.{take-all}
-use Rattle.rules.specs.Log.{headerCounts, countAt}
+use Rattle.rules.specs.File.{headerCounts, countAt}
 use Rattle.rules.specs.Op.{replicas}
 use Rattle.codec.proofs.VectorLaws.{build-step, length-eight}
 use Rattle.oplog.proofs.header.counts_of.Statement.{statement}

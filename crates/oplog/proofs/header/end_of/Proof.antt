@@ -4,9 +4,10 @@ use Prim.Native.Nat.{_*_, _≤_}
 use native.Mathlib.Omega.{arith}
 use borrow.Author.Needs.{needs}
 use denote.Ref.{now}
-use Rattle.rules.specs.Log.{startAt, headerCounts, startOf, countAt}
+use Rattle.rules.specs.File.{startAt, headerCounts, startOf, countAt}
 use Rattle.oplog.proofs.header.end_of.Statement.{statement}
-use Rattle.oplog.proofs.HeaderLaws.{header-reads, product-small, start-after}
+use Rattle.oplog.proofs.HeaderLaws.{header-reads, start-after}
+use Rattle.lists.proofs.NumberLaws.{product-small}
 use Rattle.oplog.proofs.header.end_of.Tie as tie
 
 read : (c : tie.After-widen162) → let f = now (c .before .before .before .before .before .args .file) in let s = c .before .before .before .before .before .args .s in (c .before .before .widen16 .result ≡ countAt f s) × (c .widen162 .result ≡ startOf (c .before .before .before .before .before .args .width) (headerCounts f) s)

@@ -3,10 +3,12 @@ use mathlib.Core.Path.{_≡_, sym, _∙_}
 use Prim.Native.Nat.{_+_, _*_, _-_, _≤_}
 use native.Mathlib.Omega.{arith}
 use denote.Ref.{now}
-use Rattle.rules.specs.Log.{startAt, headerCounts, startOf, soundHeader, countAt}
-use Rattle.rules.proofs.BoolLaws.{pass-turn, passFrom, pass-end}
+use Rattle.rules.specs.File.{startAt, headerCounts, startOf, countAt}
+use Rattle.rules.specs.Log.{soundHeader}
+use Rattle.rules.proofs.ReplicaLaws.{pass-turn, passFrom, pass-end}
 use Rattle.oplog.proofs.header.header_right.Statement.{statement}
-use Rattle.oplog.proofs.HeaderLaws.{start-first, start-word, entry-right, entry-wrong, entry-large, count-word, header-all, start-after, product-small, entryPasses}
+use Rattle.oplog.proofs.HeaderLaws.{start-first, start-word, entry-right, entry-wrong, entry-large, count-word, header-all, start-after, entryPasses}
+use Rattle.lists.proofs.NumberLaws.{product-small}
 use Rattle.oplog.proofs.header.header_right.Tie as tie
 
 abbrev Inv-loop : tie.InvT-loop

@@ -8,7 +8,7 @@ use borrow.Author.Needs.{needs}
 use native.Mathlib.Nat.{mul-le-mul}
 use denote.Ref.{now}
 use Rattle.rules.specs.Op.{countIn}
-use Rattle.rules.specs.Log.{startOf}
+use Rattle.rules.specs.File.{startOf}
 use Rattle.codec.proofs.VectorLaws.{count-of}
 use Rattle.oplog.proofs.header.write_header.Statement.{statement}
 use Rattle.oplog.proofs.HeaderLaws.{entries-all, entries-none, start-first, start-next, entries}

@@ -3,7 +3,7 @@ use mathlib.Core.Path.{_≡_, _∙_}
 use native.Mathlib.Omega.{arith}
 use borrow.Author.Needs.{needs}
 use denote.Ref.{now}
-use Rattle.rules.specs.Log.{headerCounts, startOf}
+use Rattle.rules.specs.File.{headerCounts, startOf}
 use Rattle.oplog.proofs.spot.place.Statement.{statement}
 use Rattle.oplog.proofs.FieldLaws.{header-fits, start-is, fits}
 use Rattle.oplog.proofs.spot.place.Tie as tie

@@ -9,8 +9,8 @@ use lib.Dec.{eqb}
 use borrow.Author.Tests.{eq-eqb, ne-eqb}
 use lib.Seq.{getD-take, getD-drop}
 use denote.Ref.{now}
-use Rattle.rules.specs.Bytes.{same}
-use Rattle.rules.proofs.ListLaws.{same-end, sameFrom, same-turn, same-all}
+use Rattle.lists.specs.Lists.{same}
+use Rattle.lists.proofs.ListLaws.{same-end, sameFrom, same-turn, same-all}
 use Rattle.oplog.proofs.spot.same_op.Statement.{statement}
 use Rattle.oplog.proofs.spot.same_op.Tie as tie
 

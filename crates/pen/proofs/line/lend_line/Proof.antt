@@ -34,7 +34,6 @@ use denote.Slice.{sliceVal, MutSlice, Room, finally, slice-vals, mut-slice-tells
 use denote.Lend.{lends-ref, ref-back}
 use denote.Steps.{owned, peeks, heard, nothing}
 use denote.Struct.Steps.{spelt}
-use denote.Struct.Laws as LL
 use denote.Triple.Entry.{onEntry}
 use denote.Triple.Spec.{Meets, tripleOf}
 use denote.Triple.Statement.{Contract, Triple}
@@ -46,13 +45,14 @@ use denote.Exit.{yes}
 use denote.Signature.{plain}
 use Rattle.pen.specs.declared.line.Pen.{Pen}
 use Rattle.pen.proofs.LineLaws.{Asked, Said}
+use Rattle.pen.proofs.line.write_line_with.Symbol.{name as #pen·line·write-line-with}
+use Rattle.pen.proofs.line.lend_line.Key.{name as #pen·line·lend-line}
+use denote.Struct.Laws as LL
 use Rattle.pen.proofs.line.Pen as T
 use Rattle.pen.proofs.line.Pen.Laws as T′
 use Rattle.pen.proofs.line.write_line_with as with
 use Rattle.pen.proofs.line.write_line_with.Symbol as with-def
-use Rattle.pen.proofs.line.write_line_with.Symbol.{name as #pen·line·write-line-with}
 use Rattle.pen.proofs.line.write_line_with.Met as with-thm
-use Rattle.pen.proofs.line.lend_line.Key.{name as #pen·line·lend-line}
 use Rattle.pen.proofs.line.lend_line as f
 use Rattle.pen.proofs.line.lend_line.Statement as stated
 use Rattle.pen.proofs.line.lend_line.Code as code

@@ -32,7 +32,6 @@ use denote.Ref.{RefT, MutRef, ptr-vals, mut-tells}
 use denote.Slice.{sliceVal, MutSlice, Room, finally, slice-vals, mut-slice-tells}
 use denote.Steps.{opens, closes, owned, peeks, heard, nothing}
 use denote.Struct.Steps.{spelt}
-use denote.Struct.Laws as LL
 use denote.Triple.Entry.{onEntry}
 use denote.Triple.Spec.{Meets, tripleOf}
 use denote.Triple.Statement.{Contract, Triple}
@@ -44,13 +43,14 @@ use denote.Exit.{yes}
 use denote.Signature.{plain}
 use Rattle.pen.specs.declared.line.Pen.{Pen}
 use Rattle.pen.proofs.LineLaws.{Asked, Said}
+use Rattle.pen.proofs.line.write_line.Symbol.{name as #pen·line·write-line}
+use Rattle.pen.proofs.line.write_line_with.Key.{name as #pen·line·write-line-with}
+use denote.Struct.Laws as LL
 use Rattle.pen.proofs.line.Pen as T
 use Rattle.pen.proofs.line.Pen.Laws as T′
 use Rattle.pen.proofs.line.write_line as write-line
 use Rattle.pen.proofs.line.write_line.Symbol as write-line-def
-use Rattle.pen.proofs.line.write_line.Symbol.{name as #pen·line·write-line}
 use Rattle.pen.proofs.line.write_line.Met as write-line-thm
-use Rattle.pen.proofs.line.write_line_with.Key.{name as #pen·line·write-line-with}
 use Rattle.pen.proofs.line.write_line_with as f
 use Rattle.pen.proofs.line.write_line_with.Statement as stated
 use Rattle.pen.proofs.line.write_line_with.Code as code

@@ -4,7 +4,8 @@ use Prim.Native.Nat.{_-_, _≤_}
 use native.Mathlib.Omega.{arith}
 use lib.ListN.{length, take, length-set, replicate}
 use Rattle.replay.proofs.cut.clear_parents.Statement.{statement}
-use Rattle.replay.proofs.TableLaws.{start-parents, fill-step}
+use Rattle.replay.proofs.TableLaws.{start-parents}
+use Rattle.lists.proofs.ListLaws.{fill-step}
 use Rattle.replay.proofs.cut.clear_parents.Tie as tie
 
 abbrev Inv-loop : tie.InvT-loop

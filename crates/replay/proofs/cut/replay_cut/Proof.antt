@@ -2,7 +2,7 @@
 use mathlib.Core.Path.{_≡_, ap}
 use borrow.Author.Needs.{needs}
 use denote.Ref.{now}
-use Rattle.rules.specs.Log.{logOf}
+use Rattle.rules.specs.File.{logOf}
 use Rattle.rules.specs.Replay.{State, replay}
 use Rattle.replay.specs.Tables.{tables}
 use Rattle.replay.proofs.cut.replay_cut.Statement.{statement}

@@ -6,7 +6,7 @@ use lib.ListN.{length, getD}
 use borrow.Author.Needs.{needs}
 use denote.Ref.{now}
 use Rattle.rules.specs.Op.{nodeOf, parentOf, Op, kindOf}
-use Rattle.rules.specs.Log.{logOf, opAt}
+use Rattle.rules.specs.File.{logOf, opAt}
 use Rattle.rules.specs.Tree.{slotOf}
 use Rattle.oplog.proofs.FieldLaws.{node-is, kind-is, parent-is, small}
 use Rattle.replay.specs.Tables.{outcomeBy}

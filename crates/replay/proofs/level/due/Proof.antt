@@ -3,7 +3,7 @@ use mathlib.Core.Path.{_≡_, sym, _∙_}
 use native.Mathlib.Omega.{arith}
 use borrow.Author.Needs.{needs}
 use denote.Ref.{now}
-use Rattle.rules.specs.Log.{opAt, logOf}
+use Rattle.rules.specs.File.{opAt, logOf}
 use Rattle.rules.specs.Op.{countIn, kindOf}
 use Rattle.oplog.proofs.FieldLaws.{kind-is}
 use Rattle.replay.specs.Tables.{InFile}

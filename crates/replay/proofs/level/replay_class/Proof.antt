@@ -4,7 +4,7 @@ use mathlib.Core.List.{foldl}
 use Prim.Native.Nat.{_+_, _-_}
 use native.Mathlib.Omega.{arith}
 use denote.Ref.{now}
-use Rattle.rules.specs.Log.{logOf}
+use Rattle.rules.specs.File.{logOf}
 use Rattle.order.specs.Levels.{levelKind}
 use Rattle.rules.specs.Replay.{step}
 use Rattle.replay.specs.Tables.{Sized, tables}

@@ -5,7 +5,7 @@ use Prim.Native.Nat.{_+_, _-_, _≤_}
 use native.Mathlib.Omega.{arith}
 use borrow.Author.Needs.{needs}
 use denote.Ref.{now}
-use Rattle.rules.specs.Log.{logOf}
+use Rattle.rules.specs.File.{logOf}
 use Rattle.rules.specs.Replay.{step}
 use Rattle.order.specs.Levels.{level}
 use Rattle.replay.specs.Tables.{Sized, Span, tables}

@@ -6,7 +6,7 @@ use Prim.Native.Nat.{_+_, _-_, _≤_}
 use native.Mathlib.Omega.{arith}
 use lib.ListN.{length}
 use denote.Ref.{now}
-use Rattle.rules.specs.Log.{logOf, within}
+use Rattle.rules.specs.File.{logOf, within}
 use Rattle.order.specs.Levels.{advanced, nothing, level, levels, nextOf}
 use Rattle.rules.specs.Replay.{step}
 use Rattle.codec.proofs.VectorLaws.{length-eight}

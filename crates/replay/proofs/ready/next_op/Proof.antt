@@ -6,7 +6,7 @@ use lib.ListN.{getD}
 use borrow.Author.Needs.{needs}
 use denote.Ref.{now}
 use Rattle.oplog.specs.Spots.{Spot}
-use Rattle.rules.specs.Log.{opAt, logOf, within}
+use Rattle.rules.specs.File.{opAt, logOf, within}
 use Rattle.rules.specs.Op.{countIn, vectorOf}
 use Rattle.oplog.proofs.FieldLaws.{vector-is}
 use Rattle.replay.proofs.ready.next_op.Statement.{statement}

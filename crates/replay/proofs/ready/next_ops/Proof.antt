@@ -7,7 +7,7 @@ use lib.ListN.{length, take, length-set}
 use denote.Ref.{now}
 use lib.Seq.{take-all}
 use Rattle.order.specs.Levels.{nextAt, nextOf}
-use Rattle.rules.specs.Log.{logOf}
+use Rattle.rules.specs.File.{logOf}
 use Rattle.rules.specs.Op.{replicas}
 use Rattle.codec.proofs.VectorLaws.{length-eight, build-step}
 use Rattle.replay.proofs.ready.next_ops.Statement.{statement}

@@ -6,7 +6,8 @@ use native.Mathlib.Omega.{arith}
 use borrow.Author.Tests.{not-true, not-false}
 use borrow.Author.Needs.{needs}
 use denote.Ref.{now}
-use Rattle.rules.specs.Log.{fileEnd, logOf, countAt, namesKnown, closed, covered, laid, width}
+use Rattle.rules.specs.File.{fileEnd, logOf, countAt, width}
+use Rattle.rules.specs.Log.{namesKnown, closed, covered, laid}
 use Rattle.rules.specs.Op.{seqOf, vectorOf, nodeNumber, replicaOf}
 use Rattle.oplog.specs.Spots.{Counted}
 use Rattle.rules.specs.Answer.{accepted}

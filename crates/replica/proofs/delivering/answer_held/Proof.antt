@@ -4,12 +4,12 @@ use Prim.Native.Nat.{_≤_}
 use native.Mathlib.Omega.{arith}
 use borrow.Author.Tests.{leb-true}
 use denote.Ref.{now}
-use Rattle.rules.specs.Log.{opAt, countsOf, logOf, width}
+use Rattle.rules.specs.File.{opAt, countsOf, logOf, width}
 use Rattle.oplog.specs.Spots.{Spot}
 use Rattle.rules.specs.Op.{countIn, seqOf, replicaOf}
 use Rattle.rules.specs.Deliver.{heldAnswer, held}
 use Rattle.rules.specs.Answer.{require}
-use Rattle.rules.specs.Bytes.{same}
+use Rattle.lists.specs.Lists.{same}
 use Rattle.rules.proofs.AppendLaws.{seq-positive, replica-formed}
 use Rattle.rules.proofs.StructureLaws.{structural-laid}
 use Rattle.oplog.proofs.FieldLaws.{counts-in, op-is}

@@ -11,7 +11,7 @@ use denote.Ref.{now}
 use Rattle.codec.specs.declared.op.Fields.{Fields}
 use Rattle.codec.specs.declared.op.Read.the-variants.{Op, Refused}
 use Rattle.codec.specs.Read.{readOf}
-use Rattle.rules.specs.Log.{logOf, width, appended}
+use Rattle.rules.specs.File.{logOf, width, appended}
 use Rattle.rules.specs.Deliver.{admitAnswer, deliverAnswer, deliverBuffer, heldAnswer, held}
 use Rattle.rules.specs.Op.{countIn}
 use Rattle.rules.specs.Sound.{sound}

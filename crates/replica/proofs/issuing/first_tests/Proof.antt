@@ -6,7 +6,7 @@ use lib.ListN.{length}
 use borrow.Author.Tests.{not-true, not-false}
 use borrow.Author.Needs.{needs}
 use denote.Ref.{now}
-use Rattle.rules.specs.Log.{countsOf, logOf, width}
+use Rattle.rules.specs.File.{countsOf, logOf, width}
 use Rattle.rules.specs.Op.{countIn}
 use Rattle.rules.specs.Sound.{sound}
 use Rattle.rules.proofs.SoundLaws.{sound-structural}

@@ -8,7 +8,8 @@ use borrow.Author.Tests.{not-true, not-false}
 use borrow.Author.Needs.{needs}
 use denote.Ref.{now}
 use Rattle.rules.specs.Issue.{add, requestClear, opBytes, issueBuffer, requestKnown, issueOut, issued}
-use Rattle.rules.specs.Log.{countsOf, logOf, covered, laid, width}
+use Rattle.rules.specs.File.{countsOf, logOf, width}
+use Rattle.rules.specs.Log.{covered, laid}
 use Rattle.oplog.specs.Spots.{Counted}
 use Rattle.rules.specs.Op.{nodeNumber, countIn}
 use Rattle.rules.specs.Answer.{accepted}

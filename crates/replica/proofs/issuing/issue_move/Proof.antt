@@ -6,11 +6,12 @@ use lib.ListN.{length}
 use borrow.Author.Tests.{eq-eqb, ne-eqb, not-true, not-false}
 use borrow.Author.Needs.{needs}
 use denote.Ref.{now}
-use Rattle.rules.specs.Issue.{Request, move, issueOut, moveKind, issueBuffer, requestKnown, requestClear, opBytes, issued}
-use Rattle.rules.specs.Log.{countsOf, knownParent, logOf, covered, known, laid, width}
+use Rattle.rules.specs.Issue.{Request, move, issueOut, issueBuffer, requestKnown, requestClear, opBytes, issued}
+use Rattle.rules.specs.Tree.{moveKind, atOrBelow}
+use Rattle.rules.specs.File.{countsOf, logOf, width}
+use Rattle.rules.specs.Log.{knownParent, covered, known, laid}
 use Rattle.rules.specs.Replay.{parentsOf}
 use Rattle.oplog.specs.Spots.{Counted}
-use Rattle.rules.specs.Tree.{atOrBelow}
 use Rattle.rules.specs.Answer.{accepted}
 use Rattle.rules.proofs.StructureLaws.{counts-covered, structural-laid, laid-reads}
 use Rattle.rules.proofs.FileLaws.{counts-logOf}

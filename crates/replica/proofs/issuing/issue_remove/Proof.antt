@@ -7,7 +7,8 @@ use borrow.Author.Tests.{not-true, not-false}
 use borrow.Author.Needs.{needs}
 use denote.Ref.{now}
 use Rattle.rules.specs.Issue.{remove, issueBuffer, opBytes, requestClear, requestKnown, issueOut, issued}
-use Rattle.rules.specs.Log.{countsOf, logOf, covered, laid, width}
+use Rattle.rules.specs.File.{countsOf, logOf, width}
+use Rattle.rules.specs.Log.{covered, laid}
 use Rattle.oplog.specs.Spots.{Counted}
 use Rattle.rules.specs.Answer.{accepted}
 use Rattle.oplog.proofs.FieldLaws.{counted-of}

@@ -8,7 +8,8 @@ use lib.ListN.{length, take}
 use borrow.Author.Needs.{needs}
 use denote.Ref.{now}
 use lib.Seq.{take-at}
-use Rattle.rules.specs.Log.{countAt, fileEnd, laid, width, appended}
+use Rattle.rules.specs.File.{countAt, fileEnd, width, appended}
+use Rattle.rules.specs.Log.{laid}
 use Rattle.rules.specs.Op.{replicaOf}
 use Rattle.rules.specs.Issue.{opBytes}
 use Rattle.rules.specs.Bytes.{word}

@@ -8,7 +8,7 @@ use lib.Seq.{length-take-le}
 use denote.Ref.{now}
 use Rattle.rules.specs.Judge.{judge}
 use Rattle.rules.specs.Sound.{sound}
-use Rattle.rules.specs.Log.{width}
+use Rattle.rules.specs.File.{width}
 use Rattle.rules.proofs.SoundLaws.{sound-structural}
 use Rattle.replica.proofs.judging.judge.Statement.{statement}
 use Rattle.replica.proofs.JudgeCases.{judge-parents, judge-unsound, judge-done, judge-outcomes}

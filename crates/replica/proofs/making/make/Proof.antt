@@ -4,7 +4,7 @@ use lib.ListN.{drop}
 use borrow.Author.Needs.{needs}
 use denote.Ref.{now}
 use Rattle.rules.specs.Deliver.{makeBuffer}
-use Rattle.rules.specs.Log.{width}
+use Rattle.rules.specs.File.{width}
 use Rattle.replica.proofs.making.make.Statement.{statement}
 use Rattle.replica.proofs.DeliverCases.{made-long, made-short, empty-file}
 use Rattle.replica.proofs.making.make.Tie as tie

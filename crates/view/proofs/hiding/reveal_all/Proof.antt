@@ -5,7 +5,7 @@ use lib.ListN.{length}
 use mathlib.Core.List.{foldl}
 use mathlib.Core.Path.{refl, sym, _∙_, _≡_}
 use native.Mathlib.Omega.{arith}
-use Rattle.rules.specs.Bytes.{upFrom}
+use Rattle.lists.specs.Lists.{upFrom}
 use Rattle.view.proofs.TurnLaws.{up-end, up-turn}
 use Rattle.view.proofs.hiding.reveal_all.Statement.{statement}
 use Rattle.view.specs.Tables.{revealSlot}

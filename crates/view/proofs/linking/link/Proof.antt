@@ -4,7 +4,7 @@ use denote.Ref.{now}
 use mathlib.Core.List.{foldl}
 use mathlib.Core.Path.{sym, refl, _∙_, _≡_}
 use native.Mathlib.Omega.{arith}
-use Rattle.rules.specs.Bytes.{downFrom}
+use Rattle.lists.specs.Lists.{downFrom}
 use Rattle.view.proofs.TurnLaws.{down-turn, down-end}
 use Rattle.view.proofs.linking.link.Statement.{statement}
 use Rattle.view.specs.Answers.{Sized}

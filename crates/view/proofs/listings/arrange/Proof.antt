@@ -4,7 +4,7 @@ use mathlib.Core.Path.{refl, _∙_, _≡_}
 use native.Mathlib.Omega.{arith}
 use Rattle.rules.proofs.SoundLaws.{sound-structural}
 use Rattle.rules.proofs.StructureLaws.{structural-laid}
-use Rattle.rules.specs.Log.{logOf, width}
+use Rattle.rules.specs.File.{logOf, width}
 use Rattle.view.proofs.ListingCases.{front-is, links-empty, marks-made, no-marks-size, order-made}
 use Rattle.view.proofs.listings.arrange.Statement.{statement}
 use Rattle.view.specs.Answers.{viewOf}

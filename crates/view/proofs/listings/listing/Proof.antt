@@ -8,7 +8,7 @@ use mathlib.Core.Path.{ap, refl, sym, _∙_, _≡_}
 use native.Mathlib.Omega.{arith}
 use Rattle.rules.specs.Answer.{accepted}
 use Rattle.rules.specs.Listing.{listing, listingOf}
-use Rattle.rules.specs.Log.{logOf, width}
+use Rattle.rules.specs.File.{logOf, width}
 use Rattle.rules.specs.Sound.{sound}
 use Rattle.view.proofs.ListingCases.{lines-are, listing-done, listing-short, listing-unsound}
 use Rattle.view.proofs.listings.listing.Statement.{statement}

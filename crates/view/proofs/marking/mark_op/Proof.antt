@@ -5,7 +5,7 @@ use lib.ListN.{getD}
 use mathlib.Core.Path.{sym, _∙_, _≡_}
 use native.Mathlib.Omega.{arith}
 use Rattle.oplog.proofs.FieldLaws.{kind-is, node-is}
-use Rattle.rules.specs.Log.{logOf, opAt, width}
+use Rattle.rules.specs.File.{logOf, opAt, width}
 use Rattle.rules.specs.Op.{Op, kindOf}
 use Rattle.view.proofs.MarkLaws.{mark-other, mark-remove}
 use Rattle.view.specs.Tables.{mark}

@@ -8,8 +8,8 @@ use denote.Ref.{now}
 use Rattle.oplog.proofs.MarkerLaws.{Onward, Walk, left, left-end, left-next, left-ops, onward, spot-at, togo}
 use Rattle.rules.proofs.FileLaws.{length-logOf}
 use Rattle.rules.proofs.StructureLaws.{laid-reads}
-use Rattle.rules.specs.Bytes.{concat}
-use Rattle.rules.specs.Log.{logOf, opAt, width}
+use Rattle.lists.specs.Lists.{concat}
+use Rattle.rules.specs.File.{logOf, opAt, width}
 use Rattle.view.proofs.marking.mark_ops.Statement.{statement}
 use Rattle.view.specs.Tables.{mark}
 use Rattle.view.proofs.marking.mark_ops.Tie as tie

@@ -10,7 +10,8 @@ use Rattle.oplog.proofs.HeaderLaws.{laid-header}
 use Rattle.rules.proofs.FileLaws.{counts-logOf}
 use Rattle.rules.proofs.SoundLaws.{sound-structural}
 use Rattle.rules.proofs.StructureLaws.{counts-covered, laid-reads, structural-laid}
-use Rattle.rules.specs.Log.{countsOf, covered, knownParent, laid, logOf, width}
+use Rattle.rules.specs.File.{countsOf, logOf, width}
+use Rattle.rules.specs.Log.{covered, knownParent, laid}
 use Rattle.rules.specs.Path.{pathCall, pathOf}
 use Rattle.rules.specs.Replay.{parentsOf}
 use Rattle.rules.specs.Sound.{sound}

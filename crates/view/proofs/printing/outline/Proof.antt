@@ -8,7 +8,7 @@ use native.Mathlib.Omega.{arith}
 use Rattle.oplog.proofs.HeaderLaws.{end-is, laid-header}
 use Rattle.rules.proofs.SoundLaws.{sound-structural}
 use Rattle.rules.proofs.StructureLaws.{laid-reads, structural-laid}
-use Rattle.rules.specs.Log.{fileEnd, width}
+use Rattle.rules.specs.File.{fileEnd, width}
 use Rattle.rules.specs.Sound.{sound}
 use Rattle.rules.specs.Views.{keeping}
 use Rattle.view.proofs.OutlineCases.{listing-text, outline-listed, outline-long, outline-unsound}

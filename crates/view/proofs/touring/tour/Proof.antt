@@ -7,7 +7,8 @@ use mathlib.Core.List.{_++_}
 use mathlib.Core.Path.{refl, sym, _∙_, _≡_}
 use native.Mathlib.Omega.{arith}
 use Rattle.replay.specs.Tables.{tables}
-use Rattle.view.proofs.TurnLaws.{drop-more, tour-done, tour-end, tour-full, tour-start, tour-stop, tour-turn}
+use Rattle.lists.proofs.ListLaws.{drop-more}
+use Rattle.view.proofs.TurnLaws.{tour-done, tour-end, tour-full, tour-start, tour-stop, tour-turn}
 use Rattle.view.proofs.touring.tour.Statement.{statement}
 use Rattle.view.specs.Tables.{depthIn, entry, links, nodeIn, push, tour, tourOf}
 use Rattle.view.specs.Tables as tables

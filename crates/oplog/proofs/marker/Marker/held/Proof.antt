@@ -2,7 +2,7 @@
 use mathlib.Core.Path.{_≡_, _∙_}
 use borrow.Author.Needs.{needs}
 use denote.Ref.{now}
-use Rattle.rules.specs.Log.{countAt}
+use Rattle.rules.specs.File.{countAt}
 use Rattle.oplog.proofs.marker.Marker.held.Statement.{statement}
 use Rattle.oplog.proofs.marker.Marker.held.Tie as tie
 

@@ -1,7 +1,7 @@
 -- `oplog::marker::Marker::next` meets its contract. Assumes nothing.
 use borrow.Author.Tests.{lt-ltb, le-ltb}
 use borrow.Author.Needs.{needs}
-use Rattle.rules.specs.Log.{countAt}
+use Rattle.rules.specs.File.{countAt}
 use Rattle.oplog.proofs.marker.Marker.next.Statement.{statement}
 use Rattle.oplog.proofs.marker.Marker.next.Tie as tie
 

@@ -4,13 +4,17 @@ use mathlib.Core.Path.{_≡_}
 use mathlib.Core.Bool.{true, false}
 use mathlib.Core.List.{List}
 use lib.ListN.{length, take}
 use Rattle.rules.specs.Answer.{accepted}
-use Rattle.rules.specs.Op.{Op, countIn, kindOf, replicaOf, nodeOf, parentOf, vectorOf, seqOf, nodeNumber}
-use Rattle.rules.specs.Log.{Log, opAt, countsOf, width, fileEnd, logOf}
+use Rattle.rules.specs.Op.{countIn, kindOf, replicaOf, nodeOf, parentOf, vectorOf, seqOf, nodeNumber}
+use Rattle.rules.specs.File.{Log, countsOf, Extends, width, fileEnd, logOf}
 use Rattle.rules.specs.Sound.{sound}
 use Rattle.rules.specs.Deliver.{held, deliverAnswer}
 use Rattle.rules.specs.Replay.{parentsOf}
-use Rattle.rules.specs.Issue.{Request, add, remove, move, moveKind, issueAnswer, issueOut}
+use Rattle.rules.specs.Issue.{Request, add, remove, move, issueAnswer, issueOut}
+use Rattle.rules.specs.Tree.{moveKind}
+use Rattle.codec.specs.declared.op.Fields.{Fields}
+use Rattle.codec.specs.declared.op.Read.the-variants.{Op}
+use Rattle.codec.specs.Read.{readOf}
 
 -- what was meant by a request of replica s
 unfoldable pub kindMeant : Log → Request → ℕ
@@ -28,22 +32,29 @@ parentMeant (add p) = p
 parentMeant (remove n) = 0
 parentMeant (move n p) = p
 
--- a log holds every op of another
-abbrev pub HoldsAll : Log → Log → Type 0
-HoldsAll more log =
-    (s q : ℕ) → 1 ≤ s → s ≤ 8 → 1 ≤ q → q ≤ countIn (countsOf log) s
-    → (q ≤ countIn (countsOf more) s) × (opAt more s q ≡ opAt log s q)
+abbrev pub fieldsMeant : Log → ℕ → Request → Fields
+fieldsMeant log s q = record {
+  kind = kindMeant log q;
+  replica = s;
+  sequence = countIn (countsOf log) s + 1;
+  node = nodeMeant log s q;
+  parent = parentMeant q;
+}
 
 -- what the bytes r say that replica s put out at a log
-pub record ReadsBack (log : Log) (s : ℕ) (q : Request) (r : Op) : Type 0 where
+pub record ReadsBack (log : Log) (s : ℕ) (q : Request) (r : List ℕ) : Type 0 where
+  pub long : length r ≡ width
   pub kind : kindOf r ≡ kindMeant log q
   pub origin : replicaOf r ≡ s
   pub sequence : seqOf r ≡ countIn (countsOf log) s + 1
   pub node : nodeOf r ≡ nodeMeant log s q
   pub parent : parentOf r ≡ parentMeant q
   pub vector : vectorOf r ≡ countsOf log
+  -- the op reader, `read_op`, answers an op with these fields
+  pub reads : readOf width r ≡ Op (fieldsMeant log s q)
   -- every sound log that holds what its vector counts, and not the op, accepts it where there is room
-  pub accepted-by : (g : List ℕ) → sound width g ≡ true → HoldsAll (logOf width g) log → held (logOf width g) r ≡ false → fileEnd width g + width ≤ length g → deliverAnswer width g r ≡ accepted (fileEnd width g + width)
+  pub accepted-by : (g : List ℕ) → sound width g ≡ true → Extends log (logOf width g) → held (logOf width g) r ≡ false
+      → fileEnd width g + width ≤ length g → deliverAnswer width g r ≡ accepted (fileEnd width g + width)
 
 abbrev pub IssuedReadsBack : Type 0
 IssuedReadsBack =

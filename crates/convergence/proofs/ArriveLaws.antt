@@ -1,0 +1,140 @@
+-- Two ops that two replicas issued from one log come to one buffer, in either order. Assumes nothing.
+use Prim.Native.Nat.{ℕ, _+_, _*_, _≤_}
+use borrow.Author.Tests.{le-leb, lt-leb, lt-ltb}
+use lib.ListN.{length}
+use mathlib.Core.Bool.{true, false, _||_}
+use mathlib.Core.List.{List, _∷_}
+use mathlib.Core.Path.{_≡_, refl, sym, ap, _∙_}
+use native.Mathlib.Nat.{le-refl}
+use native.Mathlib.Omega.{arith}
+use Rattle.convergence.proofs.AddedLaws.{has-more, has-swap}
+use Rattle.convergence.specs.Clash.{Arrives}
+use Rattle.convergence.specs.Exchange.{Call, issue, deliver, answer, bufferAfter, has}
+use Rattle.rules.proofs.AppendLaws.{Admits, extends, in-range, ops-other, good-append}
+use Rattle.rules.proofs.DeliverLaws.{Admitted, admitted, appended-log, appended-end, appended-length, appended-sound}
+use Rattle.rules.proofs.IssueLaws.{allowed, issue-admitted}
+use Rattle.rules.proofs.StructureLaws.{GoodLog, count-held}
+use Rattle.rules.specs.Answer.{accepted, require}
+use Rattle.lists.specs.Lists.{any, concat, same}
+use Rattle.rules.specs.Deliver.{held, deliverAnswer, deliverBuffer}
+use Rattle.rules.specs.Issue.{Request, issued, issueAnswer, issueBuffer}
+use Rattle.rules.specs.File.{Log, logOf, width, countsOf, fileEnd, append, appended, Extends}
+use Rattle.rules.specs.Op.{Op, countIn, replicaOf, seqOf}
+use Rattle.rules.proofs.PutOutLaws.{NextOp}
+use Rattle.rules.specs.Sound.{sound}
+
+---- a call that adds an op to a buffer
+
+pub record Adds (b : List ℕ) (r : Op) (c : Call) : Type 0 where
+  pub taken : answer b c ≡ accepted (fileEnd width b + width)
+  pub admitted-there : Admitted width b r (fileEnd width b + width)
+  pub grown : bufferAfter b c ≡ appended width b r
+
+delivery-adds : (b : List ℕ) (r : Op) → deliverAnswer width b r ≡ accepted (fileEnd width b + width) → Adds b r (deliver r)
+unfolding answer bufferAfter deliverBuffer
+delivery-adds b r e = record { taken = e; admitted-there = admitted width b r _ e; grown = rw e }
+
+-- a request that was accepted at f is so wherever f's log lies and there is room
+module _ (f b out : List ℕ) (s : ℕ) (q : Request) (n : ℕ) (ok : issueAnswer width f (length out) s q ≡ accepted n)
+    (is-sound : sound width b ≡ true) (one-log : logOf width b ≡ logOf width f) (fits : fileEnd width b + width ≤ length b) where
+  again : issueAnswer width b (length out) s q ≡ accepted (fileEnd width b + width)
+  unfolding issueAnswer require
+  again =
+      let a = allowed width f (length out) s q n ok in
+      let space = le-leb width (length out) (a .space) in
+      rw (is-sound, one-log, space, a .is-replica, lt-ltb _ 255 (a .count), a .names, a .clear, le-leb _ _ fits)
+
+  pub issue-adds : Adds b (issued (logOf width f) s q) (issue out s q)
+  unfolding answer bufferAfter issueBuffer
+  issue-adds =
+      rw (← one-log) (record { taken = again; admitted-there = issue-admitted b (length out) s q _ again; grown = rw again })
+
+-- an op that was issued at f is accepted wherever f's log lies and there is room
+module _ (f b : List ℕ) (s : ℕ) (r : Op) (back : NextOp (logOf width f) s r)
+    (is-sound : sound width b ≡ true) (one-log : logOf width b ≡ logOf width f) (fits : fileEnd width b + width ≤ length b) where
+  new-there : held (logOf width f) r ≡ false
+  unfolding held
+  new-there =
+      lt-leb (seqOf r) (countIn (countsOf (logOf width f)) (replicaOf r)) (rw (back .origin, back .sequence) (omega arith))
+
+  pub op-adds : Adds b r (deliver r)
+  op-adds =
+      delivery-adds b r (back .accepted-by b is-sound (rw one-log (record { counts = λ t l u. le-refl _; ops = λ t k l u lk uk. refl }))
+      (rw one-log new-there) fits)
+
+---- one op and then the other
+
+module _ (f : List ℕ) (good : GoodLog (logOf width f)) (s s′ : ℕ) (r r′ : Op)
+    (back : NextOp (logOf width f) s r) (back′ : NextOp (logOf width f) s′ r′)
+    (low′ : 1 ≤ s′) (apart : s ≡ s′ → ⊥) (b : List ℕ) (one-log : logOf width b ≡ logOf width f) where
+  abbrev log : Log
+  log = logOf width f
+
+  -- it came by a call
+  module _ (one : Call) (adds : Adds b r one) (fits : fileEnd width b + 2 * width ≤ length b) where
+    abbrev end : ℕ
+    end = fileEnd width b + width
+
+    abbrev then : List ℕ
+    then = appended width b r
+
+    came : Admitted width b r end
+    came = adds .admitted-there
+
+    admits : Admits log r
+    admits = rw one-log at (came .admits)
+
+    then-log : logOf width then ≡ append log r
+    then-log = appended-log width b r end came ∙ ap (λ t. append t r) one-log
+
+    holds : Extends log (append log r)
+    holds = extends log r good admits
+
+    new : held (append log r) r′ ≡ false
+    unfolding held
+    new =
+        let i = in-range log r good admits in
+        let same-ops = ops-other log r (good .eight) (i .0) (i .1) s′ low′ (λ e. apart (sym (e ∙ back .origin))) in
+        lt-leb (seqOf r′) (countIn (countsOf (append log r)) (replicaOf r′)) (rw (back′ .origin, back′ .sequence)
+        (omega (arith, count-held log s′, count-held (append log r) s′, ap length same-ops)))
+
+    next : Adds then r′ (deliver r′)
+    next =
+        let e = appended-end width b r end came in
+        let n = appended-length width b r end came in
+        delivery-adds then r′
+        (back′ .accepted-by then (appended-sound width b r end came) (rw then-log holds) (rw then-log new) (omega arith))
+
+    both-ops : (z : Op) → has (concat (append (append log r) r′)) z ≡ has (r ∷ r′ ∷ concat log) z
+    unfolding has any
+    both-ops z =
+        let i = in-range log r good admits in
+        let i′ = in-range (append log r) r′ (good-append log r good admits) (rw then-log at (next .admitted-there .admits)) in
+        has-more (append log r) r′ z (good-append log r good admits .eight) (i′ .0) (i′ .1)
+        ∙ ap (λ t. same z r′ || t) (has-more log r z (good .eight) (i .0) (i .1))
+        ∙ has-swap r′ r (concat log) z
+
+    -- and the other is delivered after it
+    pub arrives : Arrives f b r r′ one (deliver r′)
+    arrives =
+        let last = next .admitted-there in
+        let new-end : fileEnd width then + width ≡ fileEnd width b + 2 * width = omega (arith, appended-end width b r end came) in
+        record {
+          one-accepted = adds .taken;
+          next-accepted = rw (adds .grown) (next .taken ∙ ap accepted new-end);
+          both-added = rw (adds .grown, next .grown) (record {
+            is-sound = appended-sound width then r′ _ last;
+            ops = rw (appended-log width then r′ _ last, then-log) both-ops;
+          });
+        }
+
+-- which of the two is named first does not matter
+pub arrives-back : (f b : List ℕ) (r r′ : Op) (one next : Call) → Arrives f b r′ r one next → Arrives f b r r′ one next
+arrives-back f b r r′ one next a = record {
+  one-accepted = a .one-accepted;
+  next-accepted = a .next-accepted;
+  both-added = record {
+    is-sound = a .both-added .is-sound;
+    ops = λ z. a .both-added .ops z ∙ has-swap r′ r (concat (logOf width f)) z;
+  };
+}

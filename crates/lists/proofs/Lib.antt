@@ -1,0 +1,9 @@
+pub mod BoolLaws
+pub mod NumberLaws
+pub mod AllLaws
+pub mod ListLaws
+pub mod RangeLaws
+pub mod FilterLaws
+pub mod GreatestLaws
+pub mod EachLaws
+pub mod MemberLaws

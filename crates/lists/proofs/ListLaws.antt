@@ -1,0 +1,119 @@
+-- Laws of lists: sums, equal lists, lists of lists, parts and stores.
+use Rattle.lists.proofs.BoolLaws.{and-left, and-right, both-ways, never}
+use Rattle.lists.specs.Lists.{concat, same, sum}
+use mathlib.Core.Bool.{Bool, _&&_, true}
+use mathlib.Core.List.{List, [], _++_, _∷_, append-assoc, map, map-append}
+use Prim.Native.Nat.{_+_, _<_, _≤_, suc, zero, ℕ}
+use mathlib.Core.Path.{_∙_, _≡_, ap, ap₂, refl, sym}
+use native.Mathlib.Numerals.{add-one}
+use native.Mathlib.Omega.{arith}
+use lib.ListN.{drop, drop-of-length-le, getD, length, replicate, replicate-append-replicate, set, take}
+use lib.Seq.{drop-cons, drop-drop, take-all, take-nil, take-suc, take-suc-set}
+use borrow.Author.Tests.{eq-eqb, eqb-true}
+use lib.Dec.{eqb}
+use native.Mathlib.Nat.{le-of-suc-le-suc, not-suc-le-zero, suc-add, zero-add}
+
+---- sums
+
+pub sum-suc : (c : List ℕ) (i : ℕ) → i < length c → sum (take (suc i) c) ≡ sum (take i c) + getD c i 0
+unfolding sum
+sum-suc [] i h = absurd (not-suc-le-zero h)
+sum-suc (x ∷ c) zero h = omega arith
+sum-suc (x ∷ c) (suc i) h = omega (arith, sum-suc c i (le-of-suc-le-suc h))
+
+pub sum-take : (c : List ℕ) (i : ℕ) → sum (take i c) + getD c i 0 ≤ sum c
+unfolding sum
+sum-take [] zero = omega arith
+sum-take [] (suc i) = omega arith
+sum-take (x ∷ c) zero = omega arith
+sum-take (x ∷ c) (suc i) = omega (arith, sum-take c i)
+
+---- two lists of bytes that are the same
+
+pub same-refl : (xs : List ℕ) → same xs xs ≡ true
+unfolding same
+same-refl [] = refl
+same-refl (x ∷ xs) = rw (eq-eqb x x refl, same-refl xs)
+
+pub same-eq : (a b : List ℕ) → same a b ≡ true → a ≡ b
+unfolding same
+same-eq [] [] e = refl
+same-eq [] (y ∷ b) e = never e
+same-eq (x ∷ a) [] e = never e
+same-eq (x ∷ a) (y ∷ b) e = ap₂ _∷_ (eqb-true x y (and-left (eqb x y) _ e)) (same-eq a b (and-right (eqb x y) _ e))
+
+pub same-sym : (a b : List ℕ) → same a b ≡ same b a
+same-sym a b =
+    both-ways (same a b) (same b a) (λ e. rw (same-eq a b e) (same-refl b)) (λ e. rw (same-eq b a e) (same-refl a))
+
+-- a comparison of two lists, from place i on
+unfoldable pub sameFrom : List ℕ → List ℕ → ℕ → Bool
+sameFrom a b i = same (drop i a) (drop i b)
+
+pub same-all : (a b : List ℕ) → same a b ≡ sameFrom a b 0
+unfolding sameFrom
+same-all a b = refl
+
+pub same-turn : (a b : List ℕ) (i : ℕ) → i < length a → i < length b
+    → sameFrom a b i ≡ (eqb (getD a i 0) (getD b i 0) && sameFrom a b (i + 1))
+unfolding sameFrom same
+same-turn a b i h l = rw (drop-cons a i 0 h, drop-cons b i 0 l, add-one i)
+
+pub same-end : (a b : List ℕ) (i : ℕ) → length a ≤ i → length b ≤ i → sameFrom a b i ≡ true
+unfolding sameFrom same
+same-end a b i h l = rw (drop-of-length-le a h, drop-of-length-le b l)
+
+---- lists of lists
+
+pub concat-append : {A : Type 0} (xs ys : List (List A)) → concat (xs ++ ys) ≡ concat xs ++ concat ys
+unfolding concat
+concat-append [] ys = refl
+concat-append (x ∷ xs) ys = rw (concat-append xs ys, append-assoc)
+
+pub map-concat : {A : Type 0} (f : ℕ → A) (F : ℕ → List ℕ) (cs : List ℕ) → map f (concat (map F cs)) ≡ concat (map (λ c. map f (F c)) cs)
+unfolding concat
+map-concat f F [] = refl
+map-concat f F (c ∷ cs) = rw (map-append, map-concat f F cs)
+
+pub map-map : {A : Type 0} (f : ℕ → A) (g : ℕ → ℕ) (xs : List ℕ) → map f (map g xs) ≡ map (λ x. f (g x)) xs
+map-map f g [] = refl
+map-map f g (x ∷ xs) = ap (λ ys. f (g x) ∷ ys) (map-map f g xs)
+
+---- parts and stores
+
+pub no-length : {A : Type 0} (xs : List A) → length xs ≡ 0 → xs ≡ []
+no-length [] e = refl
+no-length (x ∷ xs) e = absurd (omega arith)
+
+-- a turn of a loop that copies s to the front of v
+pub copy-step : (v s : List ℕ) (i x : ℕ) → take i v ≡ take i s → i < length v → i < length s → x ≡ getD s i 0
+    → take (i + 1) (set v i x) ≡ take (i + 1) s
+copy-step v s i x e hv hs ex = rw (add-one, take-suc-set, take-suc s i 0, e, ex)
+
+-- a turn of a loop that fills a table with one number
+pub fill-step : (t : List ℕ) (i x : ℕ) → take i t ≡ replicate i x → i < length t → take (i + 1) (set t i x) ≡ replicate (i + 1) x
+fill-step t i x e h = rw (add-one i, take-suc-set t i x h, e) (replicate-append-replicate i 1 x ∙ ap (λ (n : ℕ). replicate n x) (add-one i))
+
+pub filled : (t : List ℕ) (n x : ℕ) → length t ≡ n → take n t ≡ replicate n x → t ≡ replicate n x
+filled t n x l e = sym (take-all n t (omega arith)) ∙ e
+
+pub drop-take : (m n : ℕ) (l : List ℕ) → drop m (take (m + n) l) ≡ take n (drop m l)
+drop-take zero n l = rw zero-add
+drop-take (suc m) n [] = rw (suc-add, take-nil)
+drop-take (suc m) n (x ∷ l) = rw suc-add (drop-take m n l)
+
+pub drop-more : (xs ys : List ℕ) (i : ℕ) → drop i xs ≡ drop i ys → drop (i + 1) xs ≡ drop (i + 1) ys
+drop-more xs ys i e = sym (drop-drop 1 i xs) ∙ ap (drop 1) e ∙ drop-drop 1 i ys
+
+pub drop-replicate : (n a : ℕ) → drop n (replicate (suc n) a) ≡ a ∷ []
+drop-replicate zero a = refl
+drop-replicate (suc n) a = drop-replicate n a
+
+pub take-same : {A : Type 0} (d : A) (n : ℕ) (xs ys : List A) → n ≤ length xs → n ≤ length ys
+    → ((i : ℕ) → i < n → getD xs i d ≡ getD ys i d)
+    → take n xs ≡ take n ys
+take-same d zero xs ys a b e = refl
+take-same d (suc n) [] ys a b e = absurd (not-suc-le-zero a)
+take-same d (suc n) (x ∷ xs) [] a b e = absurd (not-suc-le-zero b)
+take-same d (suc n) (x ∷ xs) (y ∷ ys) a b e =
+    ap₂ _∷_ (e 0 (omega arith)) (take-same d n xs ys (le-of-suc-le-suc a) (le-of-suc-le-suc b) (λ i h. e (suc i) (omega arith)))

@@ -1,0 +1,98 @@
+-- Laws of the numbers from a on, and of those from n down to 1.
+use Rattle.lists.specs.Lists.{all, concat, downFrom, upFrom}
+use Rattle.lists.proofs.BoolLaws.{and-left, and-right, never}
+use mathlib.Core.Bool.{Bool, _&&_, false, true}
+use mathlib.Core.List.{List, [], _++_, _∷_, append-nil, map}
+use Prim.Native.Nat.{_+_, _-_, _<_, _≤_, suc, zero, ℕ}
+use mathlib.Core.Path.{_∙_, _≡_, ap, ap₂, refl, sym}
+use native.Mathlib.Nat.{add-suc, add-zero, le-refl, suc-add, zero-add}
+use native.Mathlib.Omega.{arith}
+use lib.ListN.{getD, length}
+use lib.Arith.{lt-of-le-ne}
+use native.Mathlib.Decide.{ℕ-discrete}
+
+pub upFrom-cons : (a n : ℕ) → upFrom a (suc n) ≡ a ∷ upFrom (suc a) n
+unfolding upFrom
+upFrom-cons a n = refl
+
+pub upFrom-none : (a : ℕ) → upFrom a 0 ≡ []
+unfolding upFrom
+upFrom-none a = refl
+
+pub upFrom-add : (a m n : ℕ) → upFrom a (m + n) ≡ upFrom a m ++ upFrom (a + m) n
+unfolding upFrom
+upFrom-add a zero n = rw (zero-add, add-zero)
+upFrom-add a (suc m) n = rw (suc-add, upFrom-add (suc a) m n, suc-add, add-suc)
+
+pub map-upFrom : {A : Type 0} (f g : ℕ → A) (n a : ℕ) → ((i : ℕ) → a ≤ i → i < a + n → f i ≡ g i) → map f (upFrom a n) ≡ map g (upFrom a n)
+unfolding upFrom
+map-upFrom f g zero a e = refl
+map-upFrom f g (suc n) a e = ap₂ _∷_ (e a (le-refl a) (omega arith)) (map-upFrom f g n (suc a) (λ i l u. e i (omega arith) (omega arith)))
+
+pub map-downFrom : {A : Type 0} (f g : ℕ → A) (n : ℕ) → ((i : ℕ) → 1 ≤ i → i ≤ n → f i ≡ g i) → map f (downFrom n) ≡ map g (downFrom n)
+unfolding downFrom
+map-downFrom f g zero e = refl
+map-downFrom f g (suc n) e = ap₂ _∷_ (e (suc n) (omega arith) (le-refl _)) (map-downFrom f g n (λ i l u. e i l (omega arith)))
+
+pub concat-nothing : {A : Type 0} (F : ℕ → List A) (n a : ℕ) → ((i : ℕ) → a ≤ i → i < a + n → F i ≡ []) → concat (map F (upFrom a n)) ≡ []
+unfolding upFrom concat
+concat-nothing F zero a e = refl
+concat-nothing F (suc n) a e = rw (e a (le-refl a) (omega arith)) (concat-nothing F n (suc a) (λ i l u. e i (omega arith) (omega arith)))
+
+pub concat-none : {A : Type 0} (F : ℕ → List A) (n : ℕ) → ((i : ℕ) → 1 ≤ i → i ≤ n → F i ≡ []) → concat (map F (downFrom n)) ≡ []
+unfolding downFrom concat
+concat-none F zero e = refl
+concat-none F (suc n) e = rw (e (suc n) (omega arith) (le-refl _)) (concat-none F n (λ i l u. e i l (omega arith)))
+
+-- a list is made of its elements
+pub map-getD : {A : Type 0} (d : A) (xs : List A) (a : ℕ) → map (λ s. getD xs (s - a) d) (upFrom a (length xs)) ≡ xs
+unfolding upFrom
+map-getD d [] a = refl
+map-getD d (x ∷ xs) a =
+    let z : a - a ≡ 0 = omega arith in
+    rw z (ap (λ ys. x ∷ ys) (map-upFrom (λ s. getD (x ∷ xs) (s - a) d) (λ s. getD xs (s - suc a) d) (length xs) (suc a) (λ s l u. next s l)
+    ∙ map-getD d xs (suc a)))
+  where
+    next : (s : ℕ) → suc a ≤ s → getD (x ∷ xs) (s - a) d ≡ getD xs (s - suc a) d
+    next s l = let e : s - a ≡ suc (s - suc a) = omega arith in rw e
+
+pub all-from : (p : ℕ → Bool) (n a : ℕ) → all p (upFrom a n) ≡ true → (s : ℕ) → a ≤ s → s < a + n → p s ≡ true
+unfolding all upFrom
+all-from p zero a e s l u = absurd (omega arith)
+all-from p (suc n) a e s l u = elim (ℕ-discrete a s) [
+  | yes q ↦ rw (← q) (and-left (p a) (all p (upFrom (suc a) n)) e)
+  | no ne ↦ all-from p n (suc a) (and-right (p a) (all p (upFrom (suc a) n)) e) s (lt-of-le-ne l ne) (omega arith)
+]
+
+-- one that fails
+pub fails-from : (p : ℕ → Bool) (n a : ℕ) → all p (upFrom a n) ≡ false → (s : ℕ) × (a ≤ s) × (s < a + n) × (p s ≡ false)
+unfolding all upFrom
+fails-from p zero a e = never (sym e)
+fails-from p (suc n) a e = go (p a) refl e (fails-from p n (suc a))
+  where
+    go : (b : Bool) → p a ≡ b → (b && all p (upFrom (suc a) n)) ≡ false
+        → (all p (upFrom (suc a) n) ≡ false → (s : ℕ) × (suc a ≤ s) × (s < suc a + n) × (p s ≡ false))
+        → (s : ℕ) × (a ≤ s) × (s < a + suc n) × (p s ≡ false)
+    go true q z ih = let (s, l, u, f) = ih z in (s, omega arith, omega arith, f)
+    go false q z ih = (a, omega arith, omega arith, q)
+
+module _ {A : Type 0} (F : ℕ → List A) where
+  one-down : (n s : ℕ) → 1 ≤ s → s ≤ n → ((r : ℕ) → 1 ≤ r → r ≤ n → (r ≡ s → ⊥) → F r ≡ [])
+      → concat (map F (downFrom n)) ≡ F s
+  unfolding downFrom concat
+  one-down zero s l u e = absurd (omega arith)
+  one-down (suc n) s l u e = elim (ℕ-discrete s (suc n)) [
+    | yes z ↦ rw (concat-none F n (λ r a b. e r a (omega arith) (λ w. omega arith)), append-nil, z)
+    | no nz ↦ rw (e (suc n) (omega arith) (le-refl _) (λ w. omega arith)) (one-down n s l (omega arith) (λ r a b. e r a (omega arith)))
+  ]
+
+  pub two-down : (n hi lo : ℕ) → 1 ≤ lo → lo < hi → hi ≤ n → ((r : ℕ) → 1 ≤ r → r ≤ n → (r ≡ hi → ⊥) → (r ≡ lo → ⊥) → F r ≡ [])
+      → concat (map F (downFrom n)) ≡ F hi ++ F lo
+  unfolding downFrom concat
+  two-down zero hi lo l h u e = absurd (omega arith)
+  two-down (suc n) hi lo l h u e = elim (ℕ-discrete hi (suc n)) [
+    | yes z ↦ rw (z, one-down n lo l (omega arith) (λ r a b w. e r a (omega arith) (λ q. omega arith) w))
+    | no nz ↦
+        rw (e (suc n) (omega arith) (le-refl _) (λ w. omega arith) (λ w. omega arith))
+        (two-down n hi lo l h (omega arith) (λ r a b. e r a (omega arith)))
+  ]

@@ -1,0 +1,1 @@
+// Functions on lists and truth values, and their laws: no code.
