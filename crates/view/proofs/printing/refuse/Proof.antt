@@ -15,7 +15,9 @@ returns c = rw (text-short refusedLine (now (c .before .args .out)) (rw refused-
 
 returns-2 : tie.Need-returns-2
 unfolding putText refusedLine
-returns-2 c = rw (text-done refusedLine (now (c .before .args .out)) (c .if1 .left)) (refl, refused-written (now (c .before .args .out)) (c .if1 .left))
+returns-2 c =
+    let out = now (c .before .args .out) in
+    rw (text-done refusedLine out (c .if1 .left)) (refl, refused-written out (c .if1 .left))
 
 pub refuse-spec : {M : Type 1} → statement M
 refuse-spec =
