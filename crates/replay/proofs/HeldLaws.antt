@@ -5,15 +5,17 @@ use mathlib.Core.List.{List}
 use Prim.Native.Nat.{ℕ, _≤_}
 use native.Mathlib.Omega.{arith}
 use native.Mathlib.Nat.{le-refl}
-use Rattle.rules.specs.Op.{countIn, Vector}
+use Rattle.rules.specs.Op.{countIn, kindOf, Vector}
 use Rattle.rules.specs.File.{opAt, headerCounts, countsOf, logOf}
 use Rattle.rules.specs.Log.{covered, structural, closed}
 use Rattle.oplog.specs.Spots.{Spot}
 use Rattle.rules.proofs.StructureLaws.{counts-closed, HeldOp, structural-good, laid-reads, good-ops, structural-laid}
 use Rattle.rules.proofs.FileLaws.{counts-at, counts-logOf}
+use Rattle.order.proofs.GrowLaws.{kinds}
 use Rattle.order.proofs.LevelLaws.{le-within, Cut}
 use Rattle.oplog.proofs.FieldLaws.{counts-in}
-use Rattle.replay.specs.Tables.{Held, InFile}
+use Rattle.replay.specs.Tables.{Held, InFile, classOf}
+use Rattle.replay.proofs.KindLaws.{class-is}
 
 pub spot : {w : ℕ} {f : List ℕ} {s q : ℕ} → InFile w f s q → Spot w f s q
 spot {w} {f} x = record {
@@ -28,6 +30,12 @@ spot {w} {f} x = record {
 pub held-op : (w : ℕ) (f : List ℕ) (s q : ℕ) → InFile w f s q → HeldOp (logOf w f) s q (opAt (logOf w f) s q)
 held-op w f s q x = good-ops (structural-good w f (x .is-structural)) s q (x .low) (x .high) (x .first)
     (rw (counts-in w f s (x .low) (x .high)) (x .last))
+
+-- in a structurally sound file the class of an op is its kind
+pub class-kind : (w : ℕ) (f : List ℕ) (s q : ℕ) → InFile w f s q → classOf (kindOf (opAt (logOf w f) s q)) ≡ kindOf (opAt (logOf w f) s q)
+class-kind w f s q x =
+    let k = kinds (opAt (logOf w f) s q) (held-op w f s q x .formed) in
+    class-is (kindOf (opAt (logOf w f) s q)) (k .0) (k .1)
 
 pub in-file : (w : ℕ) (f : List ℕ) (v : Vector) → Held w f v → (s q : ℕ) → 1 ≤ s → s ≤ 8 → 1 ≤ q → q ≤ countIn v s → InFile w f s q
 in-file w f v h s q l u lq uq = record {

@@ -1,10 +1,11 @@
 -- Turns of the loops over kinds, replicas and levels. Assumes nothing.
 use mathlib.Core.Path.{_≡_, refl, _∙_}
-use mathlib.Core.Bool.{Bool, true, false, cond}
+use mathlib.Core.Bool.{Bool, true, false, cond, not, _&&_}
 use mathlib.Core.List.{List, [], _∷_, map, foldl, foldl-append}
 use Prim.Native.Nat.{ℕ, zero, suc, _+_, _-_, _≤_, _<_}
 use native.Mathlib.Omega.{arith}
 use lib.ListN.{length, getD}
+use lib.Dec.{eqb}
 use borrow.Author.Tests.{lt-ltb, le-ltb, eq-eqb, ne-eqb}
 use native.Mathlib.Numerals.{add-one}
 use native.Mathlib.Decide.{decLt}
@@ -16,10 +17,12 @@ use Rattle.lists.specs.Lists.{upFrom, downFrom, concat}
 use Rattle.order.specs.Levels.{levelKind, advancedAt, nextAt, entry, level, levels, nextOf, ready, nothing, advanced}
 use Rattle.rules.proofs.FileLaws.{vector-eta, count-map}
 use Rattle.lists.proofs.RangeLaws.{concat-nothing, concat-none}
+use Rattle.lists.proofs.BoolLaws.{and-false}
 use Rattle.rules.proofs.ReplicaLaws.{map-replicas}
 use Rattle.order.proofs.LevelLaws.{count-nothing}
 use Rattle.rules.proofs.CausalLaws.{within-le}
-use Rattle.replay.specs.Tables.{stampedAt, Held, Span}
+use Rattle.replay.specs.Tables.{stampedAt, Held, InFile, Span, dueAt}
+use Rattle.replay.proofs.HeldLaws.{in-file}
 
 module _ (log : Log) (cut done : Vector) (s : ℕ) where
   pub next-none : countIn cut s ≤ countIn done s → nextAt log cut done s ≡ 0
@@ -31,20 +34,54 @@ module _ (log : Log) (cut done : Vector) (s : ℕ) where
   unfolding nextAt ready
   next-some h = rw (lt-ltb (countIn done s) (countIn cut s) h)
 
+module _ (log : Log) (next : Vector) (k s : ℕ) where
+  pub due-zero : countIn next s ≡ 0 → dueAt log next k s ≡ 0
+  unfolding dueAt
+  due-zero e = rw e (go (eqb (kindOf (opAt log s 0)) k) 0)
+    where
+      go : (b : Bool) (n : ℕ) → cond b n n ≡ n
+      go true n = refl
+      go false n = refl
+
+  pub due-other : (kindOf (opAt log s (countIn next s)) ≡ k → ⊥) → dueAt log next k s ≡ 0
+  unfolding dueAt
+  due-other h = rw (ne-eqb (kindOf (opAt log s (countIn next s))) k h)
+
+  pub due-one : kindOf (opAt log s (countIn next s)) ≡ k → dueAt log next k s ≡ countIn next s
+  unfolding dueAt
+  due-one h = rw (eq-eqb (kindOf (opAt log s (countIn next s))) k h)
+
+  due-least : dueAt log next k s ≤ countIn next s
+  unfolding dueAt
+  due-least = go (eqb (kindOf (opAt log s (countIn next s))) k) (countIn next s)
+    where
+      go : (b : Bool) (n : ℕ) → cond b n 0 ≤ n
+      go true n = le-refl n
+      go false n = omega arith
+
 module _ (log : Log) (t : ℕ) (next : Vector) (k : ℕ) where
   module _ (s : ℕ) where
-    pub entry-zero : countIn next s ≡ 0 → entry log t next k s ≡ []
+    entry-zero : countIn next s ≡ 0 → entry log t next k s ≡ []
     unfolding entry
     entry-zero e = rw e
 
-    pub entry-other : (countIn next s ≡ 0 → ⊥) → (kindOf (opAt log s (countIn next s)) ≡ k → ⊥) → entry log t next k s ≡ []
-    unfolding entry
-    entry-other e h = rw (ne-eqb (countIn next s) 0 e, ne-eqb (kindOf (opAt log s (countIn next s))) k h)
+    -- an entry is the op that is due
+    pub entry-none : dueAt log next k s ≡ 0 → entry log t next k s ≡ []
+    unfolding entry dueAt
+    entry-none = go (countIn next s) (eqb (kindOf (opAt log s (countIn next s))) k)
+      where
+        go : (n : ℕ) (b : Bool) → cond b n 0 ≡ 0 → cond (not (eqb n 0) && b) (stampedAt t (opAt log s n) ∷ []) [] ≡ []
+        go n true e = rw e
+        go n false e = rw and-false
 
-    pub entry-one : (countIn next s ≡ 0 → ⊥) → kindOf (opAt log s (countIn next s)) ≡ k
-        → entry log t next k s ≡ stampedAt t (opAt log s (countIn next s)) ∷ []
-    unfolding entry
-    entry-one e h = rw (ne-eqb (countIn next s) 0 e, eq-eqb (kindOf (opAt log s (countIn next s))) k h)
+    pub entry-due : (dueAt log next k s ≡ 0 → ⊥) → entry log t next k s ≡ stampedAt t (opAt log s (dueAt log next k s)) ∷ []
+    unfolding entry dueAt
+    entry-due = go (countIn next s) (eqb (kindOf (opAt log s (countIn next s))) k)
+      where
+        go : (n : ℕ) (b : Bool) → (cond b n 0 ≡ 0 → ⊥)
+            → cond (not (eqb n 0) && b) (stampedAt t (opAt log s n) ∷ []) [] ≡ stampedAt t (opAt log s (cond b n 0)) ∷ []
+        go n true e = rw (ne-eqb n 0 e)
+        go n false e = absurd (e refl)
 
   -- the entries of the replicas but the i highest
   unfoldable pub kindFrom : ℕ → List Stamped
@@ -162,6 +199,11 @@ module _ (log : Log) (cut done : Vector) (eight : length done ≡ 8) (idle : wit
   pub levels-idle : (st : State) (t : ℕ) → foldl step st (levelsFrom log cut t done) ≡ st
   unfolding levelsFrom
   levels-idle st t = rw (idle-levels (2042 - t) t)
+
+-- a file that holds what is ready has the op that is due
+pub due-held : (w : ℕ) (f : List ℕ) (next : Vector) → Held w f next → (s : ℕ) → 1 ≤ s → s ≤ 8 → (k q : ℕ) → q ≡ dueAt (logOf w f) next k s
+    → (q ≡ 0 → ⊥) → InFile w f s q
+due-held w f next h s l u k q e z = in-file w f next h s q l u (omega arith) (omega (arith, due-least (logOf w f) next k s))
 
 -- a file that holds a cut holds what is ready
 pub next-held : (w : ℕ) (f : List ℕ) (cut done : Vector) → Held w f cut → Held w f (nextOf (logOf w f) cut done)

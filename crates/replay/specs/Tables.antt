@@ -1,12 +1,12 @@
 -- What the contracts of the replay say of the lent tables and of the file. Assumes nothing.
 use Prim.Native.Nat.{ℕ, _≤_, _<_}
 use mathlib.Core.Path.{_≡_}
-use mathlib.Core.Bool.{Bool, true, cond, _||_, not}
+use mathlib.Core.Bool.{Bool, true, cond, _&&_, _||_, not}
 use mathlib.Core.List.{List}
 use lib.ListN.{length, getD}
-use lib.Dec.{eqb}
-use Rattle.rules.specs.Op.{Op, Vector, countIn}
-use Rattle.rules.specs.File.{countAt}
+use lib.Dec.{leb, eqb}
+use Rattle.rules.specs.Op.{Op, Vector, countIn, kindOf}
+use Rattle.rules.specs.File.{Log, countAt, opAt}
 use Rattle.rules.specs.Log.{structural}
 use Rattle.rules.specs.Tree.{atOrBelow}
 use Rattle.rules.specs.Replay.{State, Stamped}
@@ -46,6 +46,14 @@ pub record Span (next : Vector) (high low : ℕ) : Type 0 where
   pub end : low ≤ 9
   pub above : (s : ℕ) → high < s → s ≤ 8 → countIn next s ≡ 0
   pub below : (s : ℕ) → 1 ≤ s → s < low → countIn next s ≡ 0
+
+-- the class of a kind, in the order of "adds, removes, upward moves, downward moves"; 0 of a kind that no op has
+unfoldable pub classOf : ℕ → ℕ
+classOf k = cond (leb 1 k && leb k 4) k 0
+
+-- the number of the op of replica s that is ready, if it is of kind k; else 0
+unfoldable pub dueAt : Log → Vector → ℕ → ℕ → ℕ
+dueAt log next k s = cond (eqb (kindOf (opAt log s (countIn next s))) k) (countIn next s) 0
 
 -- the effects by the fields of an op
 abbrev pub moves : ℕ → Bool

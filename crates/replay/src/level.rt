@@ -11,14 +11,54 @@ ghost use Rattle.rules.specs.File.{logOf};
 ghost use Rattle.rules.specs.Op.{countIn};
 ghost use Rattle.rules.specs.Replay.{step};
 ghost use Rattle.order.specs.Levels.{entry, levelKind, level, levels, nothing};
-ghost use Rattle.replay.specs.Tables.{tables, Sized, Held, Span};
+ghost use Rattle.replay.specs.Tables.{tables, Sized, Held, Span, classOf, dueAt};
 
-// Applies the op of a replica that is ready, if it is of this kind.
+// The class of a kind, in the order in which ops of one timestamp are judged: adds, removes,
+// upward moves, downward moves. Any other kind is in none of them.
+fn class_of(kind: u8) -> u8
+    ensures { λ r. ⌜ r ≡ classOf kind ⌝ }
+{
+    match kind {
+        1 => {
+            return 1;
+        }
+        2 => {
+            return 2;
+        }
+        3 => {
+            return 3;
+        }
+        4 => {
+            return 4;
+        }
+        0 | 5..=255 => {
+            return 0;
+        }
+    }
+}
+
+// The number of the op of a replica that is ready, if it is of this class; else 0.
+fn due(file: &[u8], next: [u8; 8], class: u8, s: usize, width: usize) -> usize
+    requires { ⌜ Held width (now file) next × (1 ≤ s) × (s ≤ 8) ⌝ }
+    ensures { λ r. ⌜ r ≡ dueAt (logOf width (now (file .entry))) next class s ⌝ }
+{
+    let q = widen(next[s - 1]);
+    if q == 0 {
+        return 0;
+    }
+    let at = place(file, s, q, width);
+    if class_of(file[at]) != class {
+        return 0;
+    }
+    q
+}
+
+// Applies the op of a replica that is ready, if it is of this class.
 fn replay_entry(
     file: &[u8],
     next: [u8; 8],
     time: u16,
-    kind: u8,
+    class: u8,
     s: usize,
     parents: &mut [u16],
     outcomes: &mut [u8],
@@ -26,14 +66,10 @@ fn replay_entry(
     width: usize,
 )
     requires { ⌜ Held width (now file) next × (1 ≤ s) × (s ≤ 8) × Sized (now parents) (now outcomes) (now placed) ⌝ }
-    ensures { λ _. ⌜ tables (now (parents .exit)) (now (outcomes .exit)) (now (placed .exit)) ≡ foldl step (tables (now (parents .entry)) (now (outcomes .entry)) (now (placed .entry))) (entry (logOf width (now (file .entry))) time next kind s) ⌝ }
+    ensures { λ _. ⌜ tables (now (parents .exit)) (now (outcomes .exit)) (now (placed .exit)) ≡ foldl step (tables (now (parents .entry)) (now (outcomes .entry)) (now (placed .entry))) (entry (logOf width (now (file .entry))) time next class s) ⌝ }
 {
-    let q = widen(next[s - 1]);
+    let q = due(file, next, class, s, width);
     if q == 0 {
-        return;
-    }
-    let at = place(file, s, q, width);
-    if file[at] != kind {
         return;
     }
     apply_op(file, s, q, time, parents, outcomes, placed, width);
@@ -63,31 +99,31 @@ fn lowest(next: [u8; 8]) -> usize
     9
 }
 
-// The ops of a level and a kind, the higher replica first. None is ready above high or below low.
-fn replay_kind(
+// The ops of a level and a class, the higher replica first. None is ready above high or below low.
+fn replay_class(
     file: &[u8],
     next: [u8; 8],
     high: usize,
     low: usize,
     time: u16,
-    kind: u8,
+    class: u8,
     parents: &mut [u16],
     outcomes: &mut [u8],
     placed: &mut [u16],
     width: usize,
 )
     requires { ⌜ Held width (now file) next × Sized (now parents) (now outcomes) (now placed) × Span next high low ⌝ }
-    ensures { λ _. ⌜ tables (now (parents .exit)) (now (outcomes .exit)) (now (placed .exit)) ≡ foldl step (tables (now (parents .entry)) (now (outcomes .entry)) (now (placed .entry))) (levelKind (logOf width (now (file .entry))) time next kind) ⌝ }
+    ensures { λ _. ⌜ tables (now (parents .exit)) (now (outcomes .exit)) (now (placed .exit)) ≡ foldl step (tables (now (parents .entry)) (now (outcomes .entry)) (now (placed .entry))) (levelKind (logOf width (now (file .entry))) time next class) ⌝ }
 {
     let from = 8 - high;
     let to = 9 - low;
     for i in from..to {
         let s = 8 - i;
-        replay_entry(file, next, time, kind, s, parents, outcomes, placed, width);
+        replay_entry(file, next, time, class, s, parents, outcomes, placed, width);
     }
 }
 
-// A level: adds, removes, upward moves, downward moves.
+// A level, class by class: adds, removes, upward moves, downward moves.
 fn replay_level(
     file: &[u8],
     next: [u8; 8],
@@ -102,14 +138,14 @@ fn replay_level(
 {
     let high = highest(next);
     let low = lowest(next);
-    for kind in 1..5u8 {
-        replay_kind(
+    for class in 1..5u8 {
+        replay_class(
             file,
             next,
             high,
             low,
             time,
-            kind,
+            class,
             parents,
             outcomes,
             placed,

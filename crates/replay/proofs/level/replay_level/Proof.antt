@@ -14,10 +14,10 @@ use Rattle.replay.proofs.TurnLaws.{level-turn, level-all, levelFrom, le
 use Rattle.replay.proofs.level.replay_level.Tie as tie
 
 abbrev Inv-loop : tie.InvT-loop
-Inv-loop file next time parents₀ outcomes₀ placed₀ width high low kind₀ parents outcomes placed kind = (1 ≤ kind) × (kind ≤ 5) × Sized parents outcomes placed × (foldl step (tables parents₀ outcomes₀ placed₀) (level (logOf width file) time next) ≡ foldl step (tables parents outcomes placed) (levelFrom (logOf width file) time next kind))
+Inv-loop file next time parents₀ outcomes₀ placed₀ width high low class₀ parents outcomes placed class = (1 ≤ class) × (class ≤ 5) × Sized parents outcomes placed × (foldl step (tables parents₀ outcomes₀ placed₀) (level (logOf width file) time next) ≡ foldl step (tables parents outcomes placed) (levelFrom (logOf width file) time next class))
 
 abbrev μ-loop : tie.MeasureT-loop
-μ-loop file next time parents₀ outcomes₀ placed₀ width high low kind₀ parents outcomes placed kind = 5 - kind
+μ-loop file next time parents₀ outcomes₀ placed₀ width high low class₀ parents outcomes placed class = 5 - class
 
 loop-holds : tie.Need-loop-holds Inv-loop μ-loop
 loop-holds c = (omega arith, omega arith, c .before .before .before .before .before .before .pre .1, rw level-all)
@@ -29,19 +29,19 @@ span c =
     let l = c .lowest .ensures in
     record { top = h .0; bottom = l .0; end = l .1; above = h .1; below = l .2 }
 
-replay-kind-requires : tie.Need-replay-kind-requires Inv-loop μ-loop
-replay-kind-requires c κs = (c .before .before .before .before .before .before .before .before .before .before .before .pre .0, c .before .before .before .before .loop .inv .2, span (c .before .before .before .before .before))
+replay-class-requires : tie.Need-replay-class-requires Inv-loop μ-loop
+replay-class-requires c κs = (c .before .before .before .before .before .before .before .before .before .before .before .pre .0, c .before .before .before .before .loop .inv .2, span (c .before .before .before .before .before))
 
 loop-again : tie.Need-loop-again Inv-loop μ-loop
 loop-again c =
     let s = c .before .before .before .before .before .before .before .before .before .before .before .before .before .before .before .before .before .before .args in
     let log = logOf (s .width) (now (s .file)) in
     let l = c .before .before .before .before .before .before .before .before .before .before .before .loop in
-    let j = c .before .before .before .before .before .before .replay-kind in (
+    let j = c .before .before .before .before .before .before .replay-class in (
       omega arith,
       omega arith,
       record { parents = omega (arith, j .kept .1 .1 .1 .1 .1 .1 .0); outcomes = omega (arith, j .kept .1 .1 .1 .1 .1 .1 .1 .0); placed = omega (arith, j .kept .1 .1 .1 .1 .1 .1 .1 .1 .0) },
-      l .inv .3 ∙ level-turn log (s .time) (s .next) (tables (l .parents) (l .outcomes) (l .placed)) (l .kind) (omega arith) ∙ ap (λ st. foldl step st (levelFrom log (s .time) (s .next) (l .kind + 1))) (sym (j .ensures)),
+      l .inv .3 ∙ level-turn log (s .time) (s .next) (tables (l .parents) (l .outcomes) (l .placed)) (l .class) (omega arith) ∙ ap (λ st. foldl step st (levelFrom log (s .time) (s .next) (l .class + 1))) (sym (j .ensures)),
     )
 
 same-length : tie.Need-same-length Inv-loop μ-loop
@@ -57,7 +57,7 @@ returns : tie.Need-returns Inv-loop μ-loop
 returns c =
     let s = c .before .before .before .before .before .before .before .before .args in
     let l = c .before .loop in
-    sym (l .inv .3 ∙ level-end (logOf (s .width) (now (s .file))) (s .time) (s .next) (tables (l .parents) (l .outcomes) (l .placed)) (l .kind) (omega arith))
+    sym (l .inv .3 ∙ level-end (logOf (s .width) (now (s .file))) (s .time) (s .next) (tables (l .parents) (l .outcomes) (l .placed)) (l .class) (omega arith))
 
 pub replay-level-spec : {M : Type 1} → statement M
 replay-level-spec =
@@ -68,7 +68,7 @@ replay-level-spec =
     (λ c κs. search needs)
     (λ c κs. search needs)
     loop-holds
-    replay-kind-requires
+    replay-class-requires
     (λ c. omega arith)
     (λ c. omega arith)
     loop-again

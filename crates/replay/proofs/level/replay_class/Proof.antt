@@ -1,4 +1,4 @@
--- `replay::level::replay_kind` meets its contract. Assumes nothing.
+-- `replay::level::replay_class` meets its contract. Assumes nothing.
 use mathlib.Core.Path.{_≡_, sym, ap, _∙_}
 use mathlib.Core.List.{foldl}
 use Prim.Native.Nat.{_+_, _-_}
@@ -8,15 +8,15 @@ use Rattle.rules.specs.File.{logOf}
 use Rattle.order.specs.Levels.{levelKind}
 use Rattle.rules.specs.Replay.{step}
 use Rattle.replay.specs.Tables.{Sized, tables}
-use Rattle.replay.proofs.level.replay_kind.Statement.{statement}
+use Rattle.replay.proofs.level.replay_class.Statement.{statement}
 use Rattle.replay.proofs.TurnLaws.{kind-all, kindFrom, kind-turn, kind-end}
-use Rattle.replay.proofs.level.replay_kind.Tie as tie
+use Rattle.replay.proofs.level.replay_class.Tie as tie
 
 abbrev Inv-loop : tie.InvT-loop
-Inv-loop file next high low time kind parents₀ outcomes₀ placed₀ width from to i₀ parents outcomes placed i = Sized parents outcomes placed × (foldl step (tables parents₀ outcomes₀ placed₀) (levelKind (logOf width file) time next kind) ≡ foldl step (tables parents outcomes placed) (kindFrom (logOf width file) time next kind i))
+Inv-loop file next high low time class parents₀ outcomes₀ placed₀ width from to i₀ parents outcomes placed i = Sized parents outcomes placed × (foldl step (tables parents₀ outcomes₀ placed₀) (levelKind (logOf width file) time next class) ≡ foldl step (tables parents outcomes placed) (kindFrom (logOf width file) time next class i))
 
 abbrev μ-loop : tie.MeasureT-loop
-μ-loop file next high low time kind parents₀ outcomes₀ placed₀ width from to i₀ parents outcomes placed i = to - i
+μ-loop file next high low time class parents₀ outcomes₀ placed₀ width from to i₀ parents outcomes placed i = to - i
 
 loop-holds : tie.Need-loop-holds Inv-loop μ-loop
 loop-holds c = let p = c .before .before .before .before .pre in (p .1, rw (kind-all _ _ _ _ _ _ (p .2)))
@@ -37,7 +37,7 @@ loop-again c =
     let l = c .before .before .before .before .before .before .before .before .before .before .before .loop in
     let j = c .before .before .before .before .before .before .replay-entry in (
       record { parents = omega (arith, j .kept .1 .1 .1 .1 .1 .0); outcomes = omega (arith, j .kept .1 .1 .1 .1 .1 .1 .0); placed = omega (arith, j .kept .1 .1 .1 .1 .1 .1 .1 .0) },
-      l .inv .1 ∙ kind-turn log (s .time) (s .next) (s .kind) (tables (l .parents) (l .outcomes) (l .placed)) (l .i) (omega (arith, c .before .before .before .before .before .before .before .before .before .before .before .before .before .before .before .before .pre .2 .bottom)) ∙ ap (λ st. foldl step st (kindFrom log (s .time) (s .next) (s .kind) (l .i + 1))) (sym (j .ensures)),
+      l .inv .1 ∙ kind-turn log (s .time) (s .next) (s .class) (tables (l .parents) (l .outcomes) (l .placed)) (l .i) (omega (arith, c .before .before .before .before .before .before .before .before .before .before .before .before .before .before .before .before .pre .2 .bottom)) ∙ ap (λ st. foldl step st (kindFrom log (s .time) (s .next) (s .class) (l .i + 1))) (sym (j .ensures)),
     )
 
 same-length : tie.Need-same-length Inv-loop μ-loop
@@ -53,10 +53,10 @@ returns : tie.Need-returns Inv-loop μ-loop
 returns c =
     let s = c .before .before .before .before .before .before .args in
     let l = c .before .loop in
-    sym (l .inv .1 ∙ kind-end (logOf (s .width) (now (s .file))) (s .time) (s .next) (s .kind) (s .high) (s .low) (c .before .before .before .before .before .before .pre .2) (tables (l .parents) (l .outcomes) (l .placed)) (l .i) (omega arith))
+    sym (l .inv .1 ∙ kind-end (logOf (s .width) (now (s .file))) (s .time) (s .next) (s .class) (s .high) (s .low) (c .before .before .before .before .before .before .pre .2) (tables (l .parents) (l .outcomes) (l .placed)) (l .i) (omega arith))
 
-pub replay-kind-spec : {M : Type 1} → statement M
-replay-kind-spec =
+pub replay-class-spec : {M : Type 1} → statement M
+replay-class-spec =
     tie.close
     (tie.spec
     Inv-loop
