@@ -8,7 +8,7 @@ use lib.Dec.{leb, eqb}
 use Rattle.rules.specs.Op.{Op, Vector, countIn, kindOf}
 use Rattle.rules.specs.File.{Log, countAt, opAt}
 use Rattle.rules.specs.Log.{structural}
-use Rattle.rules.specs.Tree.{atOrBelow}
+use Rattle.rules.specs.Tree.{slots, atOrBelow, moveKind}
 use Rattle.rules.specs.Replay.{State, Stamped}
 
 -- three tables as a state
@@ -20,9 +20,9 @@ stampedAt t r = record { time = t; op = r }
 
 -- the tables have their size
 pub record Sized (p o l : List ℕ) : Type 0 where
-  pub parents : length p ≡ 2041
-  pub outcomes : length o ≡ 2041
-  pub placed : length l ≡ 2041
+  pub parents : length p ≡ slots
+  pub outcomes : length o ≡ slots
+  pub placed : length l ≡ slots
 
 -- a structurally sound file has an op number q of replica s
 pub record InFile (w : ℕ) (f : List ℕ) (s q : ℕ) : Type 0 where
@@ -69,3 +69,7 @@ outcomeBy parents placed kind node parent n time =
 -- the later of two numbers of ops: the new one, unless it is 0
 abbrev pub later : ℕ → ℕ → ℕ
 later old new = cond (eqb new 0) old new
+
+-- the kind of a move in a tree, 0 of one that number 10 refuses
+unfoldable pub moveOrCycle : List ℕ → ℕ → ℕ → ℕ
+moveOrCycle parents n p = cond (atOrBelow parents p n) 0 (moveKind parents n p)
