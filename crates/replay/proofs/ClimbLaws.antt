@@ -142,7 +142,7 @@ module _ (t : List ℕ) (n i at : ℕ) (c : Rising t n i at) where
       pub rise-out : slots ≤ k → slots - 1 ≡ depth t n
       rise-out o =
           let e : length (climb (slots - (i + 1)) t (parentIn t at)) ≡ slots - (i + 1)
-              = rw (outside t size at (omega arith)) (endless t size (slots - (i + 1))) in
+          = rw (outside t size at (omega arith)) (endless t size (slots - (i + 1))) in
           omega (arith, onward, c .left, c .steps)
 
       pub rise-on : i < slots - 1 → k < slots → Rising t n (i + 1) (getD t k 0)

@@ -7,6 +7,7 @@ ghost use Rattle.replay.specs.Tables.{moveOrCycle};
 
 // How many slots a table has, and the parent entry of a slot without an added node.
 pub const SLOTS: usize = 2041;
+
 pub const NO_PARENT: u16 = 65535;
 
 // The depth where no climb ends.

@@ -1,8 +1,7 @@
 -- `replay::tree::below` meets its contract. Assumes nothing.
-use Rattle.replay.proofs.ClimbLaws.{climbing}
+use Rattle.replay.proofs.ClimbLaws.{climbing, Climbing}
 use Prim.Native.Nat.{_-_}
 use Rattle.rules.specs.Tree.{slots}
-use Rattle.replay.proofs.ClimbLaws.{Climbing}
 use Rattle.replay.proofs.tree.below.Statement.{statement}
 use Rattle.replay.proofs.tree.below.Tie as tie
 

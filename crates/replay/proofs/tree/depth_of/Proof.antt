@@ -1,8 +1,7 @@
 -- `replay::tree::depth_of` meets its contract. Assumes nothing.
-use Rattle.replay.proofs.ClimbLaws.{climbing}
+use Rattle.replay.proofs.ClimbLaws.{climbing, Rising}
 use Prim.Native.Nat.{_-_}
 use Rattle.rules.specs.Tree.{slots}
-use Rattle.replay.proofs.ClimbLaws.{Rising}
 use Rattle.replay.proofs.tree.depth_of.Statement.{statement}
 use Rattle.replay.proofs.tree.depth_of.Tie as tie
 
