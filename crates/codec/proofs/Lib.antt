@@ -1,3 +1,4 @@
+pub mod AnswerLaws
 pub mod VectorLaws
 pub mod ReadLaws
 pub mod WriteLaws

@@ -13,7 +13,7 @@ use Rattle.rules.specs.Bytes.{byte}
 use Rattle.codec.specs.Read.{kindFits, fieldsOf, readOf}
 use Rattle.codec.specs.declared.op.Fields.{Fields}
 use Rattle.codec.specs.declared.op.Read.the-variants.{Op, Refused}
-use Rattle.codec.specs.declared.op.Refusal.the-variants.{Length, Malformed}
+use Rattle.codec.specs.declared.answer.Refusal.the-variants.{Length, Malformed}
 
 -- the own count is the byte after the replicas below
 pub own-byte : (b : List ℕ) → 1 ≤ replicaOf b → replicaOf b ≤ 8 → ownCount b ≡ byte b (5 + replicaOf b)

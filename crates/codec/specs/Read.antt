@@ -1,4 +1,4 @@
--- What the op reader answers, and the paper's number of each refusal. Assumes nothing.
+-- What the op reader answers. Assumes nothing.
 use Prim.Native.Nat.{ℕ}
 use mathlib.Core.List.{List}
 use mathlib.Core.Bool.{Bool, _&&_, _||_, not, cond}
@@ -8,21 +8,7 @@ use Rattle.rules.specs.Op.{kindOf, replicaOf, nodeOf, parentOf, seqOf, wellForm
 use Rattle.codec.specs.declared.op.Fields.{Fields}
 use Rattle.codec.specs.declared.op.Read.{Read}
 use Rattle.codec.specs.declared.op.Read.the-variants.{Op, Refused}
-use Rattle.codec.specs.declared.op.Refusal.{Refusal}
-use Rattle.codec.specs.declared.op.Refusal.the-variants.{Unsound, Length, Malformed, Conflict, Early, NotClosed, Unknown, NoRoom, Exhausted, Cycle}
-
--- the paper's number of each case
-abbrev pub numberOf : Refusal → ℕ
-numberOf Unsound = 1
-numberOf Length = 2
-numberOf Malformed = 3
-numberOf Conflict = 4
-numberOf Early = 5
-numberOf NotClosed = 6
-numberOf Unknown = 7
-numberOf NoRoom = 8
-numberOf Exhausted = 9
-numberOf Cycle = 10
+use Rattle.codec.specs.declared.answer.Refusal.the-variants.{Length, Malformed}
 
 -- whether a kind can stand with a parent
 abbrev pub kindFits : ℕ → ℕ → Bool

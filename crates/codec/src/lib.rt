@@ -1,12 +1,15 @@
 // Bytes to numbers and back: two-byte words, version vectors by value, and the reader and writer
-// of an op (the paper's record).
+// of an op (the document's record); what a call answers.
+mod answer;
 mod op;
 mod vector;
 mod word;
 
+pub use answer::Answer;
+pub use answer::Refusal;
+pub use answer::is_accepted;
 pub use op::Fields;
 pub use op::Read;
-pub use op::Refusal;
 pub use op::kind_fits;
 pub use op::read_op;
 pub use op::write_op;

@@ -1,3 +1,4 @@
+use crate::answer::Refusal;
 use crate::word::put_word;
 use crate::word::widen;
 use crate::word::word_at;
@@ -7,30 +8,6 @@ ghost use Prim.Native.Nat.{_+_, _≤_};
 ghost use lib.ListN.{length, take, drop};
 ghost use Rattle.rules.specs.Issue.{opBytes};
 ghost use Rattle.codec.specs.Read.{kindFits, readOf};
-
-// Why a call is refused: a case for each number of the paper.
-pub enum Refusal {
-    // 1: the log is not sound.
-    Unsound,
-    // 2: lent or delivered memory has the wrong length.
-    Length,
-    // 3: a replica or an op out of form.
-    Malformed,
-    // 4: another op of this replica and sequence is held.
-    Conflict,
-    // 5: the op's vector counts what is not held.
-    Early,
-    // 6: the op's vector is not closed.
-    NotClosed,
-    // 7: a node that is not known.
-    Unknown,
-    // 8: no room.
-    NoRoom,
-    // 9: the replica has issued all its ops.
-    Exhausted,
-    // 10: the new parent lies below the node.
-    Cycle,
-}
 
 // The fields of an op but its vector, which stays beside it: an enum holds no array.
 pub struct Fields {

@@ -9,7 +9,8 @@ use native.Mathlib.Nat.{le-of-suc-le-suc, not-suc-le-zero, le-refl}
 use native.Mathlib.Decide.{decLe}
 use native.Mathlib.Omega.{arith}
 use Rattle.convergence.proofs.HasLaws.{has-append, has-last, has-head, has-tail, has-old}
-use Rattle.convergence.proofs.TrackLaws.{OpIn, Tracks, op-in, in-more}
+use Rattle.rules.proofs.InLaws.{OpIn, op-in, in-more}
+use Rattle.convergence.proofs.TrackLaws.{Tracks}
 use Rattle.convergence.specs.Exchange.{has}
 use Rattle.rules.specs.File.{Extends, Log, opsOf, opAt, countsOf, append}
 use Rattle.rules.proofs.AppendLaws.{seq-positive}

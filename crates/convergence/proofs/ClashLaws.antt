@@ -1,19 +1,16 @@
 -- Two moves that are issued from one log: the order of their replay, and what each does. Assumes nothing.
 use Prim.Native.Nat.{ℕ, _≤_, _<_}
-use borrow.Author.Tests.{ne-eqb, eq-eqb, lt-ltb, le-ltb}
+use borrow.Author.Tests.{lt-ltb, le-ltb}
 use lib.Dec.{eqb, ltb}
-use lib.ListN.{set, getD}
-use mathlib.Core.Bool.{Bool, cond, true, false, or-true}
+use mathlib.Core.Bool.{Bool, cond, true, false}
 use mathlib.Core.List.{map, List, [], _++_, _∷_}
 use mathlib.Core.Path.{_≡_, _∙_}
 use native.Mathlib.Decide.{decLe}
 use native.Mathlib.Omega.{arith}
 use Rattle.lists.proofs.BoolLaws.{never}
 use Rattle.lists.specs.Lists.{downFrom, concat, upFrom}
-use Rattle.rules.specs.Op.{Op, isMove, nodeOf, parentOf}
-use Rattle.rules.specs.Replay.{State, Stamped, step, outcomeOf, outcomeSlot}
-use Rattle.rules.specs.Tree.{slotOf, atOrBelow}
 use Rattle.lists.proofs.RangeLaws.{two-down}
+use Rattle.rules.proofs.ClimbLaws.{up}
 
 ---- two entries in the order of a level
 
@@ -59,37 +56,3 @@ module _ {A : Type 0} (F : ℕ → ℕ → List A) (a b : ℕ) (la : 1 ≤ a) (u
     | yes h ↦ lower-first u v fa fb (omega arith) (rw (le-ltb b a h) at w)
     | no h ↦ higher-first u v fa fb (omega arith) (let l : b < a = omega arith in rw (lt-ltb b a l) at w)
   ]
-
----- what a move does
-
-module _ (st : State) (t : ℕ) (r : Op) (m : isMove r ≡ true) where
-  abbrev it : Stamped
-  it = record { time = t; op = r }
-
-  pub applied : outcomeOf st it ≡ 1
-      → step st it ≡ record {
-        parents = set (st .parents) (slotOf (nodeOf r)) (parentOf r);
-        outcomes = set (st .outcomes) (outcomeSlot r) 1;
-        placed = set (st .placed) (slotOf (nodeOf r)) t;
-      }
-  unfolding step
-  applied e = rw (e, m, or-true)
-
-  pub passed-over : (o : ℕ) → eqb o 1 ≡ false → outcomeOf st it ≡ o
-      → step st it ≡ record { parents = st .parents; outcomes = set (st .outcomes) (outcomeSlot r) o; placed = st .placed }
-  unfolding step
-  passed-over o ne e = rw (e, ne)
-
-  pub applies : (getD (st .placed) (slotOf (nodeOf r)) 0 ≡ t → ⊥) → atOrBelow (st .parents) (parentOf r) (nodeOf r) ≡ false
-      → outcomeOf st it ≡ 1
-  unfolding outcomeOf
-  applies p free = rw (m, ne-eqb _ t p, free)
-
-  pub placed-already : getD (st .placed) (slotOf (nodeOf r)) 0 ≡ t → outcomeOf st it ≡ 2
-  unfolding outcomeOf
-  placed-already p = rw (m, eq-eqb _ t p)
-
-  pub blocked : (getD (st .placed) (slotOf (nodeOf r)) 0 ≡ t → ⊥) → atOrBelow (st .parents) (parentOf r) (nodeOf r) ≡ true
-      → outcomeOf st it ≡ 3
-  unfolding outcomeOf
-  blocked p under = rw (m, ne-eqb _ t p, under)

@@ -12,12 +12,13 @@ use native.Mathlib.Decide.{ℕ-discrete}
 use native.Mathlib.Omega.{arith}
 use Rattle.convergence.proofs.AddedLaws.{has-swap, two-extends, one-of-two, first-count, first-op, rest-same}
 use Rattle.convergence.proofs.ArriveLaws.{Adds, issue-adds, op-adds, arrives, arrives-back}
-use Rattle.convergence.proofs.ClashLaws.{winner-first, passed-over, placed-already, applied, blocked, applies}
+use Rattle.convergence.proofs.ClashLaws.{winner-first}
+use Rattle.rules.proofs.StepLaws.{passed-over, placed-already, applied, blocked, applies, tables-full}
 use Rattle.convergence.proofs.MoveLaws.{opOf, upward, Asked, asked, Drawn, drawn, slot-in, valid-node, y-blocked, circle-is}
 use Rattle.convergence.specs.Clash.{Move, nextSlot, request, beats, circle, clash, Wins, hang, Issued, putOut, BothAdded, Arrives, Arrivals, ClashDecided, BothArrive, CircleCutsOff}
 use Rattle.convergence.specs.Exchange.{Call, deliver, has}
 use Rattle.order.proofs.LateLaws.{Late, ordered-late, no-entry, late-entry, top}
-use Rattle.order.proofs.PlacedLaws.{tables-full, placed-by}
+use Rattle.order.proofs.PlacedLaws.{placed-by}
 use Rattle.order.specs.Levels.{entry, level, nextOf, levelKind}
 use Rattle.rules.proofs.AppendLaws.{extends}
 use Rattle.lists.proofs.BoolLaws.{and-both, never}
@@ -25,7 +26,7 @@ use Rattle.rules.proofs.IssueLaws.{issue-admitted, allowed}
 use Rattle.rules.proofs.PutOutLaws.{NextOp, put-out-next}
 use Rattle.rules.proofs.SoundLaws.{sound-good}
 use Rattle.rules.proofs.StructureLaws.{GoodLog}
-use Rattle.rules.proofs.TreeLaws.{slot-below, slot-injective}
+use Rattle.rules.proofs.SlotLaws.{slot-below, slot-injective}
 use Rattle.rules.specs.Tree.{moveKind, slot, slots, slotOf}
 use Rattle.rules.specs.Issue.{issueOut, issueAnswer}
 use Rattle.rules.specs.File.{Log, countsOf, opAt, logOf, width, fileEnd}

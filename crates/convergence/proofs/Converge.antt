@@ -11,7 +11,7 @@ use lib.ListN.{length, getD}
 use borrow.Author.Tests.{le-leb}
 use Rattle.lists.specs.Lists.{concat}
 use Rattle.rules.specs.Op.{Op, countIn, replicaOf, seqOf}
-use Rattle.rules.specs.File.{Log, opsOf, opAt, countsOf, width, logOf, Extends}
+use Rattle.rules.specs.File.{Log, opsOf, opAt, countsOf, width, logOf, Extends, largest}
 use Rattle.rules.specs.Replay.{parentsOf}
 use Rattle.rules.specs.Views.{nodes}
 use Rattle.convergence.specs.Exchange.{Site, run, has, times, Agreed, arrange, filed, Side, left, right, other, Pair, missing, everything, Round, after, Answered, answers, acceptedBy, ValidRound, EachRound}
@@ -27,13 +27,15 @@ use Rattle.lists.proofs.BoolLaws.{both-ways, or-cases}
 use Rattle.rules.proofs.FileLaws.{WideLog}
 use Rattle.order.proofs.TreeTheorem.{is-tree}
 use Rattle.convergence.proofs.HasLaws.{has-append, has-old, times-append, times-once, none-onlyIn}
-use Rattle.convergence.proofs.UnionLaws.{extends-equal, longer, longer-is, union, union-ops, union-left, union-right, good-union, union-wide}
-use Rattle.convergence.proofs.TrackLaws.{OpIn, in-more, Tracks, op-in, tracks-listed, arrange-log}
-use Rattle.convergence.proofs.KeptLaws.{logIn, Kept, kept-good, kept-ops, kept-end, kept-run, kept-standing, kept-wide}
+use Rattle.rules.proofs.UnionLaws.{extends-equal, longer, longer-is, union, union-ops, union-left, union-right, union-wide, sound-union}
+use Rattle.rules.proofs.InLaws.{OpIn, in-more, op-in}
+use Rattle.convergence.proofs.TrackLaws.{Tracks, tracks-listed, arrange-log}
+use Rattle.convergence.proofs.KeptLaws.{logIn, Kept, kept-good, kept-ops, kept-end, kept-run, kept-standing, kept-wide, kept-sound}
 use Rattle.convergence.proofs.ListTheorems.{kept-stored}
 use Rattle.convergence.proofs.SideLaws.{both, missing-from}
 use Rattle.convergence.proofs.RoundLaws.{Stands, Passes, pass-rounds, rounds-accept, rounds-end}
 use Rattle.lists.proofs.ListLaws.{no-length}
+use Rattle.rules.proofs.SoundLaws.{SoundLog}
 
 gain : (a b : Bool) (n : ℕ) → cond (a || b) 1 0 ≡ cond a 1 0 + n → n ≡ cond (b && not a) 1 0
 gain true true n e = omega arith
@@ -66,7 +68,7 @@ judged-is : (f : List ℕ) (log : Log) (pt ot : List ℕ) → sound width f ≡ 
 unfolding judge judgeAnswer judged require
 judged-is f log pt ot s e lp lo = rw (s, le-leb slots (length pt) lp, le-leb slots (length ot) lo, e)
 
-module _ (p : Pair) (k : (d : Side) → Kept (p d)) (big : (d : Side) → 28592 ≤ length (p d .buffer))
+module _ (p : Pair) (k : (d : Side) → Kept (p d)) (big : (d : Side) → largest width ≤ length (p d .buffer))
     (ag : Agreed (p left .held) (p right .held)) where
   abbrev u : Log
   u = union (logIn (p left)) (logIn (p right))
@@ -77,8 +79,11 @@ module _ (p : Pair) (k : (d : Side) → Kept (p d)) (big : (d : Side) → 28592 
   wu : WideLog width u
   wu = union-wide (logIn (p left)) (logIn (p right)) width (kept-wide (p left) (k left)) (kept-wide (p right) (k right))
 
+  su : SoundLog u
+  su = sound-union (logIn (p left)) (logIn (p right)) agree (kept-sound (p left) (k left)) (kept-sound (p right) (k right))
+
   gu : GoodLog u
-  gu = good-union (logIn (p left)) (logIn (p right)) agree (kept-good (p left) (k left)) (kept-good (p right) (k right))
+  gu = su .good
 
   extends : (d : Side) → Extends (logIn (p d)) u
   unfolding other
@@ -172,13 +177,13 @@ module _ (p : Pair) (k : (d : Side) → Kept (p d)) (big : (d : Side) → 28592 
       → EachRound ValidRound p rounds → Meets p rounds
   meets tree rounds v =
       let base : Side → List ℕ = λ d. p d .buffer in
-      let pass = pass-rounds u gu wu base big rounds p stands v in
+      let pass = pass-rounds u su wu base big rounds p stands v in
       record {
         stored = λ d. kept-stored (p d) (k d);
         every = λ r. rw arrange-all (tracks-listed u (good-ops gu) (gu .eight) r (everything p) tracks-all);
         answered = pass .answered;
-        progress = rounds-accept u gu wu base big rounds p stands v;
-        ends = λ h. no-length _ (rounds-end u gu wu base big rounds p stands v h);
+        progress = rounds-accept u su wu base big rounds p stands v;
+        ends = λ h. no-length _ (rounds-end u su wu base big rounds p stands v h);
         settled = λ e. settle (after p (concat rounds)) (answers p (concat rounds)) pass e tree;
       }
 

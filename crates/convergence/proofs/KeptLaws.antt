@@ -5,7 +5,7 @@ use mathlib.Core.List.{List, [], _∷_, _++_, foldl}
 use Prim.Native.Nat.{ℕ, _+_, _≤_, _<_}
 use native.Mathlib.Omega.{arith}
 use borrow.Author.Tests.{leb-false, le-leb}
-use lib.ListN.{length, take, drop, take-append-drop}
+use lib.ListN.{length, take, drop}
 use lib.Seq.{drop-at, take-at}
 use lib.Dec.{lit≤}
 use Rattle.rules.specs.Op.{Op, countIn, replicaOf, seqOf}
@@ -23,7 +23,7 @@ use Rattle.rules.proofs.IssueLaws.{issue-admitted}
 use Rattle.rules.proofs.AppendLaws.{in-range, own-next, seq-positive}
 use Rattle.rules.proofs.FileLaws.{length-logOf, counts-logOf, length-file, WideLog, logOf-fileOf, file-end}
 use Rattle.rules.proofs.StructureLaws.{GoodLog, HeldOps, good-ops}
-use Rattle.rules.proofs.SoundLaws.{sound-good, good-empty, sound-laid, wide-empty, sound-file, sound-wide}
+use Rattle.rules.proofs.SoundLaws.{sound-good, sound-laid, wide-empty, sound-file, sound-wide, SoundLog, sound-empty, sound-log}
 use Rattle.convergence.proofs.HasLaws.{once-last}
 use Rattle.convergence.proofs.TrackLaws.{Tracks, tracks-append, arrange-log}
 
@@ -39,6 +39,9 @@ pub record Kept (x : Site) : Type 0 where
 -- what a kept site says of its log
 pub kept-good : (x : Site) → Kept x → GoodLog (logIn x)
 kept-good x k = sound-good width (x .buffer) (k .is-sound)
+
+pub kept-sound : (x : Site) → Kept x → SoundLog (logIn x)
+kept-sound x k = sound-log width (x .buffer) (k .is-sound)
 
 pub kept-wide : (x : Site) → Kept x → WideLog width (logIn x)
 kept-wide x k = sound-wide width (x .buffer) (k .is-sound)
@@ -60,17 +63,17 @@ kept-front x k =
     ap (take (fileEnd width (x .buffer))) (k .front) ∙ take-at (fileOf width (logIn x)) _ _ (kept-end x k)
 
 -- a file in front of a rest
-pub kept-file : (log : Log) (rest : List ℕ) (ops : List Op) → GoodLog log → WideLog width log → Tracks log ops
+pub kept-file : (log : Log) (rest : List ℕ) (ops : List Op) → SoundLog log → WideLog width log → Tracks log ops
     → ((r : Op) → times ops r ≤ 1) → Kept (record { buffer = fileOf width log ++ rest; held = ops })
 kept-file log rest ops g w t o = record {
   is-sound = sound-file width log rest g w;
   front = rw (
-    logOf-fileOf width log rest (g .eight) w,
-    file-end width log rest (g .eight),
+    logOf-fileOf width log rest (g .good .eight) w,
+    file-end width log rest (g .good .eight),
     drop-at (fileOf width log) rest _
         (length-file width log w),
   );
-  tracks = rw (logOf-fileOf width log rest (g .eight) w) t;
+  tracks = rw (logOf-fileOf width log rest (g .good .eight) w) t;
   once = o;
 }
 
@@ -120,7 +123,7 @@ empty-once r = lit≤ tt
 
 pub kept-make : (x : Site) → 32 ≤ length (x .buffer) → Kept (perform x make)
 unfolding perform bufferAfter answer heldThen makeBuffer makeAnswer require
-kept-make x h = rw (le-leb 32 (length (x .buffer)) h) (kept-file emptyLog (drop 32 (x .buffer)) [] good-empty (wide-empty width)
+kept-make x h = rw (le-leb 32 (length (x .buffer)) h) (kept-file emptyLog (drop 32 (x .buffer)) [] sound-empty (wide-empty width)
     empty-tracks empty-once)
 
 pub kept-perform : (x : Site) (c : Call) → Kept x → Kept (perform x c)
@@ -166,13 +169,8 @@ kept-run f calls h = kept-calls calls (perform (record { buffer = f; held = [] }
 pub kept-standing : (x : Site) (rest : List ℕ) → Kept x → Kept (standing x rest)
 unfolding standing
 kept-standing x rest k =
-    let g = kept-good x k in
+    let g = kept-sound x k in
     rw (kept-front x k) (kept-file (logIn x) rest (x .held) g (kept-wide x k) (k .tracks) (k .once))
-
--- a buffer stands for itself: what lies past the file is its own
-pub standing-own : (x : Site) → standing x (drop (fileEnd width (x .buffer)) (x .buffer)) ≡ x
-unfolding standing fileIn
-standing-own x = rw (take-append-drop (fileEnd width (x .buffer)) (x .buffer))
 
 pub kept-filed : (x : Site) → Kept x → x .buffer ≡ filed (x .held) (x .buffer)
 unfolding filed

@@ -1,5 +1,4 @@
 pub mod HasLaws
-pub mod UnionLaws
 pub mod TrackLaws
 pub mod KeptLaws
 pub mod ListTheorems
@@ -8,7 +7,6 @@ pub mod RoundLaws
 pub mod Converge
 pub mod AddedLaws
 pub mod ArriveLaws
-pub mod CircleLaws
 pub mod MoveLaws
 pub mod ClashLaws
 pub mod ClashTheorem

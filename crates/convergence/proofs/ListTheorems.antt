@@ -1,11 +1,12 @@
 -- What every list of calls comes to, proved. Assumes nothing.
+use Rattle.convergence.specs.Exchange.{standing, Call, make, issue, deliver, Site, answer, bufferAfter, heldThen, perform, lent, run, outAfter, Reply, reply, replies, fileIn, has, Agreed}
 use mathlib.Core.Path.{_≡_, refl, sym, ap, _∙_}
 use mathlib.Core.Bool.{true}
 use mathlib.Core.List.{List, [], _∷_, _++_, foldl}
 use Prim.Native.Nat.{ℕ, _≤_}
 use native.Mathlib.Omega.{arith}
 use borrow.Author.Tests.{leb-true}
-use lib.ListN.{length, take, drop, length-append, length-drop}
+use lib.ListN.{length, take, drop, length-append, length-drop, take-append-drop}
 use lib.Seq.{drop-at}
 use Rattle.lists.specs.Lists.{sum}
 use Rattle.rules.specs.Answer.{Answer, refused, hadIt, done, accepted, ifAccepted}
@@ -21,9 +22,8 @@ use Rattle.lists.proofs.BoolLaws.{never}
 use Rattle.rules.proofs.DeliverLaws.{Admitted, required, admitted, accepted-same, appended-end, appended-past, appended-length}
 use Rattle.rules.proofs.FileLaws.{counts-logOf, file-end, length-file}
 use Rattle.rules.proofs.IssueLaws.{issue-admitted}
-use Rattle.rules.proofs.SoundLaws.{good-empty, wide-empty}
-use Rattle.convergence.specs.Exchange.{Call, make, issue, deliver, Site, answer, bufferAfter, heldThen, perform, lent, run, outAfter, Reply, reply, replies, fileIn, has, Agreed}
-use Rattle.convergence.specs.Lists.{Stored, SameHeld, ReadAlike, PastKept, ListsFile, SameOpsSameFile, HeldSettles, CallsSettle, ReadsSettle, CallsKeepPast}
+use Rattle.rules.proofs.SoundLaws.{wide-empty, sound-empty}
+use Rattle.convergence.specs.Lists.{Stored, SameHeld, ReadAlike, PastKept, ListsFile, SameOpsSameFile, HeldSettles, CallsSettle, ReadsSettle, CallsKeepPast, StaysPut}
 use Rattle.convergence.proofs.TrackLaws.{Tracks, tracks-listed, arrange-log}
 use Rattle.convergence.proofs.KeptLaws.{logIn, Kept, kept-good, kept-ops, kept-filed, kept-front, kept-make, kept-perform, kept-run, kept-arrange}
 
@@ -45,6 +45,10 @@ kept-stored x k = record {
 
 pub lists-file : ListsFile
 lists-file f calls h = kept-stored (run f calls) (kept-run f calls h)
+
+pub stays-put : StaysPut
+unfolding standing fileIn
+stays-put x = rw (take-append-drop (fileEnd width (x .buffer)) (x .buffer))
 
 ---- the same ops held
 
@@ -128,7 +132,7 @@ made-leaves f n e =
     let l : 32 ≤ length f = leb-true 32 (length f) long in
     rw (← accepted-same 32 n end) (
       rw (length-append, empty-length, length-drop) (omega arith),
-      file-end width emptyLog (drop 32 f) (good-empty .eight) ∙ empty-end,
+      file-end width emptyLog (drop 32 f) (sound-empty .good .eight) ∙ empty-end,
       drop-at (fileOf width emptyLog) (drop 32 f) 32 empty-length,
     )
 

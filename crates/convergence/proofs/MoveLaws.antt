@@ -8,12 +8,16 @@ use mathlib.Core.List.{List}
 use mathlib.Core.Logic.{inr}
 use mathlib.Core.Path.{refl, _≡_, _∙_}
 use native.Mathlib.Omega.{arith}
-use Rattle.convergence.proofs.CircleLaws.{second-blocked, first-below, second-free, cut-off, reached}
+use Rattle.rules.proofs.CircleLaws.{second-blocked, first-below, second-free, cut-off, reached}
 use Rattle.convergence.specs.Clash.{Move, nextSlot, request, circle, hang}
-use Rattle.order.proofs.GrowLaws.{Named, Tree, named-valid, parent-reads, known-reads, replay-run}
+use Rattle.rules.proofs.KnownLaws.{Named, named-valid, parent-reads, known-reads}
+use Rattle.order.proofs.GrowLaws.{Tree}
+use Rattle.order.proofs.RunLaws.{replay-run}
 use Rattle.rules.proofs.IssueLaws.{counts-eight, bytes-parent, bytes-vector, bytes-node, Allowed}
 use Rattle.rules.proofs.StructureLaws.{GoodLog, counts-covered, counts-closed}
-use Rattle.rules.proofs.TreeLaws.{Valid, Reaches, short, still-reaches, free-avoids}
+use Rattle.rules.proofs.SlotLaws.{Valid}
+use Rattle.rules.proofs.ClimbLaws.{Reaches, short}
+use Rattle.rules.proofs.TreeLaws.{still-reaches, free-avoids}
 use Rattle.rules.specs.Issue.{issued, opBytes, requestKnown, requestClear}
 use Rattle.rules.specs.Tree.{moveKind, depth, slot, slots, atOrBelow, slotOf}
 use Rattle.rules.specs.File.{Log, countsOf, logOf}

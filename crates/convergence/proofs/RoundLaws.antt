@@ -13,7 +13,7 @@ use lib.ListN.{length, drop}
 use lib.Seq.{drop-drop}
 use Rattle.lists.specs.Lists.{same, concat, all, any, filter}
 use Rattle.rules.specs.Op.{Op, countIn, replicaOf, vectorOf, seqOf}
-use Rattle.rules.specs.File.{Log, opAt, countsOf, fileEnd, appended, width, Extends}
+use Rattle.rules.specs.File.{Log, opAt, countsOf, fileEnd, appended, width, Extends, largest}
 use Rattle.rules.specs.Log.{covered}
 use Rattle.rules.specs.Deliver.{held, deliverAnswer}
 use Rattle.convergence.specs.Exchange.{Site, answer, has, Side, left, right, other, isSide, Pair, missing, Offer, Round, answerTo, offered, after, Answered, answers, acceptances, acceptedBy, offers, ValidRound, EachRound, onlyIn}
@@ -26,11 +26,12 @@ use Rattle.rules.proofs.OfferLaws.{Agree, Offered, early, offered-in-full, had,
 use Rattle.rules.proofs.CausalLaws.{Missing, total, some-ready}
 use Rattle.rules.proofs.FileLaws.{length-logOf, WideLog}
 use Rattle.lists.proofs.ListLaws.{same-refl, same-eq}
-use Rattle.rules.proofs.StructureLaws.{HeldOp, GoodLog, HeldOps}
+use Rattle.rules.proofs.StructureLaws.{HeldOp, HeldOps}
 use Rattle.convergence.proofs.HasLaws.{has-old, times-some, onlyIn-less, onlyIn-same, some-onlyIn}
-use Rattle.convergence.proofs.TrackLaws.{OpIn, in-more, append-within, op-in}
+use Rattle.rules.proofs.InLaws.{OpIn, in-more, append-within, op-in}
 use Rattle.convergence.proofs.KeptLaws.{logIn, Kept, kept-ops, kept-grown, grown-new, kept-good}
 use Rattle.convergence.proofs.SideLaws.{both, side-self, side-other, side-eq, missing-from, delivered, offered-to, offered-other, offered-same, answers-append, after-append, acceptedBy-append, acceptances-append}
+use Rattle.rules.proofs.SoundLaws.{SoundLog}
 
 -- a side in the rounds: its log lies within u, and past its file are the bytes of f, the buffer before the rounds
 pub record Stands (u : Log) (f : List ℕ) (x : Site) : Type 0 where
@@ -89,192 +90,193 @@ unfolding all
 all-append [] b e h = h
 all-append (x ∷ a) b e h = and-both (and-left (expected (x .answered)) _ e) (all-append a b (and-right (expected (x .answered)) _ e) h)
 
-module _ (u : Log) (gu : GoodLog u) (wu : WideLog width u) (base : Side → List ℕ) (big : (d : Side) → 28592 ≤ length (base d)) where
-  ---- one offer
+module _ (u : Log) (su : SoundLog u) (wu : WideLog width u) (base : Side → List ℕ) (big : (d : Side) → largest width ≤ length (base d))
+  where
+    ---- one offer
 
-  pub offer-answer : (d : Side) (x : Site) → Stands u (base d) x → (r : Op) → OpIn u r
-      → Offered (logIn x) r (fileEnd width (x .buffer) + width) (deliverAnswer width (x .buffer) r)
-  offer-answer d x s r i =
-      let agree : Agree u (logIn x) = λ t q l h lq uq vq. sym (s .inside .ops t q l h lq vq) in
-      let room : 28592 ≤ length (x .buffer) = omega (arith, s .size, big d) in
-      rw (i .there) at (offered-in-full width u gu wu (x .buffer) (s .kept .is-sound) agree (replicaOf r) (seqOf r) (i .low) (i .high)
-      (seq-positive r) (i .here) room)
+    pub offer-answer : (d : Side) (x : Site) → Stands u (base d) x → (r : Op) → OpIn u r
+        → Offered (logIn x) r (fileEnd width (x .buffer) + width) (deliverAnswer width (x .buffer) r)
+    offer-answer d x s r i =
+        let agree : Agree u (logIn x) = λ t q l h lq uq vq. sym (s .inside .ops t q l h lq vq) in
+        let room : largest width ≤ length (x .buffer) = omega (arith, s .size, big d) in
+        rw (i .there) at (offered-in-full width u su wu (x .buffer) (s .kept .is-sound) agree (replicaOf r) (seqOf r) (i .low) (i .high)
+        (seq-positive r) (i .here) room)
 
-  stands-grown : (d : Side) (x : Site) → Stands u (base d) x → (r : Op) → OpIn u r → (n : ℕ) → Admitted width (x .buffer) r n
-      → Stands u (base d) (record { buffer = appended width (x .buffer) r; held = x .held ++ (r ∷ []) })
-  stands-grown d x s r i n h =
-      let good = kept-good x (s .kept) in
-      let g = in-range (logIn x) r good (h .admits) in
-      let e = fileEnd width (x .buffer) in
-      record {
-        kept = kept-grown x r n (s .kept) h;
-        inside = rw (appended-log width (x .buffer) r n h) (append-within (logIn x) r (length-logOf width (x .buffer)) (g .0) (g .1)
-            (own-next (logIn x) r good (h .admits)) u (s .inside) i);
-        size = appended-length width (x .buffer) r n h ∙ s .size;
-        past = rw (appended-end width (x .buffer) r n h) (appended-past width (x .buffer) r n h ∙ sym (drop-drop width e (x .buffer))
-            ∙ ap (drop width) (s .past) ∙ drop-drop width e (base d));
-      }
-
-  pass-none : (p : Pair) → ((d : Side) → Stands u (base d) (p d)) → Passes u base p p []
-  unfolding all acceptedBy acceptances filter
-  pass-none p s = record {
-    stands = s;
-    answered = refl;
-    gained = λ d. sym (append-nil (p d .held));
-    fewer = omega arith;
-  }
-
-  pass-then : {p q z : Pair} {xs ys : List Answered} → Passes u base p q xs → Passes u base q z ys → Passes u base p z (xs ++ ys)
-  pass-then {p} {q} {z} {xs} {ys} a b = record {
-    stands = b .stands;
-    answered = all-append xs ys (a .answered) (b .answered);
-    gained = λ d. rw (b .gained d, a .gained d, acceptedBy-append) (append-assoc (p d .held) (acceptedBy d xs) (acceptedBy d ys));
-    fewer = omega (arith, a .fewer, b .fewer, acceptances-append xs ys);
-  }
-
-  -- nothing changes
-  pass-same : (p q : Pair) (x : Answered) → ((d : Side) → Stands u (base d) (p d)) → ((d : Side) → q d ≡ p d)
-      → expected (x .answered) ≡ true → ifAccepted (x .answered) true false ≡ false → Passes u base p q (x ∷ [])
-  unfolding all acceptedBy acceptances filter
-  pass-same p q x s e h n = record {
-    stands = λ d. rw (e d) (s d);
-    answered = rw h;
-    gained = λ d. rw (n, e d) (sym (append-nil (p d .held)));
-    fewer = rw (missing-from p left, missing-from q left, e left, e (other left), n) (omega arith);
-  }
-
-  -- the side t gains the op r
-  pass-gain : (p q : Pair) (t : Side) (r : Op) (n : ℕ) → ((d : Side) → Stands u (base d) (p d)) → has (p (other t) .held) r ≡ true
-      → OpIn u r → Admitted width (p t .buffer) r n → q t ≡ record { buffer = appended width (p t .buffer) r; held = p t .held ++ (r ∷ []) }
-      → q (other t) ≡ p (other t) → Passes u base p q (record { offer = record { to = t; op = r }; answered = accepted n } ∷ [])
-  unfolding all acceptedBy acceptances filter expected
-  pass-gain p q t r n s o i h eq eo = record {
-    stands = both t (λ d. Stands u (base d) (q d)) (rw eq (stands-grown t (p t) (s t) r i n h)) (rw eo (s (other t)));
-    answered = refl;
-    gained = both t (λ d. q d .held ≡ p d .held ++ acceptedBy d (record { offer = record { to = t; op = r }; answered = accepted n } ∷ []))
-        (rw (side-self t, eq)) (rw (side-other t, eo) (sym (append-nil (p (other t) .held))));
-    fewer = rw (missing-from p t, missing-from q t, eq, eo, onlyIn-same (p t .held) (p (other t) .held) r o)
-        (omega (
-          arith,
-          onlyIn-less (p (other t) .held) (p t .held) r (grown-new (p t) r n (s t .kept) h),
-          times-some (p (other t) .held) r
-              o,
-          s (other t) .kept .once r,
-        ));
-  }
-
-  -- an offer of an op that the other side has
-  pass-one : (p : Pair) (o : Offer) → ((d : Side) → Stands u (base d) (p d)) → has (p (other (o .to)) .held) (o .op) ≡ true
-      → Passes u base p (offered p o) (record { offer = o; answered = answerTo p o } ∷ [])
-  unfolding answerTo answer delivered expected
-  pass-one p o s h = go (answerTo p o) refl (offer-answer (o .to) (p (o .to)) (s (o .to)) (o .op) i)
-    where
-      i : OpIn u (o .op)
-      i = let t = other (o .to) in in-more (logIn (p t)) u (s t .inside) (o .op) (s t .kept .tracks .inside (o .op) h)
-
-      go : (a : Answer) → answerTo p o ≡ a → Offered (logIn (p (o .to))) (o .op) (fileEnd width (p (o .to) .buffer) + width) a
-          → Passes u base p (offered p o) (record { offer = o; answered = a } ∷ [])
-      go (refused n) e f = pass-same p (offered p o) (record { offer = o; answered = refused n }) s (offered-same p o (rw e))
-          (offered-expected f) refl
-      go done e f = never (offered-expected f)
-      go hadIt e f = pass-same p (offered p o) (record { offer = o; answered = hadIt }) s (offered-same p o (rw e)) refl refl
-      go (accepted n) e f = pass-gain p (offered p o) (o .to) (o .op) n s h i (admitted width (p (o .to) .buffer) (o .op) n e)
-          (rw e at (offered-to p o)) (offered-other p o)
-
-  ---- a run of offers
-
-  pub pass-offers : (os : List Offer) (p : Pair) → ((d : Side) → Stands u (base d) (p d)) → ((d : Side) (r : Op) → offers os d r ≡ true
-      → has (p (other d) .held) r ≡ true) → Passes u base p (after p os) (answers p os)
-  unfolding after answers offers any
-  pass-offers [] p s h = pass-none p s
-  pass-offers (o ∷ os) p s h =
-      let one = pass-one p o s (h (o .to) (o .op) (rw (side-self (o .to), same-refl (o .op)))) in
-      pass-then one (pass-offers os (offered p o) (one .stands) (λ d r e.
-      rw (one .gained (other d)) (has-old (p (other d) .held) _ r (h d r (rw (e, or-true))))))
-
-  ---- rounds
-
-  module _ (p : Pair) (s : (d : Side) → Stands u (base d) (p d)) (os : Round) (v : ValidRound p os) where
-    pub pass-round : Passes u base p (after p os) (answers p os)
-    pass-round = pass-offers os p s (λ d r e. sym (v d r) ∙ e)
-
-    lacks : (d : Side) (r : Op) → has (p (other d) .held) r ≡ true → has (p d .held) r ≡ false
-        → Missing (logIn (p (other d))) (logIn (p d)) (replicaOf r) (seqOf r)
-    lacks d r a b =
-        let i = s (other d) .kept .tracks .inside r a in
-        let j = in-more (logIn (p (other d))) u (s (other d) .inside) r i in
+    stands-grown : (d : Side) (x : Site) → Stands u (base d) x → (r : Op) → OpIn u r → (n : ℕ) → Admitted width (x .buffer) r n
+        → Stands u (base d) (record { buffer = appended width (x .buffer) r; held = x .held ++ (r ∷ []) })
+    stands-grown d x s r i n h =
+        let good = kept-good x (s .kept) in
+        let g = in-range (logIn x) r good (h .admits) in
+        let e = fileEnd width (x .buffer) in
         record {
-          low = i .low;
-          high = i .high;
-          first = seq-positive r;
-          here = i .here;
-          not-there = elim (decLe (seqOf r) (countIn (countsOf (logIn (p d))) (replicaOf r))) [
-            | yes l ↦ never (sym b ∙ s d .kept .tracks .outside r (record {
-              low = i .low;
-              high = i .high;
-              here = l;
-              there = sym (s d .inside .ops (replicaOf r) (seqOf r) (i .low) (i .high) (seq-positive r) l) ∙ j .there;
-            }))
-            | no nl ↦ omega arith
-          ];
+          kept = kept-grown x r n (s .kept) h;
+          inside = rw (appended-log width (x .buffer) r n h) (append-within (logIn x) r (length-logOf width (x .buffer)) (g .0) (g .1)
+              (own-next (logIn x) r good (h .admits)) u (s .inside) i);
+          size = appended-length width (x .buffer) r n h ∙ s .size;
+          past = rw (appended-end width (x .buffer) r n h) (appended-past width (x .buffer) r n h ∙ sym (drop-drop width e (x .buffer))
+              ∙ ap (drop width) (s .past) ∙ drop-drop width e (base d));
         }
 
-    -- an op that d lacks, and that is not early there
-    ready : (d : Side) (r : Op) → has (p (other d) .held) r ≡ true → has (p d .held) r ≡ false
-        → (x : Op) × (n : ℕ) × (offers os d x ≡ true) × (deliverAnswer width (p d .buffer) x ≡ accepted n)
-    unfolding held
-    ready d r a b =
-        let here : Log = logIn (p (other d)) in
-        let there : Log = logIn (p d) in
-        let ops : HeldOps here = kept-ops (p (other d)) (s (other d) .kept) in
-        let (t, k, y, c) = some-ready here there ops (suc (total (vectorOf (opAt here (replicaOf r) (seqOf r))))) (replicaOf r) (seqOf r)
-        (lacks d r a b) (omega arith) in
-        let x : Op = opAt here t k in
-        let i : OpIn here x = op-in here ops t k (y .low) (y .high) (y .first) (y .here) in
-        let m : HeldOp here t k x = ops t k (y .low) (y .high) (y .first) (y .here) in
-        let (n, e) = accepts (offer-answer d (p d) (s d) x (in-more here u (s (other d) .inside) x i)) (λ g.
-        let z : k ≤ countIn (countsOf there) t = rw (m .origin, m .number) at (leb-true (seqOf x) (countIn (countsOf there) (replicaOf x))
-        g) in
-        omega (arith, y .not-there)) (λ g. never (sym g ∙ c)) in
-        (x, n, v d x ∙ s (other d) .kept .tracks .outside x i, e)
+    pass-none : (p : Pair) → ((d : Side) → Stands u (base d) (p d)) → Passes u base p p []
+    unfolding all acceptedBy acceptances filter
+    pass-none p s = record {
+      stands = s;
+      answered = refl;
+      gained = λ d. sym (append-nil (p d .held));
+      fewer = omega arith;
+    }
 
-    pub round-accepts : 1 ≤ length (missing p) → 1 ≤ length (acceptances (answers p os))
-    unfolding other
-    round-accepts h =
-        let from : (d : Side) → 1 ≤ length (onlyIn (p (other d) .held) (p d .held)) → 1 ≤ length (acceptances (answers p os)) =
-        λ d l. let (r, a, b) = some-onlyIn (p (other d) .held) (p d .held) l in let (x, n, o, e) = ready d r a b in reached os p d x n o e
-        in
-        elim (decLe 1 (length (onlyIn (p left .held) (p right .held)))) [
-          | yes l ↦ from right l
-          | no nl ↦ from left (omega (arith, missing-from p left))
-        ]
+    pass-then : {p q z : Pair} {xs ys : List Answered} → Passes u base p q xs → Passes u base q z ys → Passes u base p z (xs ++ ys)
+    pass-then {p} {q} {z} {xs} {ys} a b = record {
+      stands = b .stands;
+      answered = all-append xs ys (a .answered) (b .answered);
+      gained = λ d. rw (b .gained d, a .gained d, acceptedBy-append) (append-assoc (p d .held) (acceptedBy d xs) (acceptedBy d ys));
+      fewer = omega (arith, a .fewer, b .fewer, acceptances-append xs ys);
+    }
 
-  -- all rounds
-  pub pass-rounds : (rounds : List Round) (p : Pair) → ((d : Side) → Stands u (base d) (p d)) → EachRound ValidRound p rounds
-      → Passes u base p (after p (concat rounds)) (answers p (concat rounds))
-  unfolding concat after answers
-  pass-rounds [] p s v = pass-none p s
-  pass-rounds (os ∷ rounds) p s v =
-      let one = pass-round p s os (v .0) in
-      rw (after-append, answers-append) (pass-then one (pass-rounds rounds (after p os) (one .stands) (v .1)))
+    -- nothing changes
+    pass-same : (p q : Pair) (x : Answered) → ((d : Side) → Stands u (base d) (p d)) → ((d : Side) → q d ≡ p d)
+        → expected (x .answered) ≡ true → ifAccepted (x .answered) true false ≡ false → Passes u base p q (x ∷ [])
+    unfolding all acceptedBy acceptances filter
+    pass-same p q x s e h n = record {
+      stands = λ d. rw (e d) (s d);
+      answered = rw h;
+      gained = λ d. rw (n, e d) (sym (append-nil (p d .held)));
+      fewer = rw (missing-from p left, missing-from q left, e left, e (other left), n) (omega arith);
+    }
 
-  pub rounds-accept : (rounds : List Round) (p : Pair) → ((d : Side) → Stands u (base d) (p d)) → EachRound ValidRound p rounds
-      → EachRound (λ at os. 1 ≤ length (missing at) → 1 ≤ length (acceptances (answers at os))) p rounds
-  rounds-accept [] p s v = tt
-  rounds-accept (os ∷ rounds) p s v = (
-    round-accepts p s os (v .0),
-    rounds-accept rounds (after p os) (pass-round p s os (v .0) .stands)
-        (v .1),
-  )
+    -- the side t gains the op r
+    pass-gain : (p q : Pair) (t : Side) (r : Op) (n : ℕ) → ((d : Side) → Stands u (base d) (p d)) → has (p (other t) .held) r ≡ true
+        → OpIn u r → Admitted width (p t .buffer) r n → q t ≡ record { buffer = appended width (p t .buffer) r; held = p t .held ++ (r ∷ []) }
+        → q (other t) ≡ p (other t) → Passes u base p q (record { offer = record { to = t; op = r }; answered = accepted n } ∷ [])
+    unfolding all acceptedBy acceptances filter expected
+    pass-gain p q t r n s o i h eq eo = record {
+      stands = both t (λ d. Stands u (base d) (q d)) (rw eq (stands-grown t (p t) (s t) r i n h)) (rw eo (s (other t)));
+      answered = refl;
+      gained = both t (λ d. q d .held ≡ p d .held ++ acceptedBy d (record { offer = record { to = t; op = r }; answered = accepted n } ∷ []))
+          (rw (side-self t, eq)) (rw (side-other t, eo) (sym (append-nil (p (other t) .held))));
+      fewer = rw (missing-from p t, missing-from q t, eq, eo, onlyIn-same (p t .held) (p (other t) .held) r o)
+          (omega (
+            arith,
+            onlyIn-less (p (other t) .held) (p t .held) r (grown-new (p t) r n (s t .kept) h),
+            times-some (p (other t) .held) r
+                o,
+            s (other t) .kept .once r,
+          ));
+    }
 
-  pub rounds-end : (rounds : List Round) (p : Pair) → ((d : Side) → Stands u (base d) (p d)) → EachRound ValidRound p rounds
-      → length (missing p) ≤ length rounds → length (missing (after p (concat rounds))) ≡ 0
-  unfolding concat after
-  rounds-end [] p s v h = omega arith
-  rounds-end (os ∷ rounds) p s v h =
-      let one = pass-round p s os (v .0) in
-      let less : length (missing (after p os)) ≤ length rounds = elim (decLe 1 (length (missing p))) [
-        | yes l ↦ omega (arith, one .fewer, round-accepts p s os (v .0) l)
-        | no nl ↦ omega (arith, one .fewer)
-      ] in
-      rw (after-append os (concat rounds) p) (rounds-end rounds (after p os) (one .stands) (v .1) less)
+    -- an offer of an op that the other side has
+    pass-one : (p : Pair) (o : Offer) → ((d : Side) → Stands u (base d) (p d)) → has (p (other (o .to)) .held) (o .op) ≡ true
+        → Passes u base p (offered p o) (record { offer = o; answered = answerTo p o } ∷ [])
+    unfolding answerTo answer delivered expected
+    pass-one p o s h = go (answerTo p o) refl (offer-answer (o .to) (p (o .to)) (s (o .to)) (o .op) i)
+      where
+        i : OpIn u (o .op)
+        i = let t = other (o .to) in in-more (logIn (p t)) u (s t .inside) (o .op) (s t .kept .tracks .inside (o .op) h)
+
+        go : (a : Answer) → answerTo p o ≡ a → Offered (logIn (p (o .to))) (o .op) (fileEnd width (p (o .to) .buffer) + width) a
+            → Passes u base p (offered p o) (record { offer = o; answered = a } ∷ [])
+        go (refused n) e f = pass-same p (offered p o) (record { offer = o; answered = refused n }) s (offered-same p o (rw e))
+            (offered-expected f) refl
+        go done e f = never (offered-expected f)
+        go hadIt e f = pass-same p (offered p o) (record { offer = o; answered = hadIt }) s (offered-same p o (rw e)) refl refl
+        go (accepted n) e f = pass-gain p (offered p o) (o .to) (o .op) n s h i (admitted width (p (o .to) .buffer) (o .op) n e)
+            (rw e at (offered-to p o)) (offered-other p o)
+
+    ---- a run of offers
+
+    pub pass-offers : (os : List Offer) (p : Pair) → ((d : Side) → Stands u (base d) (p d)) → ((d : Side) (r : Op) → offers os d r ≡ true
+        → has (p (other d) .held) r ≡ true) → Passes u base p (after p os) (answers p os)
+    unfolding after answers offers any
+    pass-offers [] p s h = pass-none p s
+    pass-offers (o ∷ os) p s h =
+        let one = pass-one p o s (h (o .to) (o .op) (rw (side-self (o .to), same-refl (o .op)))) in
+        pass-then one (pass-offers os (offered p o) (one .stands) (λ d r e.
+        rw (one .gained (other d)) (has-old (p (other d) .held) _ r (h d r (rw (e, or-true))))))
+
+    ---- rounds
+
+    module _ (p : Pair) (s : (d : Side) → Stands u (base d) (p d)) (os : Round) (v : ValidRound p os) where
+      pub pass-round : Passes u base p (after p os) (answers p os)
+      pass-round = pass-offers os p s (λ d r e. sym (v d r) ∙ e)
+
+      lacks : (d : Side) (r : Op) → has (p (other d) .held) r ≡ true → has (p d .held) r ≡ false
+          → Missing (logIn (p (other d))) (logIn (p d)) (replicaOf r) (seqOf r)
+      lacks d r a b =
+          let i = s (other d) .kept .tracks .inside r a in
+          let j = in-more (logIn (p (other d))) u (s (other d) .inside) r i in
+          record {
+            low = i .low;
+            high = i .high;
+            first = seq-positive r;
+            here = i .here;
+            not-there = elim (decLe (seqOf r) (countIn (countsOf (logIn (p d))) (replicaOf r))) [
+              | yes l ↦ never (sym b ∙ s d .kept .tracks .outside r (record {
+                low = i .low;
+                high = i .high;
+                here = l;
+                there = sym (s d .inside .ops (replicaOf r) (seqOf r) (i .low) (i .high) (seq-positive r) l) ∙ j .there;
+              }))
+              | no nl ↦ omega arith
+            ];
+          }
+
+      -- an op that d lacks, and that is not early there
+      ready : (d : Side) (r : Op) → has (p (other d) .held) r ≡ true → has (p d .held) r ≡ false
+          → (x : Op) × (n : ℕ) × (offers os d x ≡ true) × (deliverAnswer width (p d .buffer) x ≡ accepted n)
+      unfolding held
+      ready d r a b =
+          let here : Log = logIn (p (other d)) in
+          let there : Log = logIn (p d) in
+          let ops : HeldOps here = kept-ops (p (other d)) (s (other d) .kept) in
+          let (t, k, y, c) = some-ready here there ops (suc (total (vectorOf (opAt here (replicaOf r) (seqOf r))))) (replicaOf r) (seqOf r)
+          (lacks d r a b) (omega arith) in
+          let x : Op = opAt here t k in
+          let i : OpIn here x = op-in here ops t k (y .low) (y .high) (y .first) (y .here) in
+          let m : HeldOp here t k x = ops t k (y .low) (y .high) (y .first) (y .here) in
+          let (n, e) = accepts (offer-answer d (p d) (s d) x (in-more here u (s (other d) .inside) x i)) (λ g.
+          let z : k ≤ countIn (countsOf there) t = rw (m .origin, m .number) at (leb-true (seqOf x) (countIn (countsOf there) (replicaOf x))
+          g) in
+          omega (arith, y .not-there)) (λ g. never (sym g ∙ c)) in
+          (x, n, v d x ∙ s (other d) .kept .tracks .outside x i, e)
+
+      pub round-accepts : 1 ≤ length (missing p) → 1 ≤ length (acceptances (answers p os))
+      unfolding other
+      round-accepts h =
+          let from : (d : Side) → 1 ≤ length (onlyIn (p (other d) .held) (p d .held)) → 1 ≤ length (acceptances (answers p os)) =
+          λ d l. let (r, a, b) = some-onlyIn (p (other d) .held) (p d .held) l in let (x, n, o, e) = ready d r a b in reached os p d x n o e
+          in
+          elim (decLe 1 (length (onlyIn (p left .held) (p right .held)))) [
+            | yes l ↦ from right l
+            | no nl ↦ from left (omega (arith, missing-from p left))
+          ]
+
+    -- all rounds
+    pub pass-rounds : (rounds : List Round) (p : Pair) → ((d : Side) → Stands u (base d) (p d)) → EachRound ValidRound p rounds
+        → Passes u base p (after p (concat rounds)) (answers p (concat rounds))
+    unfolding concat after answers
+    pass-rounds [] p s v = pass-none p s
+    pass-rounds (os ∷ rounds) p s v =
+        let one = pass-round p s os (v .0) in
+        rw (after-append, answers-append) (pass-then one (pass-rounds rounds (after p os) (one .stands) (v .1)))
+
+    pub rounds-accept : (rounds : List Round) (p : Pair) → ((d : Side) → Stands u (base d) (p d)) → EachRound ValidRound p rounds
+        → EachRound (λ at os. 1 ≤ length (missing at) → 1 ≤ length (acceptances (answers at os))) p rounds
+    rounds-accept [] p s v = tt
+    rounds-accept (os ∷ rounds) p s v = (
+      round-accepts p s os (v .0),
+      rounds-accept rounds (after p os) (pass-round p s os (v .0) .stands)
+          (v .1),
+    )
+
+    pub rounds-end : (rounds : List Round) (p : Pair) → ((d : Side) → Stands u (base d) (p d)) → EachRound ValidRound p rounds
+        → length (missing p) ≤ length rounds → length (missing (after p (concat rounds))) ≡ 0
+    unfolding concat after
+    rounds-end [] p s v h = omega arith
+    rounds-end (os ∷ rounds) p s v h =
+        let one = pass-round p s os (v .0) in
+        let less : length (missing (after p os)) ≤ length rounds = elim (decLe 1 (length (missing p))) [
+          | yes l ↦ omega (arith, one .fewer, round-accepts p s os (v .0) l)
+          | no nl ↦ omega (arith, one .fewer)
+        ] in
+        rw (after-append os (concat rounds) p) (rounds-end rounds (after p os) (one .stands) (v .1) less)

@@ -8,7 +8,7 @@ use lib.Dec.{eqb}
 use Rattle.rules.specs.Answer.{Answer, refused, hadIt, done, accepted}
 use Rattle.lists.specs.Lists.{concat, all}
 use Rattle.rules.specs.Op.{Op}
-use Rattle.rules.specs.File.{Log, width}
+use Rattle.rules.specs.File.{Log, width, largest}
 use Rattle.rules.specs.Tree.{slots}
 use Rattle.rules.specs.Replay.{parentsOf, outcomesOf}
 use Rattle.rules.specs.Judge.{Judgement, judge}
@@ -65,7 +65,7 @@ abbrev pub Converges : Type 0
 Converges =
     (start : Side → List ℕ) (calls : Side → List Call) (rest : Side → List ℕ) (rounds : List Round)
     → ((d : Side) → 32 ≤ length (start d))
-    → ((d : Side) → 28592 ≤ length (meeting start calls rest d .buffer))
+    → ((d : Side) → largest width ≤ length (meeting start calls rest d .buffer))
     → Agreed (meeting start calls rest left .held) (meeting start calls rest right .held)
     → EachRound ValidRound (meeting start calls rest) rounds
     → Meets (meeting start calls rest) rounds

@@ -12,7 +12,7 @@ use Rattle.rules.specs.Judge.{judge}
 use Rattle.rules.specs.Path.{pathCall}
 use Rattle.rules.specs.Views.{View}
 use Rattle.rules.specs.Listing.{listing}
-use Rattle.convergence.specs.Exchange.{Call, make, Site, answer, bufferAfter, lent, run, reply, replies, fileIn, has, times, Agreed, arrange, filed}
+use Rattle.convergence.specs.Exchange.{Call, make, Site, answer, bufferAfter, lent, run, reply, replies, fileIn, standing, has, times, Agreed, arrange, filed}
 
 -- a buffer that holds just what is held
 pub record Stored (x : Site) : Type 0 where
@@ -30,6 +30,10 @@ ListsFile = (f : List ℕ) (calls : List Call) → 32 ≤ length f → Stored (r
 -- two lists that hold the same ops, in whatever order they came
 abbrev pub SameHeld : Site → Site → Type 0
 SameHeld x y = (r : Op) → has (x .held) r ≡ has (y .held) r
+
+-- a file may stay where it is: its buffer is one that it stands in
+abbrev pub StaysPut : Type 0
+StaysPut = (x : Site) → standing x (drop (fileEnd width (x .buffer)) (x .buffer)) ≡ x
 
 -- strong eventual consistency: the same ops are the same file
 abbrev pub SameOpsSameFile : Type 0

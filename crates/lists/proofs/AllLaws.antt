@@ -4,7 +4,10 @@ use Rattle.lists.proofs.BoolLaws.{and-both, and-left, and-right}
 use mathlib.Core.Bool.{Bool, _&&_, _||_, cond, false, or-assoc, true}
 use mathlib.Core.List.{List, [], _++_, _∷_, map}
 use mathlib.Core.Path.{_≡_, ap, refl, sym}
-use Prim.Native.Nat.{ℕ}
+use Prim.Native.Nat.{ℕ, _<_, suc, zero}
+use native.Mathlib.Omega.{arith}
+use lib.ListN.{getD, length}
+use native.Mathlib.Nat.{le-of-suc-le-suc, not-suc-le-zero}
 
 pub all-true : (p : ℕ → Bool) (xs : List ℕ) → ((x : ℕ) → p x ≡ true) → all p xs ≡ true
 unfolding all
@@ -30,3 +33,16 @@ module _ {A : Type 0} (t : A → Bool) where
   unfolding any
   any-append [] b = refl
   any-append (x ∷ a) b = rw (any-append a b) (sym (or-assoc (t x) (any t a) (any t b)))
+
+-- every element passes, by its place
+module _ {A : Type 0} (p : A → Bool) (d : A) where
+  pub all-at : (xs : List A) → all p xs ≡ true → (i : ℕ) → i < length xs → p (getD xs i d) ≡ true
+  unfolding all
+  all-at [] e i h = absurd (not-suc-le-zero h)
+  all-at (x ∷ xs) e zero h = and-left (p x) _ e
+  all-at (x ∷ xs) e (suc i) h = all-at xs (and-right (p x) _ e) i (le-of-suc-le-suc h)
+
+  pub all-of : (xs : List A) → ((i : ℕ) → i < length xs → p (getD xs i d) ≡ true) → all p xs ≡ true
+  unfolding all
+  all-of [] h = refl
+  all-of (x ∷ xs) h = and-both (h 0 (omega arith)) (all-of xs (λ i l. h (suc i) (omega arith)))

@@ -1,11 +1,13 @@
 -- A fact of every element of a list.
-use Rattle.lists.specs.Lists.{any, concat, filter, isIn}
+use Rattle.lists.specs.Lists.{downFrom, upFrom, any, concat, filter, isIn}
 use mathlib.Core.Bool.{Bool, cond, false, or-true, true}
 use mathlib.Core.List.{List, [], _++_, _∷_, map}
 use mathlib.Core.Path.{_≡_, refl}
 use borrow.Author.Tests.{eq-eqb}
 use lib.Dec.{eqb}
-use Prim.Native.Nat.{ℕ}
+use Prim.Native.Nat.{ℕ, _+_, _<_, _≤_, suc, zero}
+use native.Mathlib.Nat.{le-refl}
+use native.Mathlib.Omega.{arith}
 
 abbrev pub Each : {A : Type 0} → (A → Type 0) → List A → Type 0
 Each P [] = Unit {0}
@@ -46,3 +48,32 @@ each-passing p Q (x ∷ xs) h = go (p x) refl (each-passing p Q xs (λ y e q. h 
 pub map-each : {A : Type 0} (P : ℕ → Type 0) (f g : ℕ → A) (xs : List ℕ) → ((x : ℕ) → P x → f x ≡ g x) → Each P xs → map f xs ≡ map g xs
 map-each P f g [] h a = refl
 map-each P f g (x ∷ xs) h a = rw (h x (a .0), map-each P f g xs h (a .1))
+
+module _ {A : Type 0} (P : A → Type 0) where
+  pub each-left : (xs ys : List A) → Each P (xs ++ ys) → Each P xs
+  each-left [] ys a = tt
+  each-left (x ∷ xs) ys a = (a .0, each-left xs ys (a .1))
+
+  pub each-right : (xs ys : List A) → Each P (xs ++ ys) → Each P ys
+  each-right [] ys a = a
+  each-right (x ∷ xs) ys a = each-right xs ys (a .1)
+
+  pub each-test : (p : A → Bool) (xs : List A) → ((x : A) → p x ≡ true → P x) → Each P (filter p xs)
+  unfolding filter
+  each-test p [] h = tt
+  each-test p (x ∷ xs) h = go (p x) refl (each-test p xs h)
+    where
+      go : (b : Bool) → p x ≡ b → Each P (filter p xs) → Each P (cond b (x ∷ filter p xs) (filter p xs))
+      go true e rest = (h x e, rest)
+      go false e rest = rest
+
+  pub each-up : (F : ℕ → List A) (n a : ℕ) → ((t : ℕ) → a ≤ t → t < a + n → Each P (F t)) → Each P (concat (map F (upFrom a n)))
+  unfolding upFrom concat
+  each-up F zero a h = tt
+  each-up F (suc n) a h = each-append P (F a) _ (h a (le-refl a) (omega arith))
+      (each-up F n (suc a) (λ t l u. h t (omega arith) (omega arith)))
+
+  pub each-down : (F : ℕ → List A) (n : ℕ) → ((t : ℕ) → Each P (F t)) → Each P (concat (map F (downFrom n)))
+  unfolding downFrom concat
+  each-down F zero h = tt
+  each-down F (suc n) h = each-append P (F (suc n)) _ (h (suc n)) (each-down F n h)

@@ -1,7 +1,8 @@
 -- Laws of numbers.
+use mathlib.Core.Path.{subst, _∙_, _≡_, sym}
+use mathlib.Core.Logic.{inr, inl, _⊎_}
 use Prim.Native.Nat.{_*_, _+_, _<_, _≤_, suc, zero, ℕ}
-use mathlib.Core.Path.{_∙_, _≡_, sym}
-use native.Mathlib.Nat.{add-comm, mul-le-mul, mul-suc, not-suc-le-zero}
+use native.Mathlib.Nat.{add-comm, mul-le-mul, mul-suc, not-suc-le-zero, le-of-suc-le-suc}
 use native.Mathlib.Omega.{arith}
 use mathlib.Core.Bool.{cond}
 use borrow.Author.Tests.{eq-eqb, ne-eqb}
@@ -54,4 +55,36 @@ pigeonhole (suc m) (suc n) f b d =
         | yes e′ ↦ d j n (omega arith) (omega arith) (sym (swapped-off f m (f n) j ne) ∙ q ∙ swapped-at f m (f n) k e′)
         | no ne′ ↦ d j k h (omega arith) (sym (swapped-off f m (f n) j ne) ∙ q ∙ swapped-off f m (f n) k ne′)
       ]
+    ]
+
+---- the first number that a function maps to another
+
+pub least : (f : ℕ → ℕ) (i : ℕ) → f i ≡ 0 → (j : ℕ) × (j ≤ i) × (f j ≡ 0) × ((k : ℕ) → k < j → f k ≡ 0 → ⊥)
+least f zero e = (0, omega arith, e, λ k h q. omega arith)
+least f (suc i) e = elim (ℕ-discrete (f 0) 0) [
+  | yes z ↦ (0, omega arith, z, λ k h q. omega arith)
+  | no nz ↦ let (j, u, r, o) = least (λ k. f (suc k)) i e in (suc j, omega arith, r, first j o nz)
+]
+  where
+    first : (j : ℕ) → ((k : ℕ) → k < j → f (suc k) ≡ 0 → ⊥) → (f 0 ≡ 0 → ⊥) → (k : ℕ) → k < suc j → f k ≡ 0 → ⊥
+    first j o nz zero h q = nz q
+    first j o nz (suc k) h q = o k (le-of-suc-le-suc h) q
+
+-- the first place up to i where f is n, or none
+pub search-for : (f : ℕ → ℕ) (n i : ℕ) → ((j : ℕ) × (j ≤ i) × (f j ≡ n) × ((k : ℕ) → k < j → f k ≡ n → ⊥)) ⊎ ((j : ℕ) → j ≤ i → f j ≡ n → ⊥)
+search-for f n zero = elim (ℕ-discrete (f 0) n) [
+  | yes e ↦ inl (0, omega arith, e, λ k h q. omega arith)
+  | no ne ↦ inr (λ j h q. ne (subst (λ (t : ℕ). f t ≡ n) (let z : j ≡ 0 = omega arith in z) q))
+]
+search-for f n (suc i) = next (search-for f n i)
+  where
+    next : ((j : ℕ) × (j ≤ i) × (f j ≡ n) × ((k : ℕ) → k < j → f k ≡ n → ⊥)) ⊎ ((j : ℕ) → j ≤ i → f j ≡ n → ⊥)
+        → ((j : ℕ) × (j ≤ suc i) × (f j ≡ n) × ((k : ℕ) → k < j → f k ≡ n → ⊥)) ⊎ ((j : ℕ) → j ≤ suc i → f j ≡ n → ⊥)
+    next (inl x) = inl (x .0, omega (arith, x .1), x .2, x .3)
+    next (inr x) = elim (ℕ-discrete (f (suc i)) n) [
+      | yes e ↦ inl (suc i, omega arith, e, λ k h q. x k (omega arith) q)
+      | no ne ↦ inr (λ j h q. elim (ℕ-discrete j (suc i)) [
+        | yes z ↦ ne (subst (λ (t : ℕ). f t ≡ n) z q)
+        | no nz ↦ x j (omega arith) q
+      ])
     ]

@@ -3,21 +3,20 @@ use mathlib.Core.Path.{_≡_, sym, ap, _∙_}
 use mathlib.Core.Logic.{inl, inr}
 use mathlib.Core.Bool.{true}
 use mathlib.Core.List.{List}
-use Prim.Native.Nat.{ℕ, zero, suc, _+_, _-_, _≤_, _<_}
-use native.Mathlib.Nat.{not-suc-le-zero, le-of-suc-le-suc}
+use Prim.Native.Nat.{ℕ, suc, _+_, _-_, _≤_, _<_}
 use native.Mathlib.Omega.{arith}
 use native.Mathlib.Decide.{decLe}
-use borrow.Author.Tests.{eq-eqb, ne-eqb}
 use lib.ListN.{length}
 use Rattle.lists.specs.Lists.{isIn}
 use Rattle.rules.specs.Op.{Vector}
 use Rattle.rules.specs.File.{Log}
-use Rattle.rules.specs.Tree.{slots, parentIn, climb, path, depth}
+use Rattle.rules.specs.Tree.{slots, climb, path, depth}
 use Rattle.rules.specs.Replay.{replay, addedIn}
-use Rattle.rules.proofs.TreeLaws.{up, up-add, Reaches}
+use Rattle.rules.proofs.ClimbLaws.{up, up-add, Reaches, climb-length}
 use Rattle.rules.proofs.StructureLaws.{GoodLog}
 use Rattle.order.proofs.LevelLaws.{Cut}
-use Rattle.order.proofs.GrowLaws.{Named, replay-reaches}
+use Rattle.rules.proofs.KnownLaws.{Named}
+use Rattle.order.proofs.RunLaws.{replay-reaches}
 use Rattle.order.proofs.NodeLaws.{known-added}
 use Rattle.lists.proofs.MemberLaws.{at-most}
 
@@ -49,15 +48,6 @@ module _ (log : Log) (good : GoodLog log) (cut : Vector) (is : Cut log cut) wher
           ∙ ap (λ (t : ℕ). up f t m) k ∙ r .root)
 
 ---- the path's length and the depth
-
-pub climb-length : (parents : List ℕ) (k j n : ℕ) → j < k → up parents j n ≡ 0 → ((i : ℕ) → i < j → up parents i n ≡ 0 → ⊥)
-    → length (climb k parents n) ≡ suc j
-unfolding climb up
-climb-length parents zero j n h r o = absurd (not-suc-le-zero h)
-climb-length parents (suc k) zero n h r o = rw (eq-eqb n 0 r)
-climb-length parents (suc k) (suc j) n h r o =
-    rw (ne-eqb n 0 (o 0 (omega arith)))
-    (ap suc (climb-length parents k j (parentIn parents n) (le-of-suc-le-suc h) r (λ i l. o (suc i) (omega arith))))
 
 module _ (log : Log) (good : GoodLog log) (cut : Vector) (is : Cut log cut) where
   -- the depth of a node is at most the number of added nodes, and its path has one entry more

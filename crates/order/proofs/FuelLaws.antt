@@ -1,12 +1,10 @@
 -- The bounds in the definitions of paths and of the preorder do not matter: more gives the same. Assumes nothing.
-use mathlib.Core.List.{List, _∷_, []}
+use mathlib.Core.List.{List, _∷_}
 use Prim.Native.Nat.{ℕ, _<_, _+_, _≤_, suc, zero}
 use mathlib.Core.Path.{_≡_, ap, sym, _∙_, refl}
-use mathlib.Core.Bool.{true, cond}
-use native.Mathlib.Decide.{decLe}
-use native.Mathlib.Nat.{not-suc-le-zero}
+use mathlib.Core.Bool.{true}
 use native.Mathlib.Omega.{arith}
-use borrow.Author.Tests.{eq-eqb, eqb-true}
+use borrow.Author.Tests.{eqb-true}
 use lib.Dec.{eqb}
 use mathlib.Core.Logic.{inr}
 use Rattle.rules.specs.File.{Log, countsOf}
@@ -16,44 +14,13 @@ use Rattle.lists.specs.Lists.{isIn, concat}
 use Rattle.rules.specs.Listing.{children, preorder}
 use Rattle.rules.specs.Replay.{parentsOf, addedIn}
 use Rattle.rules.specs.Views.{nodes}
-use Rattle.rules.proofs.TreeLaws.{up}
+use Rattle.rules.proofs.ClimbLaws.{up, Depth, climb-enough, depth-child, depth-unique}
 use Rattle.rules.proofs.StructureLaws.{GoodLog, counts-covered, counts-closed}
 use Rattle.order.proofs.LevelLaws.{Cut}
-use Rattle.order.proofs.GrowLaws.{Named, replay-reaches, known-reads}
+use Rattle.rules.proofs.KnownLaws.{Named, known-reads}
+use Rattle.order.proofs.RunLaws.{replay-reaches}
 use Rattle.order.proofs.NodeLaws.{added-is}
 use Rattle.lists.proofs.MemberLaws.{isIn-filter, map-isIn}
-
--- n is j steps below the root
-pub record Depth (parents : List ℕ) (j n : ℕ) : Type 0 where
-  pub root : up parents j n ≡ 0
-  pub first : (k : ℕ) → k < j → up parents k n ≡ 0 → ⊥
-
-pub depth-unique : (parents : List ℕ) (i j n : ℕ) → Depth parents i n → Depth parents j n → i ≡ j
-depth-unique parents i j n a b = elim (decLe i j) [
-  | yes h ↦ elim (decLe j i) [
-    | yes h′ ↦ omega arith
-    | no h′ ↦ absurd (b .first i (omega arith) (a .root))
-  ]
-  | no h ↦ absurd (a .first j (omega arith) (b .root))
-]
-
-pub depth-child : (parents : List ℕ) (j n m : ℕ) → parentIn parents m ≡ n → (m ≡ 0 → ⊥) → Depth parents j n → Depth parents (suc j) m
-unfolding up
-depth-child parents j n m e nz d = record { root = rw e (d .root); first = go }
-  where
-    go : (k : ℕ) → k < suc j → up parents k m ≡ 0 → ⊥
-    go zero h z = nz z
-    go (suc k) h z = d .first k (omega arith) (rw e at z)
-
--- a climb with more steps than the depth
-pub climb-enough : (parents : List ℕ) (j k i n : ℕ) → Depth parents j n → j < k → j < i → climb k parents n ≡ climb i parents n
-unfolding climb up
-climb-enough parents j zero i n d h l = absurd (not-suc-le-zero h)
-climb-enough parents j (suc k) zero n d h l = absurd (not-suc-le-zero l)
-climb-enough parents zero (suc k) (suc i) n d h l = rw (eq-eqb n 0 (d .root))
-climb-enough parents (suc j) (suc k) (suc i) n d h l =
-    ap (λ t. n ∷ cond (eqb n 0) [] t) (climb-enough parents j k i (parentIn parents n)
-    (record { root = d .root; first = λ m w. d .first (suc m) (omega arith) }) (omega arith) (omega arith))
 
 module _ (log : Log) (good : GoodLog log) where
   abbrev parents : List ℕ

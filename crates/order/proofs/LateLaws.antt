@@ -9,11 +9,10 @@ use mathlib.Core.Logic.{⊎-elim}
 use mathlib.Core.Path.{ap, _∙_, _≡_, ap₂, sym}
 use native.Mathlib.Decide.{decLe}
 use native.Mathlib.Omega.{arith}
-use Rattle.order.proofs.ExtendLaws.{timestamp-more, within-more, ordered-more}
-use Rattle.order.proofs.GrowLaws.{entry-ready, entry-none}
+use Rattle.order.proofs.RunLaws.{entry-ready, entry-none}
 use Rattle.order.proofs.LevelLaws.{AtLevel, time-of, counted-value, Cut, equation, off-time, of-replica, by-time-more, matches, stamped-times, one-level, counted-bound, status}
 use Rattle.order.specs.Levels.{level, nextOf, entry}
-use Rattle.rules.proofs.AppendLaws.{closed-more, same-within, covered-more}
+use Rattle.rules.proofs.AppendLaws.{closed-more}
 use Rattle.lists.proofs.RangeLaws.{map-downFrom, map-upFrom, upFrom-add}
 use Rattle.lists.proofs.FilterLaws.{filter-append, filter-none}
 use Rattle.lists.proofs.ListLaws.{concat-append}
@@ -23,6 +22,7 @@ use Rattle.lists.specs.Lists.{greatest, concat, upFrom, filter}
 use Rattle.rules.specs.File.{Log, countsOf, opAt, opsOf, Extends}
 use Rattle.rules.specs.Op.{Vector, countIn, vectorOf, Op, kindOf}
 use Rattle.rules.specs.Replay.{timestamp, ofTime, ordered, opsWithin, ofKind, ofReplica, stamped, Stamped, stamp}
+use Rattle.rules.proofs.ExtendLaws.{Alike, alike-more, inner-alike, ordered-alike, timestamp-alike, within-alike}
 
 -- more is log and, of each replica, perhaps one op with the held counts of log as its vector
 pub record Late (log more : Log) : Type 0 where
@@ -41,20 +41,20 @@ module _ (log more : Log) (x : Late log more) (good : GoodLog log) (goodMore : G
   unfoldable pub top : ℕ
   top = greatest (map (timestamp log) (opsWithin log held))
 
+  -- what the first log holds, the second replays alike
+  alike : Alike log more held
+  alike = alike-more log more (x .extends) held (counts-covered log) (counts-closed log good)
+
   held-cut : Cut more held
-  held-cut = record {
-    is-covered = covered-more log more (x .extends) held (counts-covered log);
-    is-closed = closed-more log more held (same-within log more (x .extends) held (counts-covered log)) ∙ counts-closed log good;
-  }
+  held-cut = record { is-covered = alike .there; is-closed = closed-more log more held (alike .same) ∙ counts-closed log good }
 
   pub whole-cut : Cut more all-held
   whole-cut = record { is-covered = counts-covered more; is-closed = counts-closed more goodMore }
 
   times-within : map (timestamp more) (opsWithin more held) ≡ map (timestamp log) (opsWithin log held)
   times-within =
-      rw (within-more log more (x .extends) held (counts-covered log)) (map-within (timestamp more) (timestamp log) log held
-      (λ s q l u lq uq.
-      timestamp-more log more (x .extends) good (opAt log s q) (good-ops good s q l u lq uq .is-covered)))
+      rw (within-alike log more held alike) (map-within (timestamp more) (timestamp log) log held (λ s q l u lq uq.
+      timestamp-alike log more (good-ops good) (opAt log s q) (inner-alike log more (good-ops good) held alike s q l u lq uq)))
 
   early-time : (s q : ℕ) → 1 ≤ s → s ≤ 8 → 1 ≤ q → q ≤ countIn held s → time-of more goodMore s q ≤ top
   unfolding top
@@ -126,7 +126,7 @@ module _ (log more : Log) (x : Late log more) (good : GoodLog log) (goodMore : G
       early =
           ap concat (map-upFrom (ofTime (stamped more all-held)) (ofTime (stamped more held)) top 1 (λ t a b. early-times t (omega arith)))
           ∙ sym (by-time-more (stamped more held) top held-times)
-          ∙ ordered-more log more (x .extends) good held (counts-covered log)
+          ∙ ordered-alike log more (good-ops good) held alike
 
       last : ofTime (stamped more all-held) (1 + top) ≡ level more (suc top) (nextOf more all-held held)
       last =

@@ -27,6 +27,7 @@ use Rattle.lists.proofs.ListLaws.{concat-append}
 use Rattle.rules.proofs.StructureLaws.{count-held, held-in, GoodLog, good-ops}
 use Rattle.rules.proofs.FileLaws.{count-map}
 use Rattle.order.specs.Levels.{ready, nextAt, nextOf, advancedAt, advanced, entry, levelKind, level, levels, nothing}
+use Rattle.rules.proofs.ClimbLaws.{up}
 
 pub count-nothing : (s : ℕ) → 1 ≤ s → s ≤ 8 → countIn nothing s ≡ 0
 unfolding countIn nothing

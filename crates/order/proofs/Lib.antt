@@ -1,14 +1,16 @@
 pub mod LevelLaws
 pub mod LastLaws
 pub mod GrowLaws
+pub mod RunLaws
 pub mod OnceLaws
 pub mod NodeLaws
 pub mod DepthLaws
 pub mod TreeTheorem
 pub mod FuelLaws
-pub mod ExtendLaws
 pub mod LateLaws
 pub mod PlacedLaws
 pub mod RisingLaws
 pub mod TourLaws
 pub mod PlacingLaws
+pub mod DecimalLaws
+pub mod ClaimTheorems

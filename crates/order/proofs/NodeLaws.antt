@@ -19,7 +19,7 @@ use Rattle.lists.proofs.FilterLaws.{filter-append}
 use Rattle.rules.proofs.StructureLaws.{count-held, held-in, GoodLog, good-ops}
 use Rattle.lists.proofs.BoolLaws.{never, or-cases, both-ways}
 use Rattle.order.proofs.LevelLaws.{Cut}
-use Rattle.order.proofs.GrowLaws.{known-reads, names-add, known-of}
+use Rattle.rules.proofs.KnownLaws.{known-reads, names-add, known-of}
 use Rattle.lists.proofs.MemberLaws.{isIn-cases, isIn-left, isIn-right}
 
 ---- the added nodes

@@ -14,7 +14,7 @@ use Rattle.rules.specs.File.{Log, opAt}
 use Rattle.rules.proofs.StructureLaws.{HeldOp, held-in, good-ops, GoodLog}
 use Rattle.lists.proofs.BoolLaws.{and-both}
 use Rattle.order.proofs.LevelLaws.{Cut, counted-bound, positive, stamped-times, counted-value}
-use Rattle.order.proofs.GrowLaws.{kinds}
+use Rattle.rules.proofs.KnownLaws.{kinds}
 use Rattle.lists.proofs.AllLaws.{all-filter, all-of-map}
 use Rattle.lists.proofs.GreatestLaws.{all-greatest}
 use Rattle.lists.proofs.FilterLaws.{filter-both, ofKey, tally, tally-concat, tally-down, tally-up}

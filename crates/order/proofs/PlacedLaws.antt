@@ -5,7 +5,6 @@ use lib.ListN.{length-replicate, set, List·getD-eq-default, getD-replicate, len
 use lib.Seq.{getD-set-same, getD-set-other}
 use mathlib.Core.Bool.{cond, false, true, Bool, _&&_}
 use mathlib.Core.List.{List, [], map, _∷_, foldl}
-use mathlib.Core.Path.{_≡_, _∙_}
 use native.Mathlib.Decide.{ℕ-discrete, decLe}
 use native.Mathlib.Nat.{le-refl}
 use native.Mathlib.Omega.{arith}
@@ -70,35 +69,3 @@ unfolding replay ordered stamped
 placed-by log cut =
     placed-run (byTime (stamped log cut)) start _ (λ i. omega (arith, placed-first i)) (rw (← stamped-times log (opsWithin log cut))
     (times-ordered (stamped log cut)))
-
----- the sizes of the tables
-
-pub record Full (st : State) : Type 0 where
-  pub outcomes-full : length (st .outcomes) ≡ slots
-  pub placed-full : length (st .placed) ≡ slots
-
-pub full-step : (st : State) (x : Stamped) → Full st → Full (step st x)
-unfolding step
-full-step st x h = record {
-  outcomes-full = length-set (st .outcomes) _ _ ∙ h .outcomes-full;
-  placed-full = go (eqb (outcomeOf st x) 1 && isMove (x .op));
-}
-  where
-    go : (moved : Bool) → length (cond moved (set (st .placed) (slotOf (nodeOf (x .op))) (x .time)) (st .placed)) ≡ slots
-    go true = length-set (st .placed) _ _ ∙ h .placed-full
-    go false = h .placed-full
-
-full-run : (xs : List Stamped) (st : State) → Full st → Full (foldl step st xs)
-full-run [] st h = h
-full-run (x ∷ xs) st h = full-run xs (step st x) (full-step st x h)
-
-pub full-first : Full start
-unfolding start
-full-first = record {
-  outcomes-full = length-replicate {A = ℕ} slots 0;
-  placed-full = length-replicate {A = ℕ} slots 0;
-}
-
-pub tables-full : (log : Log) (cut : Vector) → Full (replay log cut)
-unfolding replay
-tables-full log cut = full-run (ordered log cut) start full-first

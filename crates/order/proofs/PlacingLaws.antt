@@ -11,71 +11,46 @@ use mathlib.Core.Path.{refl, _≡_, ap, sym, _∙_}
 use native.Mathlib.Decide.{ℕ-discrete}
 use native.Mathlib.Nat.{le-refl}
 use native.Mathlib.Omega.{arith}
-use Rattle.lists.proofs.EachLaws.{Each, each-map, each-append, each-filter}
-use Rattle.order.proofs.GrowLaws.{named-valid, names-node}
+use Rattle.lists.proofs.EachLaws.{Each, each-map, each-append, each-filter, each-down, each-left, each-right, each-test, each-up}
+use Rattle.rules.proofs.KnownLaws.{named-valid, names-node}
 use Rattle.order.proofs.LevelLaws.{Cut}
-use Rattle.order.proofs.PlacedLaws.{Full, full-step, placed-first, full-first}
+use Rattle.rules.proofs.StepLaws.{Full, full-step, full-first}
+use Rattle.order.proofs.PlacedLaws.{placed-first}
 use Rattle.order.specs.Placing.{alreadyPlaced, appliedIn, PlacedSays}
 use Rattle.lists.proofs.BoolLaws.{and-left, never, and-false, and-true}
 use Rattle.rules.proofs.StructureLaws.{GoodLog, good-ops, held-in, structural-good}
-use Rattle.rules.proofs.TreeLaws.{Valid, slot-injective, slot-below}
-use Rattle.lists.specs.Lists.{downFrom, upFrom, filter, concat, any}
+use Rattle.rules.proofs.SlotLaws.{Valid, slot-injective, slot-below}
+use Rattle.lists.specs.Lists.{upFrom, concat, any}
 use Rattle.rules.specs.File.{Log, opAt, opsOf, logOf}
 use Rattle.rules.specs.Op.{Vector, replicas, Op, countIn, isMove, nodeOf, vectorOf}
 use Rattle.rules.specs.Replay.{Stamped, stamped, ofTime, ofReplica, opsWithin, ofKind, stamp, State, step, outcomeOf, ordered, byTime, start}
 use Rattle.rules.specs.Tree.{slotOf}
 
----- facts of every element
-
 module _ (P : Stamped → Type 0) where
-  all-left : (xs ys : List Stamped) → Each P (xs ++ ys) → Each P xs
-  all-left [] ys a = tt
-  all-left (x ∷ xs) ys a = (a .0, all-left xs ys (a .1))
-
-  all-right : (xs ys : List Stamped) → Each P (xs ++ ys) → Each P ys
-  all-right [] ys a = a
-  all-right (x ∷ xs) ys a = all-right xs ys (a .1)
-
-  all-filter : (p : Stamped → Bool) (xs : List Stamped) → ((x : Stamped) → p x ≡ true → P x) → Each P (filter p xs)
-  unfolding filter
-  all-filter p [] h = tt
-  all-filter p (x ∷ xs) h = go (p x) refl (all-filter p xs h)
-    where
-      go : (b : Bool) → p x ≡ b → Each P (filter p xs) → Each P (cond b (x ∷ filter p xs) (filter p xs))
-      go true e rest = (h x e, rest)
-      go false e rest = rest
-
-  all-up : (F : ℕ → List Stamped) (n a : ℕ) → ((t : ℕ) → a ≤ t → t < a + n → Each P (F t)) → Each P (concat (map F (upFrom a n)))
-  unfolding upFrom concat
-  all-up F zero a h = tt
-  all-up F (suc n) a h = each-append P (F a) _ (h a (le-refl a) (omega arith))
-      (all-up F n (suc a) (λ t l u. h t (omega arith) (omega arith)))
-
-  all-down : (F : ℕ → List Stamped) (n : ℕ) → ((t : ℕ) → Each P (F t)) → Each P (concat (map F (downFrom n)))
-  unfolding downFrom concat
-  all-down F zero h = tt
-  all-down F (suc n) h = each-append P (F (suc n)) _ (h (suc n)) (all-down F n h)
-
   -- the ops that a vector counts
-  all-taken : (log : Log) (n : ℕ) (rs : List Op) → ((i : ℕ) → i < n → i < length rs → P (stamp log (getD rs i [])))
+  each-taken : (log : Log) (n : ℕ) (rs : List Op) → ((i : ℕ) → i < n → i < length rs → P (stamp log (getD rs i [])))
       → Each P (map (stamp log) (take n rs))
-  all-taken log zero rs h = tt
-  all-taken log (suc n) [] h = tt
-  all-taken log (suc n) (r ∷ rs) h = (h 0 (omega arith) (omega arith), all-taken log n rs (λ i a b. h (suc i) (omega arith) (omega arith)))
+  each-taken log zero rs h = tt
+  each-taken log (suc n) [] h = tt
+  each-taken log (suc n) (r ∷ rs) h = (
+    h 0 (omega arith) (omega arith),
+    each-taken log n rs
+        (λ i a b. h (suc i) (omega arith) (omega arith)),
+  )
 
-  all-parts : (log : Log) (F : ℕ → List Op) (n a : ℕ) → ((s : ℕ) → a ≤ s → s < a + n → Each P (map (stamp log) (F s)))
+  each-part : (log : Log) (F : ℕ → List Op) (n a : ℕ) → ((s : ℕ) → a ≤ s → s < a + n → Each P (map (stamp log) (F s)))
       → Each P (map (stamp log) (concat (map F (upFrom a n))))
   unfolding upFrom concat
-  all-parts log F zero a h = tt
-  all-parts log F (suc n) a h =
+  each-part log F zero a h = tt
+  each-part log F (suc n) a h =
       rw map-append (each-append P (map (stamp log) (F a)) _ (h a (le-refl a) (omega arith))
-      (all-parts log F n (suc a) (λ s l u. h s (omega arith) (omega arith))))
+      (each-part log F n (suc a) (λ s l u. h s (omega arith) (omega arith))))
 
-  all-stamped : (log : Log) (v : Vector) → ((s q : ℕ) → 1 ≤ s → s ≤ 8 → 1 ≤ q → q ≤ countIn v s → P (stamp log (opAt log s q)))
+  each-stamped : (log : Log) (v : Vector) → ((s q : ℕ) → 1 ≤ s → s ≤ 8 → 1 ≤ q → q ≤ countIn v s → P (stamp log (opAt log s q)))
       → Each P (stamped log v)
   unfolding stamped opsWithin replicas opAt
-  all-stamped log v h =
-      all-parts log (λ s. take (countIn v s) (opsOf log s)) 8 1 (λ s l u. all-taken log (countIn v s) (opsOf log s) (λ i a b.
+  each-stamped log v h =
+      each-part log (λ s. take (countIn v s) (opsOf log s)) 8 1 (λ s l u. each-taken log (countIn v s) (opsOf log s) (λ i a b.
       let k : i + 1 - 1 ≡ i = omega arith in
       rw k at (h s (i + 1) l (omega arith) (omega arith) (omega arith))))
 
@@ -100,21 +75,21 @@ unfolding upFrom concat
 rising-up F h zero a = tt
 rising-up F h (suc n) a =
     rising-append a (F a) _ (rising-same a (F a) (h a)) (rising-up F h n (suc a)) (each-map _ _ (F a) (λ x e. omega arith) (h a))
-    (all-up (λ y. a ≤ y .time) F n (suc a) (λ t l u. each-map _ _ (F t) (λ x e. omega arith) (h t)))
+    (each-up (λ y. a ≤ y .time) F n (suc a) (λ t l u. each-map _ _ (F t) (λ x e. omega arith) (h t)))
 
 of-time : (xs : List Stamped) (t : ℕ) → Each (λ x. x .time ≡ t) (ofTime xs t)
 unfolding ofTime ofKind ofReplica
 of-time xs t =
-    all-up (λ x. x .time ≡ t) (ofKind xs t) 4 1 (λ k a b. all-down (λ x. x .time ≡ t) (ofReplica xs t k) 8
-    (λ s. all-filter (λ x. x .time ≡ t) _ xs (λ x e. eqb-true _ _ (and-left _ _ (and-left _ _ e)))))
+    each-up (λ x. x .time ≡ t) (ofKind xs t) 4 1 (λ k a b. each-down (λ x. x .time ≡ t) (ofReplica xs t k) 8
+    (λ s. each-test (λ x. x .time ≡ t) _ xs (λ x e. eqb-true _ _ (and-left _ _ (and-left _ _ e)))))
 
 rising-left : (xs ys : List Stamped) → Rising (xs ++ ys) → Rising xs
 rising-left [] ys r = tt
-rising-left (x ∷ xs) ys r = (all-left _ xs ys (r .0), rising-left xs ys (r .1))
+rising-left (x ∷ xs) ys r = (each-left _ xs ys (r .0), rising-left xs ys (r .1))
 
 rising-before : (xs : List Stamped) (x : Stamped) (ys : List Stamped) → Rising (xs ++ (x ∷ ys)) → Each (λ y. y .time ≤ x .time) xs
 rising-before [] x ys r = tt
-rising-before (y ∷ xs) x ys r = (all-right _ xs (x ∷ ys) (r .0) .0, rising-before xs x ys (r .1))
+rising-before (y ∷ xs) x ys r = (each-right _ xs (x ∷ ys) (r .0) .0, rising-before xs x ys (r .1))
 
 ---- the table
 
@@ -198,7 +173,7 @@ module _ (log : Log) (good : GoodLog log) (cut : Vector) (is : Cut log cut) wher
   ordered-positive : Each (λ y. 1 ≤ y .time) (ordered log cut)
   unfolding ordered byTime
   ordered-positive =
-      all-up (λ y. 1 ≤ y .time) (ofTime (stamped log cut)) _ 1 (λ t l u. each-map _ _ (ofTime (stamped log cut) t) (λ y e. omega arith)
+      each-up (λ y. 1 ≤ y .time) (ofTime (stamped log cut)) _ 1 (λ t l u. each-map _ _ (ofTime (stamped log cut) t) (λ y e. omega arith)
       (of-time (stamped log cut) t))
 
   move-valid : (s q : ℕ) → 1 ≤ s → s ≤ 8 → 1 ≤ q → q ≤ countIn cut s → Placeable (stamp log (opAt log s q))
@@ -211,10 +186,10 @@ module _ (log : Log) (good : GoodLog log) (cut : Vector) (is : Cut log cut) wher
   ordered-placeable : Each Placeable (ordered log cut)
   unfolding ordered byTime ofTime ofKind ofReplica
   ordered-placeable =
-      all-up Placeable (ofTime (stamped log cut)) _ 1 (λ t a b.
-      all-up Placeable (ofKind (stamped log cut) t) 4 1 (λ k c d.
-      all-down Placeable (ofReplica (stamped log cut) t k) 8 (λ s. each-filter Placeable _ (stamped log cut)
-      (all-stamped Placeable log cut move-valid))))
+      each-up Placeable (ofTime (stamped log cut)) _ 1 (λ t a b.
+      each-up Placeable (ofKind (stamped log cut) t) 4 1 (λ k c d.
+      each-down Placeable (ofReplica (stamped log cut) t k) 8 (λ s. each-filter Placeable _ (stamped log cut)
+      (each-stamped Placeable log cut move-valid))))
 
 pub placed-says : PlacedSays
 placed-says w f s cut cv cl xs x ys e m =
@@ -225,8 +200,8 @@ placed-says w f s cut cv cl xs x ys e m =
     let placeable = rw e at (ordered-placeable log good cut is) in
     let positive = rw e at (ordered-positive log good cut is) in
     let first : getD (start .placed) (slotOf (nodeOf (x .op))) 0 ≤ 0 = placed-first (slotOf (nodeOf (x .op))) in
-    let late : 1 ≤ x .time = all-right _ xs (x ∷ ys) positive .0 in
+    let late : 1 ≤ x .time = each-right _ xs (x ∷ ys) positive .0 in
     let never-placed : eqb (getD (start .placed) (slotOf (nodeOf (x .op))) 0) (x .time) ≡ false = ne-eqb _ (x .time) (λ z. omega arith) in
-    run-says x (all-right Placeable xs (x ∷ ys) placeable .0 m) xs start full-first (all-left Placeable xs (x ∷ ys) placeable)
+    run-says x (each-right Placeable xs (x ∷ ys) placeable .0 m) xs start full-first (each-left Placeable xs (x ∷ ys) placeable)
     (rising-left xs (x ∷ ys) rising) (rising-before xs x ys rising)
-    (each-map _ _ xs (λ y h. omega arith) (all-left _ xs (x ∷ ys) positive)) ∙ rw (never-placed, or-false)
+    (each-map _ _ xs (λ y h. omega arith) (each-left _ xs (x ∷ ys) positive)) ∙ rw (never-placed, or-false)

@@ -17,11 +17,12 @@ use Rattle.rules.specs.Replay.{opsWithin, addedIn}
 use Rattle.lists.proofs.FilterLaws.{filter-append}
 use Rattle.rules.proofs.StructureLaws.{count-held, held-in, GoodLog, good-ops}
 use Rattle.lists.proofs.BoolLaws.{never}
-use Rattle.rules.proofs.TreeLaws.{Valid, slot-below, slot-injective}
+use Rattle.rules.proofs.SlotLaws.{Valid, slot-below, slot-injective}
 use Rattle.lists.proofs.NumberLaws.{pigeonhole}
 use Rattle.order.proofs.LevelLaws.{Cut}
-use Rattle.order.proofs.GrowLaws.{names-add}
+use Rattle.rules.proofs.KnownLaws.{names-add}
 use Rattle.lists.proofs.MemberLaws.{isIn-cases, isIn-filter, isIn-at, isIn-concat, isIn-cons, isIn-here, isIn-there}
+use Rattle.order.specs.Claims.{Distinct}
 
 ---- rising numbers
 
@@ -120,11 +121,6 @@ module _ (log : Log) (good : GoodLog log) (cut : Vector) (is : Cut log cut) wher
           omega (arith, b .0, b .1)
 
 ---- different numbers
-
--- none is among those that follow
-abbrev pub Distinct : List ℕ → Type 0
-Distinct [] = Unit {0}
-Distinct (x ∷ xs) = (isIn x xs ≡ true → ⊥) × Distinct xs
 
 distinct-append : (xs ys : List ℕ) → Distinct xs → Distinct ys → ((y : ℕ) → isIn y xs ≡ true → isIn y ys ≡ true → ⊥) → Distinct (xs ++ ys)
 distinct-append [] ys d e h = e

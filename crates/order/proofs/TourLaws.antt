@@ -21,16 +21,19 @@ use Rattle.rules.specs.Marks.{tombstone}
 use Rattle.rules.specs.Listing.{children, preorder, line, listingIn, listingOf}
 use Rattle.lists.proofs.BoolLaws.{never, both-ways}
 use Rattle.rules.proofs.StructureLaws.{GoodLog, counts-covered, counts-closed}
-use Rattle.rules.proofs.TreeLaws.{Valid, up, up-last}
+use Rattle.rules.proofs.SlotLaws.{Valid}
+use Rattle.rules.proofs.ClimbLaws.{up, up-last, Depth, depth-unique, depth-child}
 use Rattle.rules.proofs.SoundLaws.{sound-good}
 use Rattle.rules.proofs.DecimalLaws.{line-short}
 use Rattle.order.proofs.LevelLaws.{Cut}
-use Rattle.order.proofs.GrowLaws.{Named, known-reads, named-valid, parent-reads, replay-reaches}
+use Rattle.rules.proofs.KnownLaws.{Named, known-reads, named-valid, parent-reads}
+use Rattle.order.proofs.RunLaws.{replay-reaches}
 use Rattle.order.proofs.NodeLaws.{added-is}
 use Rattle.order.proofs.DepthLaws.{depth-added}
-use Rattle.order.proofs.FuelLaws.{Depth, depth-unique, depth-child, child-named}
+use Rattle.order.proofs.FuelLaws.{child-named}
 use Rattle.lists.proofs.MemberLaws.{isIn-filter, isIn-here, isIn-there, isIn-cons, isIn-concat, concat-isIn, filter-isIn, concat-length}
-use Rattle.order.proofs.RisingLaws.{Rising, rising-filter, added-rises, Distinct, distinct-concat, distinct-length}
+use Rattle.order.proofs.RisingLaws.{Rising, rising-filter, added-rises, distinct-concat, distinct-length}
+use Rattle.order.specs.Claims.{Distinct}
 use Rattle.lists.proofs.FilterLaws.{filter-length}
 
 module _ (log : Log) (good : GoodLog log) where

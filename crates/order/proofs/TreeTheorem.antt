@@ -13,9 +13,11 @@ use Rattle.rules.specs.Replay.{replay, addedIn}
 use Rattle.lists.specs.Lists.{isIn}
 use Rattle.rules.specs.Tree.{slotOf}
 use Rattle.rules.proofs.StructureLaws.{GoodLog, structural-good}
-use Rattle.rules.proofs.TreeLaws.{slot-root, in-climb}
+use Rattle.rules.proofs.SlotLaws.{slot-root}
+use Rattle.rules.proofs.ClimbLaws.{in-climb}
 use Rattle.order.proofs.LevelLaws.{Cut}
-use Rattle.order.proofs.GrowLaws.{Named, replay-run}
+use Rattle.rules.proofs.KnownLaws.{Named}
+use Rattle.order.proofs.RunLaws.{replay-run}
 use Rattle.order.proofs.NodeLaws.{added-is}
 use Rattle.order.proofs.DepthLaws.{depth-bound}
 

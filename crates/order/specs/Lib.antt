@@ -1,2 +1,3 @@
 pub mod Levels
 pub mod Placing
+pub mod Claims

@@ -1,6 +1,6 @@
 // Reads one log from standard input and prints its keeping view; input that is no log prints
 // `refused 1`.
-use view::Listed;
+use codec::Answer;
 
 // Prints the first bytes.
 fn print(bytes: &[u8], n: usize) {
@@ -15,7 +15,7 @@ fn main() {
     let n = io::read_full(0, &mut input);
     // Enough for every output.
     let mut out = [0u8; 24492];
-    let Listed::Accepted(size) = view::outline(&input[..n], &mut out) else {
+    let Answer::Accepted(size) = view::outline(&input[..n], &mut out) else {
         return;
     };
     print(&out, size);

@@ -13,6 +13,7 @@ use Rattle.rules.proofs.IssueLaws.{allowed}
 use Rattle.rules.specs.Answer.{Answer, refused, hadIt, done, accepted}
 use Rattle.rules.specs.Deliver.{makeAnswer, deliverAnswer}
 use Rattle.rules.specs.Issue.{Request, issueAnswer}
+use Rattle.rules.specs.Judge.{judge, judgeAnswer}
 use borrow.Author.Tests.{leb-true}
 use Rattle.rules.specs.File.{width, logOf}
 
@@ -36,6 +37,15 @@ pub issue-fits : (f : List ℕ) (room s : ℕ) (q : Request) → length f ≤ 92
 issue-fits f room s q h =
     fits-if (issueAnswer width f room s q)
     (λ n e. omega (arith, allowed width f room s q n e .room-left, allowed width f room s q n e .end))
+
+pub judge-fits : (f p o : List ℕ) → fits (judge width f p o .answer)
+unfolding judge judgeAnswer
+judge-fits f p o =
+    fits-if (judgeAnswer width f p o)
+    (λ n e.
+    let d = required _ _ _ n (required _ _ _ n e .1) .1 in
+    let z : _≡_ {A = ℕ} 0 1 = cc in
+    omega arith)
 
 pub path-fits : (f : List ℕ) (n : ℕ) (out : List ℕ) → length out ≤ 9223372036854775807 → fits (pathCall width f n out .answer)
 unfolding pathCall pathAnswer

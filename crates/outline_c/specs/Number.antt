@@ -1,10 +1,15 @@
 -- One number for each answer, and a bool for each view, for callers in other languages. Assumes nothing.
 use Prim.Native.Nat.{ℕ, _+_, _≤_}
 use mathlib.Core.Bool.{Bool, true, false}
-use Rattle.rules.specs.Views.{View, keeping, skipping}
+use mathlib.Core.List.{List}
 use Rattle.rules.specs.Answer.{Answer, refused, hadIt, done, accepted}
+use Rattle.rules.specs.Deliver.{Result}
+use Rattle.rules.specs.Issue.{Issued}
+use Rattle.rules.specs.Judge.{Judgement}
+use Rattle.rules.specs.Path.{Written}
+use Rattle.rules.specs.Views.{View, keeping, skipping}
 
--- a refusal by the paper's number, 1 to 10; 16 had it; 17 done; from 256 on, 256 and the value
+-- a refusal by the document's number, 1 to 10; 16 had it; 17 done; from 256 on, 256 and the value
 unfoldable pub number : Answer → ℕ
 number (refused n) = n
 number hadIt = 16
@@ -17,6 +22,19 @@ fits (refused n) = Unit {0}
 fits hadIt = Unit {0}
 fits done = Unit {0}
 fits (accepted n) = n ≤ 9223372036854775807
+
+-- what each call hands over: the number of its answer, and what it leaves in lent memory
+abbrev pub ofResult : Result → ℕ × List ℕ
+ofResult x = (number (x .answer), x .buffer)
+
+abbrev pub ofIssued : Issued → ℕ × List ℕ × List ℕ
+ofIssued x = (number (x .answer), x .buffer, x .out)
+
+abbrev pub ofJudgement : Judgement → ℕ × List ℕ × List ℕ
+ofJudgement x = (number (x .answer), x .parents, x .outcomes)
+
+abbrev pub ofWritten : Written → ℕ × List ℕ
+ofWritten x = (number (x .answer), x .out)
 
 -- the view that a caller asks for
 unfoldable pub viewFor : Bool → View

@@ -1,17 +1,11 @@
+use codec::Answer;
 use codec::Refusal;
-use replica::Delivery;
-use replica::Issue;
-use replica::Judged;
-use replica::Made;
-use view::Listed;
 ghost use mathlib.Core.Path.{_≡_};
-ghost use Rattle.codec.specs.Read.{numberOf};
-ghost use Rattle.replica.specs.Answers.{madeAnswer, deliveryAnswer, issueAnswerOf, judgedAnswer};
-ghost use Rattle.view.specs.Answers.{listedAnswer};
-ghost use Rattle.outline_c.specs.Number.{number, fits};
+ghost use Rattle.codec.specs.Answers.{numberOf, answerOf};
+ghost use Rattle.outline_c.specs.Number as specs;
 
-// A refusal by the paper's number.
-pub(crate) fn refusal_number(why: Refusal) -> usize
+// A refusal by the document's number.
+fn refusal_number(why: Refusal) -> usize
     ensures { λ r. ⌜ r ≡ numberOf why ⌝ }
 {
     match why {
@@ -28,52 +22,15 @@ pub(crate) fn refusal_number(why: Refusal) -> usize
     }
 }
 
-pub(crate) fn made_number(answer: Made) -> usize
-    requires { ⌜ fits (madeAnswer answer) ⌝ }
-    ensures { λ r. ⌜ r ≡ number (madeAnswer answer) ⌝ }
+// One number for an answer.
+pub(crate) fn number(answer: Answer) -> usize
+    requires { ⌜ specs.fits (answerOf answer) ⌝ }
+    ensures { λ r. ⌜ r ≡ specs.number (answerOf answer) ⌝ }
 {
     match answer {
-        Made::Accepted(end) => 256 + end,
-        Made::Refused(why) => refusal_number(why),
-    }
-}
-
-pub(crate) fn delivery_number(answer: Delivery) -> usize
-    requires { ⌜ fits (deliveryAnswer answer) ⌝ }
-    ensures { λ r. ⌜ r ≡ number (deliveryAnswer answer) ⌝ }
-{
-    match answer {
-        Delivery::Accepted(end) => 256 + end,
-        Delivery::HadIt => 16,
-        Delivery::Refused(why) => refusal_number(why),
-    }
-}
-
-pub(crate) fn issue_number(answer: Issue) -> usize
-    requires { ⌜ fits (issueAnswerOf answer) ⌝ }
-    ensures { λ r. ⌜ r ≡ number (issueAnswerOf answer) ⌝ }
-{
-    match answer {
-        Issue::Accepted(end) => 256 + end,
-        Issue::Refused(why) => refusal_number(why),
-    }
-}
-
-pub(crate) fn judged_number(answer: Judged) -> usize
-    ensures { λ r. ⌜ r ≡ number (judgedAnswer answer) ⌝ }
-{
-    match answer {
-        Judged::Done => 17,
-        Judged::Refused(why) => refusal_number(why),
-    }
-}
-
-pub(crate) fn listed_number(answer: Listed) -> usize
-    requires { ⌜ fits (listedAnswer answer) ⌝ }
-    ensures { λ r. ⌜ r ≡ number (listedAnswer answer) ⌝ }
-{
-    match answer {
-        Listed::Accepted(count) => 256 + count,
-        Listed::Refused(why) => refusal_number(why),
+        Answer::Refused(why) => refusal_number(why),
+        Answer::HadIt => 16,
+        Answer::Done => 17,
+        Answer::Accepted(value) => 256 + value,
     }
 }

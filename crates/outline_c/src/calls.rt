@@ -1,8 +1,4 @@
-use crate::answer::delivery_number;
-use crate::answer::issue_number;
-use crate::answer::judged_number;
-use crate::answer::listed_number;
-use crate::answer::made_number;
+use crate::answer::number;
 use replica::deliver;
 use replica::issue_add;
 use replica::issue_move;
@@ -17,7 +13,7 @@ ghost use Rattle.rules.specs.Issue.{add, remove, move};
 ghost use Rattle.rules.specs.File.{width};
 ghost use Rattle.rules.specs.Path.{pathCall};
 ghost use Rattle.view.specs.Answers.{viewOf};
-ghost use Rattle.outline_c.specs.Number.{number, viewFor};
+ghost use Rattle.outline_c.specs.Number.{viewFor, ofResult, ofIssued, ofJudgement, ofWritten};
 ghost use Rattle.rules.specs.Deliver as delivering;
 ghost use Rattle.rules.specs.Issue as issuing;
 ghost use Rattle.rules.specs.Judge as judging;
@@ -26,17 +22,17 @@ ghost use Rattle.rules.specs.Listing as listings;
 // Makes an empty log in a buffer.
 #[no_mangle]
 pub extern "C" fn outline_make(buf: &mut [u8]) -> usize
-    ensures { λ r. ⌜ (r ≡ number (delivering.make width (now (buf .entry)) .answer)) × (now (buf .exit) ≡ delivering.make width (now (buf .entry)) .buffer) ⌝ }
+    ensures { λ r. ⌜ (r, now (buf .exit)) ≡ ofResult (delivering.make width (now (buf .entry))) ⌝ }
 {
-    made_number(make(buf))
+    number(make(buf))
 }
 
 // Delivers an op to the log in a buffer.
 #[no_mangle]
 pub extern "C" fn outline_deliver(buf: &mut [u8], op: &[u8]) -> usize
-    ensures { λ r. ⌜ (r ≡ number (delivering.deliver width (now (buf .entry)) (now (op .entry)) .answer)) × (now (buf .exit) ≡ delivering.deliver width (now (buf .entry)) (now (op .entry)) .buffer) ⌝ }
+    ensures { λ r. ⌜ (r, now (buf .exit)) ≡ ofResult (delivering.deliver width (now (buf .entry)) (now (op .entry))) ⌝ }
 {
-    delivery_number(deliver(buf, op))
+    number(deliver(buf, op))
 }
 
 // Issues an add of a new node under a parent.
@@ -47,9 +43,10 @@ pub extern "C" fn outline_issue_add(
     parent: u16,
     out: &mut [u8],
 ) -> usize
-    ensures { λ r. ⌜ (r ≡ number (issuing.issue width (now (buf .entry)) (now (out .entry)) replica (add parent) .answer)) × (now (buf .exit) ≡ issuing.issue width (now (buf .entry)) (now (out .entry)) replica (add parent) .buffer) × (now (out .exit) ≡ issuing.issue width (now (buf .entry)) (now (out .entry)) replica (add parent) .out) ⌝ }
+    ensures { λ r. ⌜ (r, now (buf .exit), now (out .exit))
+        ≡ ofIssued (issuing.issue width (now (buf .entry)) (now (out .entry)) replica (add parent)) ⌝ }
 {
-    issue_number(issue_add(buf, replica, parent, out))
+    number(issue_add(buf, replica, parent, out))
 }
 
 // Issues a remove of a node.
@@ -60,9 +57,10 @@ pub extern "C" fn outline_issue_remove(
     node: u16,
     out: &mut [u8],
 ) -> usize
-    ensures { λ r. ⌜ (r ≡ number (issuing.issue width (now (buf .entry)) (now (out .entry)) replica (remove node) .answer)) × (now (buf .exit) ≡ issuing.issue width (now (buf .entry)) (now (out .entry)) replica (remove node) .buffer) × (now (out .exit) ≡ issuing.issue width (now (buf .entry)) (now (out .entry)) replica (remove node) .out) ⌝ }
+    ensures { λ r. ⌜ (r, now (buf .exit), now (out .exit))
+        ≡ ofIssued (issuing.issue width (now (buf .entry)) (now (out .entry)) replica (remove node)) ⌝ }
 {
-    issue_number(issue_remove(buf, replica, node, out))
+    number(issue_remove(buf, replica, node, out))
 }
 
 // Issues a move of a node under a new parent.
@@ -74,25 +72,27 @@ pub extern "C" fn outline_issue_move(
     parent: u16,
     out: &mut [u8],
 ) -> usize
-    ensures { λ r. ⌜ (r ≡ number (issuing.issue width (now (buf .entry)) (now (out .entry)) replica (move node parent) .answer)) × (now (buf .exit) ≡ issuing.issue width (now (buf .entry)) (now (out .entry)) replica (move node parent) .buffer) × (now (out .exit) ≡ issuing.issue width (now (buf .entry)) (now (out .entry)) replica (move node parent) .out) ⌝ }
+    ensures { λ r. ⌜ (r, now (buf .exit), now (out .exit))
+        ≡ ofIssued (issuing.issue width (now (buf .entry)) (now (out .entry)) replica (move node parent)) ⌝ }
 {
-    issue_number(issue_move(buf, replica, node, parent, out))
+    number(issue_move(buf, replica, node, parent, out))
 }
 
 // Replays a log into two lent tables.
 #[no_mangle]
 pub extern "C" fn outline_judge(file: &[u8], parents: &mut [u16], outcomes: &mut [u8]) -> usize
-    ensures { λ r. ⌜ (r ≡ number (judging.judge width (now (file .entry)) (now (parents .entry)) (now (outcomes .entry)) .answer)) × (now (parents .exit) ≡ judging.judge width (now (file .entry)) (now (parents .entry)) (now (outcomes .entry)) .parents) × (now (outcomes .exit) ≡ judging.judge width (now (file .entry)) (now (parents .entry)) (now (outcomes .entry)) .outcomes) ⌝ }
+    ensures { λ r. ⌜ (r, now (parents .exit), now (outcomes .exit))
+        ≡ ofJudgement (judging.judge width (now (file .entry)) (now (parents .entry)) (now (outcomes .entry))) ⌝ }
 {
-    judged_number(judge(file, parents, outcomes))
+    number(judge(file, parents, outcomes))
 }
 
 // Puts the path of a node into lent entries.
 #[no_mangle]
 pub extern "C" fn outline_path(file: &[u8], node: u16, out: &mut [u16]) -> usize
-    ensures { λ r. ⌜ (r ≡ number (pathCall width (now (file .entry)) node (now (out .entry)) .answer)) × (now (out .exit) ≡ pathCall width (now (file .entry)) node (now (out .entry)) .out) ⌝ }
+    ensures { λ r. ⌜ (r, now (out .exit)) ≡ ofWritten (pathCall width (now (file .entry)) node (now (out .entry))) ⌝ }
 {
-    listed_number(path(file, node, out))
+    number(path(file, node, out))
 }
 
 fn view_for(skipping: bool) -> View
@@ -107,7 +107,8 @@ fn view_for(skipping: bool) -> View
 // Writes the listing of a view into lent bytes.
 #[no_mangle]
 pub extern "C" fn outline_listing(file: &[u8], skipping: bool, out: &mut [u8]) -> usize
-    ensures { λ r. ⌜ (r ≡ number (listings.listing width (now (file .entry)) (viewFor skipping) (now (out .entry)) .answer)) × (now (out .exit) ≡ listings.listing width (now (file .entry)) (viewFor skipping) (now (out .entry)) .out) ⌝ }
+    ensures { λ r. ⌜ (r, now (out .exit))
+        ≡ ofWritten (listings.listing width (now (file .entry)) (viewFor skipping) (now (out .entry))) ⌝ }
 {
-    listed_number(listing(file, view_for(skipping), out))
+    number(listing(file, view_for(skipping), out))
 }

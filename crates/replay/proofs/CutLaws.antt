@@ -2,11 +2,10 @@
 use mathlib.Core.Path.{_≡_, refl, ap, _∙_}
 use mathlib.Core.Bool.{true}
 use mathlib.Core.List.{List, foldl}
-use Prim.Native.Nat.{ℕ, _+_, _≤_, _<_}
-use native.Mathlib.Omega.{arith}
-use lib.ListN.{length, set, take, replicate, length-replicate, length-set}
+use Prim.Native.Nat.{ℕ, _≤_}
+use lib.ListN.{length, set, replicate, length-replicate}
 use borrow.Author.Needs.{needs}
-use Rattle.lists.proofs.ListLaws.{fill-step, filled}
+use Rattle.lists.proofs.ListLaws.{Filled, fill-none, fill-more, fill-all}
 use Rattle.rules.specs.Op.{Vector}
 use Rattle.rules.specs.File.{logOf, headerCounts}
 use Rattle.rules.specs.Log.{structural, soundHeader}
@@ -19,26 +18,6 @@ use Rattle.order.proofs.LevelLaws.{ordered-levels}
 use Rattle.oplog.proofs.HeaderLaws.{laid-header}
 use Rattle.replay.specs.Tables.{Replayable, ReplayableCut, tables}
 use Rattle.replay.proofs.HeldLaws.{cut-of, whole-counted, whole-closed}
-
----- a loop that fills a table of n entries with x: the first i have it
-
-pub record Filled (x n i : ℕ) (t : List ℕ) : Type 0 where
-  pub size : length t ≡ n
-  pub made : i ≤ n
-  pub part : take i t ≡ replicate i x
-
-pub fill-none : (x n : ℕ) (t : List ℕ) → length t ≡ n → Filled x n 0 t
-fill-none x n t l = record { size = l; made = omega arith; part = refl }
-
-pub fill-more : (x n i : ℕ) (t : List ℕ) → Filled x n i t → i < n → Filled x n (i + 1) (set t i x)
-fill-more x n i t f h = record {
-  size = length-set t i x ∙ f .size;
-  made = omega arith;
-  part = fill-step t i x (f .part) (omega (arith, f .size));
-}
-
-fill-all : (x n i : ℕ) (t : List ℕ) → Filled x n i t → n ≤ i → t ≡ replicate n x
-fill-all x n i t f h = let e : i ≡ n = omega (arith, f .made) in filled t n x (f .size) (rw e at (f .part))
 
 ---- clearing
 

@@ -14,7 +14,7 @@ use Rattle.rules.specs.Op.{countIn, kindOf, Vector}
 use Rattle.rules.specs.File.{opAt, Log, logOf}
 use Rattle.rules.specs.Replay.{State, step}
 use Rattle.order.specs.Levels.{entry}
-use Rattle.order.proofs.GrowLaws.{kinds}
+use Rattle.rules.proofs.KnownLaws.{kinds}
 use Rattle.oplog.specs.Spots.{Spot, placeOf}
 use Rattle.oplog.proofs.FieldLaws.{kind-is, spot-of}
 use Rattle.replay.specs.Tables.{Applicable, Bottom, ReplayableAt, SoundAt, Top, classOf, dueAt, stampedAt}

@@ -16,8 +16,8 @@ use Rattle.rules.specs.Op.{vectorOf, kindOf, parentOf, nodeNumber, isAdd, nodeO
 use Rattle.rules.specs.Tree.{slotOf, slot, slots, atOrBelow}
 use Rattle.rules.specs.Replay.{outcomeOf, outcomeSlot, step}
 use Rattle.rules.specs.File.{opAt, logOf}
-use Rattle.rules.proofs.TreeLaws.{slot-below}
-use Rattle.order.proofs.GrowLaws.{names-node, known-reads, names-add}
+use Rattle.rules.proofs.SlotLaws.{slot-below}
+use Rattle.rules.proofs.KnownLaws.{names-add, names-node, known-reads}
 use Rattle.oplog.specs.Spots.{placeOf}
 use Rattle.oplog.proofs.FieldLaws.{node-is, kind-is, parent-is, small}
 use Rattle.replay.specs.Tables.{Applicable, Slotted, hungBy, moves, notedBy, outcomeBy, stampedAt, tables}

@@ -1,18 +1,17 @@
 -- Turns of the loops over replicas, classes and levels, as the code has them. Assumes nothing.
-use mathlib.Core.Path.{_≡_, refl, sym, ap, subst, _∙_}
-use mathlib.Core.Bool.{Bool, true, false, cond, _&&_, _||_}
-use mathlib.Core.List.{List, [], _∷_, _++_, map, foldl, foldl-append}
+use mathlib.Core.Path.{_≡_, refl, sym, ap, _∙_}
+use mathlib.Core.Bool.{Bool, true}
+use mathlib.Core.List.{List, [], _++_, map, foldl, foldl-append}
 use Prim.Native.Nat.{ℕ, zero, suc, _+_, _-_, _≤_, _<_}
 use native.Mathlib.Omega.{arith}
 use native.Mathlib.Numerals.{add-one}
 use native.Mathlib.Decide.{decLt}
 use native.Mathlib.Nat.{le-refl}
-use lib.ListN.{length, set, length-set, replicate}
-use lib.Dec.{eqb}
+use lib.ListN.{length, replicate}
 use borrow.Author.Needs.{needs}
-use Rattle.rules.specs.Op.{countIn, isAdd, isMove, nodeOf, parentOf, Vector}
-use Rattle.rules.specs.Replay.{Stamped, State, outcomeOf, outcomeSlot, step}
-use Rattle.rules.specs.Tree.{slotOf, slots}
+use Rattle.rules.specs.Op.{countIn, Vector}
+use Rattle.rules.specs.Replay.{Stamped, State, step}
+use Rattle.rules.specs.Tree.{slots}
 use Rattle.rules.specs.File.{Log, logOf, within}
 use Rattle.lists.specs.Lists.{upFrom, downFrom, concat}
 use Rattle.lists.proofs.RangeLaws.{concat-nothing, concat-none}
@@ -21,6 +20,7 @@ use Rattle.order.proofs.LevelLaws.{count-nothing}
 use Rattle.rules.proofs.FileLaws.{vector-eta}
 use Rattle.rules.proofs.ReplicaLaws.{map-replicas}
 use Rattle.rules.proofs.CausalLaws.{within-le}
+use Rattle.rules.proofs.StepLaws.{Full, full-run}
 use Rattle.codec.proofs.VectorLaws.{length-eight}
 use Rattle.replay.specs.Tables.{Bottom, Replayable, ReplayableAt, ReplayableIn, Sized, Top, tables}
 use Rattle.replay.proofs.ReadyLaws.{next-counted}
@@ -32,36 +32,20 @@ pub record Left (st : State) (all : List Stamped) (p o l : List ℕ) (rest : Lis
   pub sized : Sized p o l
   pub left : foldl step st all ≡ foldl step (tables p o l) rest
 
--- a step keeps the sizes
-abbrev SizedState : State → Type 0
-SizedState st = Sized (st .parents) (st .outcomes) (st .placed)
-
-step-sized : (st : State) (x : Stamped) → SizedState st → SizedState (step st x)
-unfolding step
-step-sized st x h =
-    let r = x .op in
-    let n = slotOf (nodeOf r) in
-    let applied = eqb (outcomeOf st x) 1 in
-    record {
-      parents = go (applied && (isAdd r || isMove r)) (st .parents) n (parentOf r) ∙ h .parents;
-      outcomes = length-set (st .outcomes) (outcomeSlot r) (outcomeOf st x) ∙ h .outcomes;
-      placed = go (applied && isMove r) (st .placed) n (x .time) ∙ h .placed;
-    }
-  where
-    go : (c : Bool) (t : List ℕ) (i v : ℕ) → length (cond c (set t i v) t) ≡ length t
-    go true t i v = length-set t i v
-    go false t i v = refl
-
-steps-sized : (st : State) (xs : List Stamped) → SizedState st → SizedState (foldl step st xs)
-steps-sized st [] h = h
-steps-sized st (x ∷ xs) h = steps-sized (step st x) xs (step-sized st x h)
+-- steps keep the sizes
+sized-on : (p o l : List ℕ) → Sized p o l → (xs : List Stamped) (p′ o′ l′ : List ℕ) → tables p′ o′ l′ ≡ foldl step (tables p o l) xs
+    → Sized p′ o′ l′
+sized-on p o l h xs p′ o′ l′ is =
+    let full : Full (tables p o l) = record { parents-full = h .parents; outcomes-full = h .outcomes; placed-full = h .placed } in
+    let end : Full (tables p′ o′ l′) = rw is (full-run xs (tables p o l) full) in
+    record { parents = end .parents-full; outcomes = end .outcomes-full; placed = end .placed-full }
 
 module _ (st : State) (all : List Stamped) (p o l : List ℕ) (rest : List Stamped) (h : Left st all p o l rest) where
   -- a part of it done
   left-on : (xs more : List Stamped) → rest ≡ xs ++ more → (p′ o′ l′ : List ℕ) → tables p′ o′ l′ ≡ foldl step (tables p o l) xs
       → Left st all p′ o′ l′ more
   left-on xs more e p′ o′ l′ is = record {
-    sized = subst SizedState (sym is) (steps-sized (tables p o l) xs (h .sized));
+    sized = sized-on p o l (h .sized) xs p′ o′ l′ is;
     left = h .left ∙ rw (e, foldl-append step (tables p o l) xs more, ← is);
   }
 

@@ -1,165 +1,276 @@
 -- The cases of issuing, as the code meets them. Assumes nothing.
-use mathlib.Core.Path.{_≡_, refl, sym, _∙_, ap}
-use mathlib.Core.Bool.{Bool, true, false, cond, and-eq-true-iff}
-use mathlib.Core.List.{List}
+use mathlib.Core.Path.{_≡_, refl, sym, _∙_}
+use mathlib.Core.Bool.{Bool, true, false, cond, not, and-eq-true-iff}
+use mathlib.Core.List.{List, _++_}
 use Prim.Native.Nat.{ℕ, _+_, _≤_, _<_, _/_}
 use native.Mathlib.Omega.{arith}
-use lib.ListN.{length}
-use lib.Dec.{leb, ltb}
-use borrow.Author.Tests.{leb-true, ltb-true, le-leb, lt-leb, lt-ltb, le-ltb}
-use Rattle.rules.specs.Answer.{Answer, accepted, refused, require}
-use Rattle.rules.specs.Op.{isReplica, countIn, Vector}
-use Rattle.rules.specs.Tree.{atOrBelow, depth, moveKind}
-use Rattle.rules.specs.Issue.{requestKnown, requestClear, Request, issueAnswer}
-use Rattle.rules.specs.File.{fileEnd, countsOf, Log, logOf, width}
-use Rattle.rules.specs.Log.{nodeWithin, known}
+use lib.ListN.{length, take, drop}
+use lib.Seq.{take-at}
+use lib.Dec.{ltb, eqb}
+use borrow.Author.Needs.{needs}
+use borrow.Author.Tests.{leb-true, ltb-true, lt-ltb, le-ltb, lt-leb, le-leb}
+use Rattle.rules.specs.Answer.{Answer, refused, require}
+use Rattle.rules.specs.Bytes.{word}
+use Rattle.rules.specs.Issue.{Request, add, remove, move, Issued, issueAnswer, issueBuffer, issueOut, issued, opBytes, requestClear, requestKnown}
+use Rattle.rules.specs.Tree.{moveKind, atOrBelow, depth}
+use Rattle.rules.specs.File.{Log, width, appended, countsOf, headerCounts, logOf}
+use Rattle.rules.specs.Log.{known, knownParent, nodeWithin}
+use Rattle.rules.specs.Op.{Vector, countIn, isReplica, nodeNumber, replicaOf}
 use Rattle.rules.specs.Replay.{parentsOf}
 use Rattle.rules.specs.Sound.{sound}
-use Rattle.codec.specs.Read.{numberOf}
-use Rattle.codec.specs.declared.op.Refusal.{Refusal}
-use Rattle.lists.proofs.BoolLaws.{and-left, and-right}
-use Rattle.rules.proofs.DeliverLaws.{required}
-use Rattle.replica.specs.Answers.{firstTests, lastTest, kindOrCycle, gateAnswer}
-use Rattle.replica.specs.declared.answer.Gate.{Gate}
-use Rattle.replica.specs.declared.answer.Gate.the-variants.{Refused}
+use Rattle.lists.proofs.BoolLaws.{tested}
+use Rattle.rules.proofs.FileLaws.{counts-logOf, length-counts}
+use Rattle.rules.proofs.SoundLaws.{sound-structural}
+use Rattle.codec.specs.Answers.{isAccepted, numberOf}
+use Rattle.codec.specs.declared.answer.Refusal.{Refusal}
+use Rattle.codec.specs.declared.answer.Refusal.the-variants.{Unknown, Exhausted, Cycle}
+use Rattle.codec.proofs.AnswerLaws.{if-accepted, if-not-accepted}
+use Rattle.replica.specs.Adding.{lastTest, Acceptable}
+use Rattle.replica.specs.Issuing.{requestOf, bytesOf, movedIn, clearedOp, drafted, putOut, Lent, Ready, Named}
+use Rattle.replica.specs.declared.request.Draft.{Draft}
+use Rattle.replica.specs.declared.request.Drafted.{Drafted}
+use Rattle.replica.specs.declared.request.Drafted.the-variants.{Op, Refused}
+use Rattle.replica.specs.declared.request.Request.the-variants.{Add, Remove, Move}
+use Rattle.replica.proofs.SoundCases.{counted, has-room, tallied}
+use Rattle.rules.specs.Issue as rules
+use Rattle.replica.specs.declared.request.Request as code
 
----- the first tests of issuing
+---- number 7; v are the held counts
 
-module _ (f : List ℕ) (room s : ℕ) (next : Answer) where
-  pub first-unsound : sound width f ≡ false → firstTests f room s next ≡ refused 1
-  unfolding firstTests require
-  first-unsound e = rw e
+module _ (log : Log) (q : code.Request) (r : Bool) where
+  module _ (v : Vector) (is : v ≡ countsOf log) where
+    pub add-known : (p : ℕ) → q ≡ Add p → r ≡ knownParent log v p → r ≡ requestKnown log (requestOf q)
+    unfolding requestKnown
+    add-known p e h = rw (e, ← is) h
 
-  module _ (e : sound width f ≡ true) where
-    pub first-space : room < width → firstTests f room s next ≡ refused 2
-    unfolding firstTests require
-    first-space h = rw (e, lt-leb width room h)
+    pub remove-known : (n : ℕ) → q ≡ Remove n → r ≡ known log v n → r ≡ requestKnown log (requestOf q)
+    unfolding requestKnown
+    remove-known n e h = rw (e, ← is) h
 
-    module _ (l : width ≤ room) where
-      pub first-low : s < 1 → firstTests f room s next ≡ refused 3
-      unfolding firstTests require isReplica
-      first-low h = rw (e, le-leb width room l, lt-leb 1 s h)
+  pub move-known : (n p : ℕ) → q ≡ Move n p → r ≡ requestKnown log (move n p) → r ≡ requestKnown log (requestOf q)
+  move-known n p e h = rw e h
 
-      pub first-high : 8 < s → firstTests f room s next ≡ refused 3
-      unfolding firstTests require isReplica
-      first-high h = rw (e, le-leb width room l, le-leb 1 s (omega arith), lt-leb s 8 h)
+module _ (log : Log) (v : Vector) (is : v ≡ countsOf log) where
+  module _ (n p : ℕ) where
+    pub node-unknown : known log v n ≡ false → false ≡ requestKnown log (move n p)
+    unfolding requestKnown
+    node-unknown e = rw (← is, e)
 
-      module _ (a : 1 ≤ s) (b : s ≤ 8) where
-        pub first-full : 255 ≤ countIn (countsOf (logOf width f)) s → firstTests f room s next ≡ refused 9
-        unfolding firstTests require isReplica
-        first-full h = rw (e, le-leb width room l, le-leb 1 s a, le-leb s 8 b, le-ltb (countIn (countsOf (logOf width f)) s) 255 h)
+    module _ (a : known log v n ≡ true) where
+      pub parent-unknown : knownParent log v p ≡ false → false ≡ requestKnown log (move n p)
+      unfolding requestKnown
+      parent-unknown e = rw (← is, a, e)
 
-        pub first-open : countIn (countsOf (logOf width f)) s < 255 → firstTests f room s next ≡ next
-        unfolding firstTests require isReplica
-        first-open h = rw (e, le-leb width room l, le-leb 1 s a, le-leb s 8 b, lt-ltb (countIn (countsOf (logOf width f)) s) 255 h)
+      pub both-known : knownParent log v p ≡ true → not (eqb p n) ≡ requestKnown log (move n p)
+      unfolding requestKnown
+      both-known e = rw (← is, a, e)
 
-pub replica-range : (s : ℕ) → isReplica s ≡ true → (1 ≤ s) × (s ≤ 8)
-unfolding isReplica
-replica-range s e = (leb-true _ _ (and-left (leb 1 s) _ e), leb-true _ _ (and-right (leb 1 s) _ e))
-
--- what it says that they pass
-pub record Opened (f : List ℕ) (room s : ℕ) : Type 0 where
-  pub is-sound : sound width f ≡ true
-  pub space : width ≤ room
-  pub is-replica : isReplica s ≡ true
-  pub low : 1 ≤ s
-  pub high : s ≤ 8
-  pub count : countIn (countsOf (logOf width f)) s < 255
-
-pub opened : (f : List ℕ) (room s : ℕ) → firstTests f room s (accepted 0) ≡ accepted 0 → Opened f room s
-unfolding firstTests
-opened f room s e =
-    let a = required _ _ _ 0 e in
-    let b = required _ _ _ 0 (a .1) in
-    let c = required _ _ _ 0 (b .1) in
-    let d = required _ _ _ 0 (c .1) in
-    record {
-      is-sound = a .0;
-      space = leb-true _ _ (b .0);
-      is-replica = c .0;
-      low = replica-range s (c .0) .0;
-      high = replica-range s (c .0) .1;
-      count = ltb-true _ _ (d .0);
-    }
-
----- the answer of issuing
-
-module _ (f : List ℕ) (room s : ℕ) (q : Request) where
-  abbrev pub rest : Answer
-  rest = require (requestKnown (logOf width f) q) 7 (require (requestClear (logOf width f) q) 10 (lastTest f))
-
-  issue-by : issueAnswer width f room s q ≡ firstTests f room s rest
-  unfolding issueAnswer firstTests lastTest
-  issue-by = refl
-
-  -- the first tests refuse
-  pub issue-stops : (g : Gate) (x : Refusal) → ((next : Answer) → gateAnswer g next ≡ firstTests f room s next) → g ≡ Refused x
-      → issueAnswer width f room s q ≡ refused (numberOf x)
-  issue-stops g x h e = issue-by ∙ sym (h rest) ∙ ap (λ (y : Gate). gateAnswer y rest) e
-
-  module _ (h : Opened f room s) where
-    passed : issueAnswer width f room s q ≡ rest
-    passed = issue-by ∙ first-open f room s rest (h .is-sound) (h .space) (h .low) (h .high) (h .count)
-
-    pub issue-unknown : requestKnown (logOf width f) q ≡ false → issueAnswer width f room s q ≡ refused 7
-    unfolding require
-    issue-unknown e = passed ∙ rw e
-
-    module _ (k : requestKnown (logOf width f) q ≡ true) where
-      pub issue-cycle : requestClear (logOf width f) q ≡ false → issueAnswer width f room s q ≡ refused 10
-      unfolding require
-      issue-cycle e = passed ∙ rw (k, e)
-
-      pub issue-last : requestClear (logOf width f) q ≡ true → issueAnswer width f room s q ≡ lastTest f
-      unfolding require
-      issue-last e = passed ∙ rw (k, e)
-
----- the last test
-
-pub last-short : (f : List ℕ) → length f < fileEnd width f + width → lastTest f ≡ refused 8
-unfolding lastTest require
-last-short f h = rw (lt-leb (fileEnd width f + width) (length f) h)
-
-pub last-fits : (f : List ℕ) → fileEnd width f + width ≤ length f → lastTest f ≡ accepted (fileEnd width f + width)
-unfolding lastTest require
-last-fits f h = rw (le-leb (fileEnd width f + width) (length f) h)
-
----- a move
-
-module _ (log : Log) (n p : ℕ) where
-  pub move-cycle : atOrBelow (parentsOf log) p n ≡ true → kindOrCycle log n p ≡ 0
-  unfolding kindOrCycle
-  move-cycle e = rw e
-
-  pub move-up : atOrBelow (parentsOf log) p n ≡ false → depth (parentsOf log) p < depth (parentsOf log) n → kindOrCycle log n p ≡ 3
-  unfolding kindOrCycle moveKind
-  move-up e h = rw (e, lt-ltb (depth (parentsOf log) p) (depth (parentsOf log) n) h)
-
-  pub move-down : atOrBelow (parentsOf log) p n ≡ false → depth (parentsOf log) n ≤ depth (parentsOf log) p → kindOrCycle log n p ≡ 4
-  unfolding kindOrCycle moveKind
-  move-down e h = rw (e, le-ltb (depth (parentsOf log) p) (depth (parentsOf log) n) h)
-
-  -- what the kind says of the test for number 10
-  pub kind-cycle : kindOrCycle log n p ≡ 0 → atOrBelow (parentsOf log) p n ≡ true
-  unfolding kindOrCycle moveKind
-  kind-cycle = go (atOrBelow (parentsOf log) p n) (ltb (depth (parentsOf log) p) (depth (parentsOf log) n))
-    where
-      go : (b c : Bool) → _≡_ {A = ℕ} (cond b 0 (cond c 3 4)) 0 → b ≡ true
-      go true c e = refl
-      go false true e = absurd (omega arith)
-      go false false e = absurd (omega arith)
-
-  pub kind-clear : (kindOrCycle log n p ≡ 0 → ⊥)
-      → (atOrBelow (parentsOf log) p n ≡ false) × (kindOrCycle log n p ≡ moveKind (parentsOf log) n p)
-  unfolding kindOrCycle
-  kind-clear = go (atOrBelow (parentsOf log) p n)
-    where
-      go : (b : Bool) → (cond b 0 (moveKind (parentsOf log) n p) ≡ 0 → ⊥)
-          → (b ≡ false) × (cond b 0 (moveKind (parentsOf log) n p) ≡ moveKind (parentsOf log) n p)
-      go true h = absurd (h refl)
-      go false h = (refl, refl)
+---- number 10, and the op
 
 -- a known node is no more than 2,303
-pub known-small : (log : Log) (v : Vector) (n : ℕ) → known log v n ≡ true → n < 65535
-unfolding known nodeWithin isReplica
-known-small log v n e = let h = simp and-eq-true-iff at e in let b : n / 256 ≤ 8 = leb-true _ _ (h .0 .0 .0 .1) in omega arith
+pub known-small : (log : Log) (n p : ℕ) → requestKnown log (move n p) ≡ true → n < 65535
+unfolding requestKnown known nodeWithin isReplica
+known-small log n p e =
+    let h = simp and-eq-true-iff at e in
+    let b : n / 256 ≤ 8 = leb-true _ _ (h .0 .0 .0 .0 .0 .1) in
+    omega arith
+
+module _ (t : List ℕ) (n p x y : ℕ) (dx : x ≡ depth t p) (dy : y ≡ depth t n) where
+  pub upward : x < y → 3 ≡ moveKind t n p
+  unfolding moveKind
+  upward h = rw (← dx, ← dy, lt-ltb x y h)
+
+  pub downward : y ≤ x → 4 ≡ moveKind t n p
+  unfolding moveKind
+  downward h = rw (← dx, ← dy, le-ltb x y h)
+
+module _ (t : List ℕ) (n p : ℕ) where
+  pub move-cycle : atOrBelow t p n ≡ true → Refused Cycle ≡ movedIn t n p
+  unfolding movedIn
+  move-cycle e = rw e
+
+  pub move-op : atOrBelow t p n ≡ false → (k : ℕ) → k ≡ moveKind t n p → Op (record { kind = k; node = n; parent = p }) ≡ movedIn t n p
+  unfolding movedIn
+  move-op e k m = rw (e, m)
+
+  pub move-now : (log : Log) → t ≡ parentsOf log → (r : Drafted) → r ≡ movedIn t n p → r ≡ movedIn (parentsOf log) n p
+  move-now log is r e = rw (← is) e
+
+module _ (log : Log) (s : ℕ) (q : code.Request) where
+  pub add-op :
+      (p : ℕ) → q ≡ Add p → (v : Vector) → v ≡ countsOf log → (n : ℕ) → n ≡ nodeNumber s (countIn v s + 1) →
+      Op (record { kind = 1; node = n; parent = p }) ≡ clearedOp log s (requestOf q)
+  unfolding clearedOp
+  add-op p h v is n e = rw (h, e, is)
+
+  pub remove-op : (n : ℕ) → q ≡ Remove n → Op (record { kind = 2; node = n; parent = 0 }) ≡ clearedOp log s (requestOf q)
+  unfolding clearedOp
+  remove-op n h = rw h
+
+  module _ (n p : ℕ) (h : q ≡ Move n p) where
+    pub cleared-move : (r : Drafted) → r ≡ movedIn (parentsOf log) n p → r ≡ clearedOp log s (requestOf q)
+    unfolding clearedOp
+    cleared-move r e = rw h e
+
+    pub move-names : requestKnown log (requestOf q) ≡ true → requestKnown log (move n p) ≡ true
+    move-names e = rw h at e
+
+---- number 9, and then the others
+
+module _ (f : List ℕ) (s : ℕ) (q : Request) (v : Vector) (is : v ≡ headerCounts f) where
+  pub exhausted : ltb (countIn v s) 255 ≡ false → Refused Exhausted ≡ drafted (logOf width f) s q
+  unfolding drafted
+  exhausted e = rw (counts-logOf width f, ← is, e)
+
+  module _ (a : ltb (countIn v s) 255 ≡ true) where
+    pub unknown : requestKnown (logOf width f) q ≡ false → Refused Unknown ≡ drafted (logOf width f) s q
+    unfolding drafted
+    unknown e = rw (counts-logOf width f, ← is, a, e)
+
+    pub named : sound width f ≡ true → isReplica s ≡ true → requestKnown (logOf width f) q ≡ true → Named f v s q
+    named b r e = record { tallied = tallied f b v is; is-replica = r; names = e }
+
+    pub drafts :
+        requestKnown (logOf width f) q ≡ true → (r : Drafted) → r ≡ clearedOp (logOf width f) s q →
+        r ≡ drafted (logOf width f) s q
+    unfolding drafted
+    drafts e r m = rw (counts-logOf width f, ← is, a, e) m
+
+---- the last test, 8, and the op that is put out
+
+-- a is what the last test says
+module _ (f : List ℕ) (a : Answer) (is : a ≡ lastTest f) where
+  pub put-kept : isAccepted a ≡ false → (out op : List ℕ) → _≡_ {A = Issued} (record { answer = a; buffer = f; out = out }) (putOut f out op)
+  unfolding putOut
+  put-kept h out op = rw (← is, if-not-accepted (appended width f op) f a h, if-not-accepted (op ++ drop width out) out a h)
+
+  -- o is what was put out
+  module _ (h : isAccepted a ≡ true) (s k n p : ℕ) (v : Vector) (e : v ≡ headerCounts f) (o t : List ℕ) (w : o ≡ opBytes k s n p v ++ t) where
+    op-long : length (opBytes k s n p v) ≡ width
+    unfolding opBytes word
+    op-long = let l : length v ≡ 8 = rw e (length-counts f) in omega arith
+
+    written : take width o ≡ opBytes k s n p v
+    written = rw w (take-at (opBytes k s n p v) t width op-long)
+
+    pub put-acceptable :
+        sound width f ≡ true → isReplica s ≡ true → ltb (countIn (countsOf (logOf width f)) s) 255 ≡ true →
+        (op : List ℕ) → op ≡ take width o → Acceptable f s op
+    unfolding opBytes replicaOf
+    put-acceptable b r l op m = record {
+      is-sound = b;
+      is-replica = r;
+      count = ltb-true _ _ l;
+      origin = rw (m, written);
+      long = rw (m, written) op-long;
+      room = has-room f a is h;
+    }
+
+    pub put-added :
+        (out : List ℕ) → t ≡ drop 14 out → (b : List ℕ) → b ≡ appended width f (take 14 o) →
+        _≡_ {A = Issued} (record { answer = a; buffer = b; out = o }) (putOut f out (opBytes k s n p (headerCounts f)))
+    unfolding putOut
+    put-added out m b x =
+        let op = opBytes k s n p v in
+        rw (← e, ← is, if-accepted (appended width f op) f a h, if-accepted (op ++ drop width out) out a h, ← m, ← w, ← written, x)
+
+---- the whole
+
+-- the answer by what was drafted
+byDraft : (f : List ℕ) → Drafted → Answer
+byDraft f (Op d) = lastTest f
+byDraft f (Refused why) = refused (numberOf why)
+
+module _ (f : List ℕ) (s : ℕ) where
+  step :
+      (b : Bool) (why : Refusal) (x : Answer) (y : Drafted) → x ≡ byDraft f y →
+      require b (numberOf why) x ≡ byDraft f (cond (not b) (Refused why) y)
+  unfolding byDraft require
+  step true why x y e = e
+  step false why x y e = refl
+
+  move-by : (b : Bool) (d : Draft) → require (not b) 10 (lastTest f) ≡ byDraft f (cond b (Refused Cycle) (Op d))
+  unfolding byDraft require
+  move-by true d = refl
+  move-by false d = refl
+
+  cleared-by : (q : Request) → require (requestClear (logOf width f) q) 10 (lastTest f) ≡ byDraft f (clearedOp (logOf width f) s q)
+  unfolding requestClear clearedOp movedIn require byDraft
+  cleared-by (add p) = refl
+  cleared-by (remove n) = refl
+  cleared-by (move n p) = move-by (atOrBelow (parentsOf (logOf width f)) p n) _
+
+  answer-by : (room : ℕ) → Lent f room s → (q : Request) → issueAnswer width f room s q ≡ byDraft f (drafted (logOf width f) s q)
+  unfolding issueAnswer drafted require lastTest
+  answer-by room l q =
+      rw (l .issuer .is-sound, le-leb width room (l .space), l .issuer .is-replica)
+      (step (ltb (countIn (countsOf (logOf width f)) s) 255) Exhausted _ _ (step (requestKnown (logOf width f) q) Unknown _ _ (cleared-by q)))
+
+-- tests that end in an op
+passes : (b : Bool) (why : Refusal) (y : Drafted) (d : Draft) → cond (not b) (Refused why) y ≡ Op d → (b ≡ true) × (y ≡ Op d)
+passes true why y d e = (refl, e)
+passes false why y d e = let z : _≡_ {A = ℕ} 0 1 = cc in absurd (omega arith)
+
+same-op : (s : ℕ) (v : Vector) (x d : Draft) → Op x ≡ Op d → bytesOf s x v ≡ bytesOf s d v
+same-op s v x d e = let z : x ≡ d = cc in rw z
+
+clear : (b : Bool) (s : ℕ) (v : Vector) (x d : Draft) → cond b (Refused Cycle) (Op x) ≡ Op d → bytesOf s x v ≡ bytesOf s d v
+clear false s v x d e = same-op s v x d e
+clear true s v x d e = cc
+
+op-of : (log : Log) (s : ℕ) (q : Request) (d : Draft) → clearedOp log s q ≡ Op d → issued log s q ≡ bytesOf s d (countsOf log)
+unfolding clearedOp issued movedIn
+op-of log s (add p) d e = same-op s (countsOf log) _ d e
+op-of log s (remove n) d e = same-op s (countsOf log) _ d e
+op-of log s (move n p) d e = clear (atOrBelow (parentsOf log) p n) s (countsOf log) _ d e
+
+-- r is what was drafted
+module _ (f out : List ℕ) (s : ℕ) (q : Request) (l : Lent f (length out) s) (r : Drafted) (is : r ≡ drafted (logOf width f) s q) where
+  abbrev kept : Answer → Issued
+  kept a = record { answer = a; buffer = f; out = out }
+
+  pub issue-refused : (why : Refusal) → r ≡ Refused why → kept (refused (numberOf why)) ≡ rules.issue width f out s q
+  unfolding issueBuffer issueOut byDraft
+  issue-refused why e = rw (answer-by f s (length out) l q, ← is, e)
+
+  module _ (d : Draft) (e : r ≡ Op d) where
+    opened : Ready f (length out) s × (clearedOp (logOf width f) s q ≡ Op d)
+    unfolding drafted
+    opened =
+        let a = passes (ltb (countIn (countsOf (logOf width f)) s) 255) Exhausted _ d (sym is ∙ e) in
+        (record { lent = l; left = a .0 }, passes (requestKnown (logOf width f) q) Unknown _ d (a .1) .1)
+
+    pub ready : Ready f (length out) s
+    ready = opened .0
+
+    pub issue-put : (x : Issued) → x ≡ putOut f out (bytesOf s d (headerCounts f)) → x ≡ rules.issue width f out s q
+    unfolding issueBuffer issueOut byDraft putOut
+    issue-put x h = rw (answer-by f s (length out) l q, ← is, e, op-of (logOf width f) s q d (opened .1), counts-logOf width f) h
+
+module _ (f out : List ℕ) (s : ℕ) (q : Request) where
+  pub issue-unsound : sound width f ≡ false → _≡_ {A = Issued} (record { answer = refused 1; buffer = f; out = out }) (rules.issue width f out s q)
+  unfolding issueAnswer issueBuffer issueOut require
+  issue-unsound e = rw e
+
+  module _ (a : sound width f ≡ true) where
+    pub issue-short : length out < width → _≡_ {A = Issued} (record { answer = refused 2; buffer = f; out = out }) (rules.issue width f out s q)
+    unfolding issueAnswer issueBuffer issueOut require
+    issue-short h = rw (a, lt-leb width (length out) h)
+
+    pub issue-stranger :
+        width ≤ length out → isReplica s ≡ false →
+        _≡_ {A = Issued} (record { answer = refused 3; buffer = f; out = out }) (rules.issue width f out s q)
+    unfolding issueAnswer issueBuffer issueOut require
+    issue-stranger b e = rw (a, le-leb width (length out) b, e)
+
+    pub lent-by : (room : ℕ) → width ≤ room → isReplica s ≡ true → Lent f room s
+    lent-by room b e = record { issuer = record { is-sound = a; is-replica = e }; space = b }
+
+---- what the code of issuing needs: search issuing
+pub ruleset requests = (add-known, remove-known, move-known, node-unknown, parent-unknown, both-known, known-small)
+
+pub ruleset drafting = (upward, downward, move-cycle, move-op, move-now, add-op, remove-op, cleared-move, move-names, exhausted, unknown, named, drafts)
+
+pub ruleset putting = (put-kept, put-acceptable, put-added, issue-refused, ready, issue-put)
+
+pub ruleset issuing = (needs, tested, sound-structural, tallied, counted, requests, drafting, putting, issue-unsound, issue-short, issue-stranger, lent-by)

@@ -1,30 +1,43 @@
 -- The cases of judging, as the code meets them. Assumes nothing.
 use mathlib.Core.Path.{_≡_}
 use mathlib.Core.Bool.{true, false}
-use mathlib.Core.List.{List}
+use mathlib.Core.List.{List, _++_}
 use Prim.Native.Nat.{ℕ, _≤_, _<_}
-use lib.ListN.{length}
+use lib.ListN.{length, drop}
+use borrow.Author.Needs.{needs}
 use borrow.Author.Tests.{le-leb, lt-leb}
-use Rattle.rules.specs.Answer.{done, refused, require}
-use Rattle.rules.specs.Tree.{slots}
-use Rattle.rules.specs.File.{width}
-use Rattle.rules.specs.Judge.{judgeAnswer}
+use Rattle.rules.specs.Answer.{Answer, done, refused, require}
+use Rattle.rules.specs.Judge.{Judgement, judgeAnswer, judge}
+use Rattle.rules.specs.File.{width, logOf}
+use Rattle.rules.specs.Replay.{parentsOf, outcomesOf}
 use Rattle.rules.specs.Sound.{sound}
+use Rattle.rules.specs.Tree.{slots}
+use Rattle.lists.proofs.BoolLaws.{tested}
+use Rattle.rules.proofs.SoundLaws.{sound-structural}
 
 module _ (f p o : List ℕ) where
-  pub judge-unsound : sound width f ≡ false → judgeAnswer width f p o ≡ refused 1
-  unfolding judgeAnswer require
+  abbrev kept : Answer → Judgement
+  kept a = record { answer = a; parents = p; outcomes = o }
+
+  pub judge-unsound : sound width f ≡ false → kept (refused 1) ≡ judge width f p o
+  unfolding judge judgeAnswer require
   judge-unsound e = rw e
 
-  module _ (e : sound width f ≡ true) where
-    pub judge-parents : length p < 2041 → judgeAnswer width f p o ≡ refused 2
-    unfolding judgeAnswer require
-    judge-parents h = rw (e, lt-leb slots (length p) h)
+  module _ (a : sound width f ≡ true) where
+    pub judge-parents : length p < slots → kept (refused 2) ≡ judge width f p o
+    unfolding judge judgeAnswer require
+    judge-parents h = rw (a, lt-leb slots (length p) h)
 
-    pub judge-outcomes : 2041 ≤ length p → length o < 2041 → judgeAnswer width f p o ≡ refused 2
-    unfolding judgeAnswer require
-    judge-outcomes l h = rw (e, le-leb slots (length p) l, lt-leb slots (length o) h)
+    module _ (l : slots ≤ length p) where
+      pub judge-outcomes : length o < slots → kept (refused 2) ≡ judge width f p o
+      unfolding judge judgeAnswer require
+      judge-outcomes h = rw (a, le-leb slots (length p) l, lt-leb slots (length o) h)
 
-    pub judge-done : 2041 ≤ length p → 2041 ≤ length o → judgeAnswer width f p o ≡ done
-    unfolding judgeAnswer require
-    judge-done l h = rw (e, le-leb slots (length p) l, le-leb slots (length o) h)
+      pub judge-done :
+          slots ≤ length o → (x y : List ℕ) → (x ≡ parentsOf (logOf width f)) × (y ≡ outcomesOf (logOf width f)) →
+          _≡_ {A = Judgement} (record { answer = done; parents = x ++ drop slots p; outcomes = y ++ drop slots o }) (judge width f p o)
+      unfolding judge judgeAnswer require
+      judge-done h x y i = rw (a, le-leb slots (length p) l, le-leb slots (length o) h, i .0, i .1)
+
+---- what the code of judging needs: search judging
+pub ruleset judging = (needs, tested, sound-structural, judge-unsound, judge-parents, judge-outcomes, judge-done)

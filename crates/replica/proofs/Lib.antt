@@ -1,3 +1,5 @@
 pub mod DeliverCases
 pub mod IssueCases
 pub mod JudgeCases
+pub mod MakeCases
+pub mod SoundCases

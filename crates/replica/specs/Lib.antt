@@ -1,1 +1,3 @@
-pub mod Answers
+pub mod Adding
+pub mod Delivering
+pub mod Issuing

@@ -1,84 +1,120 @@
-use crate::answer::Delivery;
+use crate::adding::accept;
+use crate::adding::last_test;
 use crate::soundness::WIDTH;
 use crate::soundness::is_sound;
+use codec::Answer;
 use codec::Fields;
 use codec::Read;
 use codec::Refusal;
+use codec::is_accepted;
 use codec::read_op;
+use codec::small;
 use codec::vector_at;
 use codec::widen;
 use codec::within;
-use oplog::append_op;
 use oplog::closed_in;
 use oplog::counts_of;
-use oplog::end_of;
 use oplog::names_known;
 use oplog::place;
 use oplog::same_op;
 ghost use mathlib.Core.Path.{_≡_};
-ghost use mathlib.Core.Bool.{true, false};
-ghost use Rattle.rules.specs.Answer.{ifAccepted};
-ghost use Rattle.rules.specs.File.{width, logOf, headerCounts, appended};
-ghost use Rattle.rules.specs.Deliver.{held, heldAnswer, admitAnswer};
-ghost use Rattle.codec.specs.Read.{fieldsOf};
-ghost use Rattle.replica.specs.Answers.{deliveryAnswer, Deliverable};
+ghost use mathlib.Core.Bool.{true};
+ghost use lib.Dec.{leb};
+ghost use Rattle.rules.specs.Op.{isReplica, countIn};
+ghost use Rattle.rules.specs.File.{width, logOf};
+ghost use Rattle.oplog.specs.Spots.{Counted};
+ghost use Rattle.codec.specs.Answers.{answerOf};
+ghost use Rattle.replica.specs.Delivering.{namesIn, Readable, Again, Fresh};
 ghost use Rattle.rules.specs.Deliver as rules;
 
 // The answer where an op of this replica and sequence is held: the same, or another.
-fn answer_held(file: &[u8], s: usize, q: usize, op: &[u8]) -> Delivery
-    requires { ⌜ Deliverable (now file) (now op) s q × (held (logOf width (now file)) (now op) ≡ true) ⌝ }
-    ensures { λ r. ⌜ deliveryAnswer r ≡ heldAnswer (logOf width (now (file .entry))) (now (op .entry)) ⌝ }
+fn answer_held(file: &[u8], fields: Fields, op: &[u8]) -> Answer
+    requires { ⌜ Again (now file) (now op) fields ⌝ }
+    ensures { λ r. ⌜ answerOf r ≡ rules.deliverAnswer width (now (file .entry)) (now (op .entry)) ⌝ }
 {
-    let at = place(file, s, q, WIDTH);
+    let at = place(file, widen(fields.replica), widen(fields.sequence), WIDTH);
     if same_op(file, at, op) {
-        Delivery::HadIt
-    } else {
-        Delivery::Refused(Refusal::Conflict)
+        return Answer::HadIt;
     }
+    Answer::Refused(Refusal::Conflict)
 }
 
-// The tests of an op that is not held, and its acceptance.
-fn admit(buf: &mut [u8], counts: [u8; 8], fields: Fields, op: &[u8]) -> Delivery
-    requires { ⌜ Deliverable (now buf) (now op) (fields .replica) (fields .sequence) × (fieldsOf (now op) ≡ fields) × (counts ≡ headerCounts (now buf)) × (held (logOf width (now buf)) (now op) ≡ false) ⌝ }
-    ensures { λ r. ⌜ (deliveryAnswer r ≡ admitAnswer width (now (buf .entry)) (now (op .entry))) × (now (buf .exit) ≡ ifAccepted (admitAnswer width (now (buf .entry)) (now (op .entry))) (appended width (now (buf .entry)) (now (op .entry))) (now (buf .entry))) ⌝ }
+// Whether an op of this replica and sequence is held.
+fn is_held(counts: [u8; 8], fields: Fields) -> bool
+    requires { ⌜ isReplica (fields .replica) ≡ true ⌝ }
+    ensures { λ r. ⌜ r ≡ leb (fields .sequence) (countIn counts (fields .replica)) ⌝ }
+{
+    let replica = widen(fields.replica);
+    fields.sequence <= counts[replica - 1]
+}
+
+// Number 7: whether the nodes that an op names are known to its vector.
+fn names(file: &[u8], v: [u8; 8], fields: Fields) -> bool
+    requires { ⌜ Counted width (now file) v ⌝ }
+    ensures { λ r. ⌜ r ≡ namesIn (logOf width (now (file .entry))) v fields ⌝ }
+{
+    let own = (256 * small(fields.replica) + small(fields.sequence)) as u16;
+    names_known(file, v, fields.kind, fields.node, fields.parent, own, WIDTH)
+}
+
+// The answer where no op of this replica and sequence is held: the tests 5, 6, 7 and 8.
+fn answer_new(file: &[u8], counts: [u8; 8], fields: Fields, op: &[u8]) -> Answer
+    requires { ⌜ Fresh (now file) (now op) fields counts ⌝ }
+    ensures { λ r. ⌜ answerOf r ≡ rules.deliverAnswer width (now (file .entry)) (now (op .entry)) ⌝ }
 {
     let v = vector_at(op, 6);
     if !within(v, counts) {
-        return Delivery::Refused(Refusal::Early);
+        return Answer::Refused(Refusal::Early);
     }
-    if !closed_in(buf, v, WIDTH) {
-        return Delivery::Refused(Refusal::NotClosed);
+    if !closed_in(file, v, WIDTH) {
+        return Answer::Refused(Refusal::NotClosed);
     }
-    let replica = widen(fields.replica);
-    let own = (256 * replica + widen(fields.sequence)) as u16;
-    if !names_known(buf, v, fields.kind, fields.node, fields.parent, own, WIDTH) {
-        return Delivery::Refused(Refusal::Unknown);
+    if !names(file, v, fields) {
+        return Answer::Refused(Refusal::Unknown);
     }
-    if buf.len() < end_of(buf, 8, WIDTH) + WIDTH {
-        return Delivery::Refused(Refusal::NoRoom);
+    last_test(file)
+}
+
+// The answer of a delivery to a sound log, of an op that reads.
+fn answer_read(file: &[u8], fields: Fields, op: &[u8]) -> Answer
+    requires { ⌜ Readable (now file) (now op) fields ⌝ }
+    ensures { λ r. ⌜ answerOf r ≡ rules.deliverAnswer width (now (file .entry)) (now (op .entry)) ⌝ }
+{
+    let counts = counts_of(file, WIDTH);
+    if is_held(counts, fields) {
+        return answer_held(file, fields, op);
     }
-    Delivery::Accepted(append_op(buf, replica, op, WIDTH))
+    answer_new(file, counts, fields, op)
+}
+
+// Delivers an op that reads to a sound log.
+fn deliver_read(buf: &mut [u8], fields: Fields, op: &[u8]) -> Answer
+    requires { ⌜ Readable (now buf) (now op) fields ⌝ }
+    ensures { λ r. ⌜ record { answer = answerOf r; buffer = now (buf .exit) }
+        ≡ rules.deliver width (now (buf .entry)) (now (op .entry)) ⌝ }
+{
+    let answer = answer_read(buf, fields, op);
+    if !is_accepted(answer) {
+        return answer;
+    }
+    accept(buf, fields.replica, op);
+    answer
 }
 
 // Delivers an op to the log in a buffer.
-pub fn deliver(buf: &mut [u8], op: &[u8]) -> Delivery
-    ensures { λ r. ⌜ (deliveryAnswer r ≡ rules.deliver width (now (buf .entry)) (now (op .entry)) .answer) × (now (buf .exit) ≡ rules.deliver width (now (buf .entry)) (now (op .entry)) .buffer) ⌝ }
+pub fn deliver(buf: &mut [u8], op: &[u8]) -> Answer
+    ensures { λ r. ⌜ record { answer = answerOf r; buffer = now (buf .exit) }
+        ≡ rules.deliver width (now (buf .entry)) (now (op .entry)) ⌝ }
 {
     if !is_sound(buf) {
-        return Delivery::Refused(Refusal::Unsound);
+        return Answer::Refused(Refusal::Unsound);
     }
     let read = read_op(op, WIDTH);
     let Read::Op(fields) = read else {
         let Read::Refused(why) = read else {
-            return Delivery::Refused(Refusal::Malformed);
+            return Answer::Refused(Refusal::Malformed);
         };
-        return Delivery::Refused(why);
+        return Answer::Refused(why);
     };
-    let counts = counts_of(buf, WIDTH);
-    let replica = widen(fields.replica);
-    let sequence = widen(fields.sequence);
-    if sequence <= widen(counts[replica - 1]) {
-        return answer_held(buf, replica, sequence, op);
-    }
-    admit(buf, counts, fields, op)
+    deliver_read(buf, fields, op)
 }

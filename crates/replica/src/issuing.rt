@@ -1,14 +1,17 @@
-use crate::answer::Gate;
-use crate::answer::Issue;
+use crate::adding::accept;
+use crate::adding::last_test;
+use crate::request::Draft;
+use crate::request::Drafted;
+use crate::request::Request;
 use crate::soundness::WIDTH;
 use crate::soundness::is_sound;
+use codec::Answer;
 use codec::Refusal;
+use codec::is_accepted;
 use codec::small;
 use codec::widen;
 use codec::write_op;
-use oplog::append_op;
 use oplog::counts_of;
-use oplog::end_of;
 use oplog::known_in;
 use oplog::known_parent;
 use replay::below;
@@ -16,139 +19,210 @@ use replay::depth_of;
 use replay::replay_all;
 ghost use mathlib.Core.Path.{_≡_};
 ghost use mathlib.Core.Bool.{true};
-ghost use mathlib.Core.List.{_++_};
-ghost use Prim.Native.Nat.{_+_, _≤_, _<_};
-ghost use lib.ListN.{length, drop};
-ghost use Rattle.rules.specs.Answer.{Answer, ifAccepted};
-ghost use Rattle.rules.specs.File.{width, logOf, appended};
-ghost use Rattle.rules.specs.Issue.{opBytes, add, remove, move};
-ghost use Rattle.rules.specs.Sound.{sound};
-ghost use Rattle.replica.specs.Answers.{issueAnswerOf, gateAnswer, firstTests, lastTest, kindOrCycle, Issuable};
+ghost use Prim.Native.Nat.{_+_};
+ghost use lib.ListN.{length};
+ghost use lib.Dec.{ltb};
+ghost use Rattle.rules.specs.Issue.{add, remove, move, requestKnown};
+ghost use Rattle.rules.specs.Tree.{moveKind, slots};
+ghost use Rattle.rules.specs.File.{width, logOf, headerCounts};
+ghost use Rattle.rules.specs.Op.{isReplica, countIn, nodeNumber};
+ghost use Rattle.rules.specs.Replay.{parentsOf};
+ghost use Rattle.codec.specs.Answers.{answerOf};
+ghost use Rattle.replica.specs.Adding.{Tallied};
+ghost use Rattle.replica.specs.Issuing.{requestOf, bytesOf, movedIn, clearedOp, drafted, putOut, Issuer, Lent, Ready, Named, Movable, InTree};
 ghost use Rattle.rules.specs.Issue as rules;
 
-// The tests 1, 2, 3 and 9.
-fn first_tests(file: &[u8], replica: u8, room: usize) -> Gate
-    ensures { λ r. ⌜ ((next : Answer) → gateAnswer r next ≡ firstTests (now (file .entry)) room replica next) ⌝ }
+// Whether a number is a replica's.
+fn is_replica(s: u8) -> bool
+    ensures { λ r. ⌜ r ≡ isReplica s ⌝ }
 {
-    if !is_sound(file) {
-        return Gate::Refused(Refusal::Unsound);
+    if s < 1 {
+        return false;
     }
-    if room < WIDTH {
-        return Gate::Refused(Refusal::Length);
-    }
-    if replica < 1 {
-        return Gate::Refused(Refusal::Malformed);
-    }
-    if 8 < replica {
-        return Gate::Refused(Refusal::Malformed);
-    }
-    let counts = counts_of(file, WIDTH);
-    if 255 <= small(counts[widen(replica) - 1]) {
-        return Gate::Refused(Refusal::Exhausted);
-    }
-    Gate::Open
+    s <= 8
 }
 
-// The last test, 8, and then the op is put out and added.
-fn put_out(
-    buf: &mut [u8],
-    kind: u8,
-    replica: u8,
-    node: u16,
-    parent: u16,
-    counts: [u8; 8],
-    out: &mut [u8],
-) -> Issue
-    requires { ⌜ Issuable (now buf) replica counts × (width ≤ length (now out)) ⌝ }
-    ensures { λ r. ⌜ (issueAnswerOf r ≡ lastTest (now (buf .entry))) × (now (buf .exit) ≡ ifAccepted (lastTest (now (buf .entry))) (appended width (now (buf .entry)) (opBytes kind replica node parent counts)) (now (buf .entry))) × (now (out .exit) ≡ ifAccepted (lastTest (now (buf .entry))) (opBytes kind replica node parent counts ++ drop width (now (out .entry))) (now (out .entry))) ⌝ }
+// Number 9: whether a replica has an op left to issue.
+fn has_left(counts: [u8; 8], replica: u8) -> bool
+    requires { ⌜ isReplica replica ≡ true ⌝ }
+    ensures { λ r. ⌜ r ≡ ltb (countIn counts replica) 255 ⌝ }
 {
-    if buf.len() < end_of(buf, 8, WIDTH) + WIDTH {
-        return Issue::Refused(Refusal::NoRoom);
-    }
-    write_op(out, kind, replica, node, parent, counts);
-    let n = WIDTH;
-    Issue::Accepted(append_op(buf, widen(replica), &out[..n], WIDTH))
+    counts[widen(replica) - 1] < 255
 }
 
-// Issues an add of a new node under a parent.
-pub fn issue_add(buf: &mut [u8], replica: u8, parent: u16, out: &mut [u8]) -> Issue
-    ensures { λ r. ⌜ (issueAnswerOf r ≡ rules.issue width (now (buf .entry)) (now (out .entry)) replica (add parent) .answer) × (now (buf .exit) ≡ rules.issue width (now (buf .entry)) (now (out .entry)) replica (add parent) .buffer) × (now (out .exit) ≡ rules.issue width (now (buf .entry)) (now (out .entry)) replica (add parent) .out) ⌝ }
+// The node that a replica's next op makes, if it is an add.
+fn next_node(counts: [u8; 8], replica: u8) -> u16
+    requires { ⌜ isReplica replica ≡ true ⌝ }
+    ensures { λ r. ⌜ r ≡ nodeNumber replica (countIn counts replica + 1) ⌝ }
 {
-    let gate = first_tests(buf, replica, out.len());
-    let Gate::Open = gate else {
-        let Gate::Refused(why) = gate else {
-            return Issue::Refused(Refusal::Malformed);
-        };
-        return Issue::Refused(why);
-    };
-    let counts = counts_of(buf, WIDTH);
-    if !known_parent(buf, counts, parent, WIDTH) {
-        return Issue::Refused(Refusal::Unknown);
-    }
     let s = widen(replica);
-    let node = (256 * s + small(counts[s - 1]) + 1) as u16;
-    put_out(buf, 1, replica, node, parent, counts, out)
+    (256 * s + small(counts[s - 1]) + 1) as u16
 }
 
-// Issues a remove of a node.
-pub fn issue_remove(buf: &mut [u8], replica: u8, node: u16, out: &mut [u8]) -> Issue
-    ensures { λ r. ⌜ (issueAnswerOf r ≡ rules.issue width (now (buf .entry)) (now (out .entry)) replica (remove node) .answer) × (now (buf .exit) ≡ rules.issue width (now (buf .entry)) (now (out .entry)) replica (remove node) .buffer) × (now (out .exit) ≡ rules.issue width (now (buf .entry)) (now (out .entry)) replica (remove node) .out) ⌝ }
+// Number 7 of a move: node and parent are known, and are not the same.
+fn knows_move(file: &[u8], counts: [u8; 8], node: u16, parent: u16) -> bool
+    requires { ⌜ Tallied (now file) counts ⌝ }
+    ensures { λ r. ⌜ r ≡ requestKnown (logOf width (now (file .entry))) (move node parent) ⌝ }
 {
-    let gate = first_tests(buf, replica, out.len());
-    let Gate::Open = gate else {
-        let Gate::Refused(why) = gate else {
-            return Issue::Refused(Refusal::Malformed);
-        };
-        return Issue::Refused(why);
-    };
-    let counts = counts_of(buf, WIDTH);
-    if !known_in(buf, counts, node, WIDTH) {
-        return Issue::Refused(Refusal::Unknown);
+    if !known_in(file, counts, node, WIDTH) {
+        return false;
     }
-    put_out(buf, 2, replica, node, 0, counts, out)
+    if !known_parent(file, counts, parent, WIDTH) {
+        return false;
+    }
+    parent != node
 }
 
-// The kind of a move by the present tree, or 0 where the new parent lies below the node.
-fn move_kind(file: &[u8], node: u16, parent: u16) -> u8
-    requires { ⌜ (sound width (now file) ≡ true) × (node < 65535) ⌝ }
-    ensures { λ r. ⌜ r ≡ kindOrCycle (logOf width (now (file .entry))) node parent ⌝ }
+// Number 7: whether what a request names is known.
+fn knows(file: &[u8], counts: [u8; 8], request: Request) -> bool
+    requires { ⌜ Tallied (now file) counts ⌝ }
+    ensures { λ r. ⌜ r ≡ requestKnown (logOf width (now (file .entry))) (requestOf request) ⌝ }
 {
-    let mut parents = [0u16; 2041];
-    let mut outcomes = [0u8; 2041];
-    replay_all(file, &mut parents, &mut outcomes, WIDTH);
-    if below(&parents, parent, node) {
-        return 0;
+    match request {
+        Request::Add(parent) => known_parent(file, counts, parent, WIDTH),
+        Request::Remove(node) => known_in(file, counts, node, WIDTH),
+        Request::Move(node, parent) => knows_move(file, counts, node, parent),
     }
-    if depth_of(&parents, parent) < depth_of(&parents, node) {
+}
+
+// A move is upward if the node's depth is greater than the new parent's, else downward.
+fn move_kind(parents: &[u16], node: u16, parent: u16) -> u8
+    requires { ⌜ length (now parents) ≡ slots ⌝ }
+    ensures { λ r. ⌜ r ≡ moveKind (now (parents .entry)) node parent ⌝ }
+{
+    if depth_of(parents, parent) < depth_of(parents, node) {
         return 3;
     }
     4
 }
 
-// Issues a move of a node under a new parent.
-pub fn issue_move(buf: &mut [u8], replica: u8, node: u16, parent: u16, out: &mut [u8]) -> Issue
-    ensures { λ r. ⌜ (issueAnswerOf r ≡ rules.issue width (now (buf .entry)) (now (out .entry)) replica (move node parent) .answer) × (now (buf .exit) ≡ rules.issue width (now (buf .entry)) (now (out .entry)) replica (move node parent) .buffer) × (now (out .exit) ≡ rules.issue width (now (buf .entry)) (now (out .entry)) replica (move node parent) .out) ⌝ }
+// Number 10 of a move in a tree, or the op to issue.
+fn draft_move(parents: &[u16], node: u16, parent: u16) -> Drafted
+    requires { ⌜ InTree (now parents) node ⌝ }
+    ensures { λ r. ⌜ r ≡ movedIn (now (parents .entry)) node parent ⌝ }
 {
-    let gate = first_tests(buf, replica, out.len());
-    let Gate::Open = gate else {
-        let Gate::Refused(why) = gate else {
-            return Issue::Refused(Refusal::Malformed);
-        };
-        return Issue::Refused(why);
-    };
+    if below(parents, parent, node) {
+        return Drafted::Refused(Refusal::Cycle);
+    }
+    let kind = move_kind(parents, node, parent);
+    Drafted::Op(Draft { kind, node, parent })
+}
+
+// The same in the present tree.
+fn draft_move_now(file: &[u8], node: u16, parent: u16) -> Drafted
+    requires { ⌜ Movable (now file) node parent ⌝ }
+    ensures { λ r. ⌜ r ≡ movedIn (parentsOf (logOf width (now (file .entry)))) node parent ⌝ }
+{
+    let mut parents = [0u16; 2041];
+    let mut outcomes = [0u8; 2041];
+    replay_all(file, &mut parents, &mut outcomes, WIDTH);
+    draft_move(&parents, node, parent)
+}
+
+// Number 10 of a request whose names are known, and the op to issue.
+fn draft_known(file: &[u8], counts: [u8; 8], replica: u8, request: Request) -> Drafted
+    requires { ⌜ Named (now file) counts replica (requestOf request) ⌝ }
+    ensures { λ r. ⌜ r ≡ clearedOp (logOf width (now (file .entry))) replica (requestOf request) ⌝ }
+{
+    match request {
+        Request::Add(parent) => {
+            let node = next_node(counts, replica);
+            Drafted::Op(Draft {
+                kind: 1,
+                node,
+                parent,
+            })
+        }
+        Request::Remove(node) => Drafted::Op(Draft {
+            kind: 2,
+            node,
+            parent: 0,
+        }),
+        Request::Move(node, parent) => draft_move_now(file, node, parent),
+    }
+}
+
+// The tests 9, 7 and 10 of a request, and the op to issue.
+fn draft(file: &[u8], replica: u8, request: Request) -> Drafted
+    requires { ⌜ Issuer (now file) replica ⌝ }
+    ensures { λ r. ⌜ r ≡ drafted (logOf width (now (file .entry))) replica (requestOf request) ⌝ }
+{
+    let counts = counts_of(file, WIDTH);
+    if !has_left(counts, replica) {
+        return Drafted::Refused(Refusal::Exhausted);
+    }
+    if !knows(file, counts, request) {
+        return Drafted::Refused(Refusal::Unknown);
+    }
+    draft_known(file, counts, replica, request)
+}
+
+// The last test, 8; then the op is put out and added.
+fn put_out(buf: &mut [u8], replica: u8, draft: Draft, out: &mut [u8]) -> Answer
+    requires { ⌜ Ready (now buf) (length (now out)) replica ⌝ }
+    ensures { λ r. ⌜ record { answer = answerOf r; buffer = now (buf .exit); out = now (out .exit) }
+        ≡ putOut (now (buf .entry)) (now (out .entry)) (bytesOf replica draft (headerCounts (now (buf .entry)))) ⌝ }
+{
+    let answer = last_test(buf);
+    if !is_accepted(answer) {
+        return answer;
+    }
     let counts = counts_of(buf, WIDTH);
-    if !known_in(buf, counts, node, WIDTH) {
-        return Issue::Refused(Refusal::Unknown);
+    write_op(out, draft.kind, replica, draft.node, draft.parent, counts);
+    let n = WIDTH;
+    accept(buf, replica, &out[..n]);
+    answer
+}
+
+// Issues one op at a sound log: the tests from 9 on.
+fn issue_next(buf: &mut [u8], replica: u8, request: Request, out: &mut [u8]) -> Answer
+    requires { ⌜ Lent (now buf) (length (now out)) replica ⌝ }
+    ensures { λ r. ⌜ record { answer = answerOf r; buffer = now (buf .exit); out = now (out .exit) }
+        ≡ rules.issue width (now (buf .entry)) (now (out .entry)) replica (requestOf request) ⌝ }
+{
+    match draft(buf, replica, request) {
+        Drafted::Op(op) => put_out(buf, replica, op, out),
+        Drafted::Refused(why) => Answer::Refused(why),
     }
-    if !known_parent(buf, counts, parent, WIDTH) {
-        return Issue::Refused(Refusal::Unknown);
+}
+
+// Issues what is asked for.
+fn issue(buf: &mut [u8], replica: u8, request: Request, out: &mut [u8]) -> Answer
+    ensures { λ r. ⌜ record { answer = answerOf r; buffer = now (buf .exit); out = now (out .exit) }
+        ≡ rules.issue width (now (buf .entry)) (now (out .entry)) replica (requestOf request) ⌝ }
+{
+    if !is_sound(buf) {
+        return Answer::Refused(Refusal::Unsound);
     }
-    if parent == node {
-        return Issue::Refused(Refusal::Unknown);
+    if out.len() < WIDTH {
+        return Answer::Refused(Refusal::Length);
     }
-    let kind = move_kind(buf, node, parent);
-    if kind == 0 {
-        return Issue::Refused(Refusal::Cycle);
+    if !is_replica(replica) {
+        return Answer::Refused(Refusal::Malformed);
     }
-    put_out(buf, kind, replica, node, parent, counts, out)
+    issue_next(buf, replica, request, out)
+}
+
+// Issues an add of a new node under a parent.
+pub fn issue_add(buf: &mut [u8], replica: u8, parent: u16, out: &mut [u8]) -> Answer
+    ensures { λ r. ⌜ record { answer = answerOf r; buffer = now (buf .exit); out = now (out .exit) }
+        ≡ rules.issue width (now (buf .entry)) (now (out .entry)) replica (add parent) ⌝ }
+{
+    issue(buf, replica, Request::Add(parent), out)
+}
+
+// Issues a remove of a node.
+pub fn issue_remove(buf: &mut [u8], replica: u8, node: u16, out: &mut [u8]) -> Answer
+    ensures { λ r. ⌜ record { answer = answerOf r; buffer = now (buf .exit); out = now (out .exit) }
+        ≡ rules.issue width (now (buf .entry)) (now (out .entry)) replica (remove node) ⌝ }
+{
+    issue(buf, replica, Request::Remove(node), out)
+}
+
+// Issues a move of a node under a new parent.
+pub fn issue_move(buf: &mut [u8], replica: u8, node: u16, parent: u16, out: &mut [u8]) -> Answer
+    ensures { λ r. ⌜ record { answer = answerOf r; buffer = now (buf .exit); out = now (out .exit) }
+        ≡ rules.issue width (now (buf .entry)) (now (out .entry)) replica (move node parent) ⌝ }
+{
+    issue(buf, replica, Request::Move(node, parent), out)
 }

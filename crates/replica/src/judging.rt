@@ -1,28 +1,29 @@
-use crate::answer::Judged;
 use crate::soundness::WIDTH;
 use crate::soundness::is_sound;
+use codec::Answer;
 use codec::Refusal;
 use replay::replay_all;
 ghost use mathlib.Core.Path.{_≡_};
 ghost use Rattle.rules.specs.File.{width};
-ghost use Rattle.replica.specs.Answers.{judgedAnswer};
+ghost use Rattle.codec.specs.Answers.{answerOf};
 ghost use Rattle.rules.specs.Judge as rules;
 
 // Replays a log into the first 2,041 entries of two tables: each node's parent, and each op's
 // outcome.
-pub fn judge(file: &[u8], parents: &mut [u16], outcomes: &mut [u8]) -> Judged
-    ensures { λ r. ⌜ (judgedAnswer r ≡ rules.judge width (now (file .entry)) (now (parents .entry)) (now (outcomes .entry)) .answer) × (now (parents .exit) ≡ rules.judge width (now (file .entry)) (now (parents .entry)) (now (outcomes .entry)) .parents) × (now (outcomes .exit) ≡ rules.judge width (now (file .entry)) (now (parents .entry)) (now (outcomes .entry)) .outcomes) ⌝ }
+pub fn judge(file: &[u8], parents: &mut [u16], outcomes: &mut [u8]) -> Answer
+    ensures { λ r. ⌜ record { answer = answerOf r; parents = now (parents .exit); outcomes = now (outcomes .exit) }
+        ≡ rules.judge width (now (file .entry)) (now (parents .entry)) (now (outcomes .entry)) ⌝ }
 {
     if !is_sound(file) {
-        return Judged::Refused(Refusal::Unsound);
+        return Answer::Refused(Refusal::Unsound);
     }
     if parents.len() < 2041 {
-        return Judged::Refused(Refusal::Length);
+        return Answer::Refused(Refusal::Length);
     }
     if outcomes.len() < 2041 {
-        return Judged::Refused(Refusal::Length);
+        return Answer::Refused(Refusal::Length);
     }
     let n = 2041;
     replay_all(file, &mut parents[..n], &mut outcomes[..n], WIDTH);
-    Judged::Done
+    Answer::Done
 }

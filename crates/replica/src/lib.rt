@@ -1,16 +1,13 @@
 // The calls on a replica's log in a lent buffer. Every call takes any bytes, and a refused call
 // changes none of them.
-mod answer;
+mod adding;
 mod delivering;
 mod issuing;
 mod judging;
 mod making;
+mod request;
 mod soundness;
 
-pub use answer::Delivery;
-pub use answer::Issue;
-pub use answer::Judged;
-pub use answer::Made;
 pub use delivering::deliver;
 pub use issuing::issue_add;
 pub use issuing::issue_move;

@@ -11,12 +11,12 @@ use lib.Seq.{drop-at}
 use Rattle.rules.specs.Op.{Op}
 use Rattle.rules.specs.File.{Log, countsOf, append, endOf, fileEnd, logOf, fileOf, appended}
 use Rattle.rules.specs.Answer.{Answer, accepted, require}
-use Rattle.rules.specs.Deliver.{admitAnswer, held, heldAnswer, deliverAnswer, deliverBuffer}
+use Rattle.rules.specs.Deliver.{admitAnswer, held, heldAnswer, deliverAnswer}
 use Rattle.rules.specs.Sound.{sound}
 use Rattle.rules.proofs.FileLaws.{WideLog, logOf-fileOf, file-end, length-file, counts-logOf}
-use Rattle.rules.proofs.AppendLaws.{wide-append, Admits, in-range, good-append, sum-append}
+use Rattle.rules.proofs.AppendLaws.{wide-append, Admits, in-range, sum-append}
 use Rattle.rules.proofs.StructureLaws.{GoodLog}
-use Rattle.rules.proofs.SoundLaws.{sound-file, sound-wide, sound-good}
+use Rattle.rules.proofs.SoundLaws.{sound-file, sound-wide, sound-good, SoundLog, sound-append, sound-log}
 
 ---- what acceptance says
 
@@ -91,8 +91,8 @@ module _ (w : ℕ) (f : List ℕ) (r : Op) (n : ℕ) (h : Admitted w f r n) wher
   good-old : GoodLog old
   good-old = sound-good w f (h .is-sound)
 
-  pub good-new : GoodLog (append old r)
-  good-new = good-append old r good-old (h .admits)
+  pub sound-new : SoundLog (append old r)
+  sound-new = sound-append old r (sound-log w f (h .is-sound)) (h .admits)
 
   pub wide-new : WideLog w (append old r)
   wide-new = wide-append w old r (sound-wide w f (h .is-sound)) (h .long)
@@ -100,7 +100,7 @@ module _ (w : ℕ) (f : List ℕ) (r : Op) (n : ℕ) (h : Admitted w f r n) wher
   -- the log of the new buffer, and its file end
   pub appended-log : logOf w (appended w f r) ≡ append old r
   unfolding appended
-  appended-log = logOf-fileOf w (append old r) rest (good-new .eight) wide-new
+  appended-log = logOf-fileOf w (append old r) rest (sound-new .good .eight) wide-new
 
   pub end-new : endOf w (countsOf (append old r)) ≡ fileEnd w f + w
   unfolding endOf fileEnd
@@ -110,7 +110,7 @@ module _ (w : ℕ) (f : List ℕ) (r : Op) (n : ℕ) (h : Admitted w f r n) wher
 
   pub appended-end : fileEnd w (appended w f r) ≡ fileEnd w f + w
   unfolding appended
-  appended-end = file-end w (append old r) rest (good-new .eight) ∙ end-new
+  appended-end = file-end w (append old r) rest (sound-new .good .eight) ∙ end-new
 
   pub appended-length : length (appended w f r) ≡ length f
   unfolding appended
@@ -124,9 +124,4 @@ module _ (w : ℕ) (f : List ℕ) (r : Op) (n : ℕ) (h : Admitted w f r n) wher
 
   pub appended-sound : sound w (appended w f r) ≡ true
   unfolding appended
-  appended-sound = sound-file w (append old r) rest good-new wide-new
-
--- delivering keeps soundness
-pub deliver-sound : (w : ℕ) (f r : List ℕ) (n : ℕ) → deliverAnswer w f r ≡ accepted n → sound w (deliverBuffer w f r) ≡ true
-unfolding deliverBuffer
-deliver-sound w f r n e = rw e (appended-sound w f r n (admitted w f r n e))
+  appended-sound = sound-file w (append old r) rest sound-new wide-new

@@ -10,7 +10,7 @@ use lib.ListN.{length, getD}
 use lib.Dec.{lit≤}
 use Rattle.lists.specs.Lists.{upFrom, sum}
 use Rattle.rules.specs.Op.{Op, Vector, replicas, countIn, replicaOf, vectorOf, seqOf}
-use Rattle.rules.specs.File.{Log, opsOf, opAt, countsOf, headerCounts, endOf, fileEnd, logOf}
+use Rattle.rules.specs.File.{Log, opsOf, opAt, countsOf, headerCounts, endOf, fileEnd, logOf, largest}
 use Rattle.rules.specs.Log.{covered}
 use Rattle.rules.specs.Answer.{Answer, refused, hadIt, accepted, require}
 use Rattle.rules.specs.Deliver.{admitAnswer, held, heldAnswer, deliverAnswer}
@@ -20,8 +20,8 @@ use Rattle.rules.proofs.AppendLaws.{SameWithin, closed-more, names-more
 use Rattle.rules.proofs.ReplicaLaws.{replica-cases}
 use Rattle.lists.proofs.NumberLaws.{mul-step}
 use Rattle.lists.proofs.ListLaws.{same-refl}
-use Rattle.rules.proofs.StructureLaws.{count-held, held-in, GoodLog, HeldOp, good-ops}
-use Rattle.rules.proofs.SoundLaws.{sound-good}
+use Rattle.rules.proofs.StructureLaws.{count-held, held-in, HeldOp, good-ops}
+use Rattle.rules.proofs.SoundLaws.{sound-good, SoundLog}
 
 -- an answer of a round, to the op r at a log
 pub data Offered (log : Log) (r : Op) (n : ℕ) : Answer → Type 0 where
@@ -61,17 +61,17 @@ sum-below v e b =
     (λ h. omega arith) (λ h. omega arith) (λ h. omega arith) (λ h. omega arith) (λ h. omega arith) (λ h. omega arith) (λ h. omega arith)
     (λ h. omega arith)
 
-room-for : (w n size : ℕ) → n < 2040 → 32 + w * 2040 ≤ size → 32 + w * n + w ≤ size
+room-for : (w n size : ℕ) → n < 2040 → largest w ≤ size → 32 + w * n + w ≤ size
 room-for w n size h big = let m = mul-le-mul-left w h in omega (arith, mul-step w n)
 
 -- an op of the log u is offered to the buffer g, whose log agrees with u
-module _ (w : ℕ) (u : Log) (gu : GoodLog u) (wu : WideLog w u) (g : List ℕ) (sg : sound w g ≡ true) (ag : Agree u (logOf w g)) (s q : ℕ)
+module _ (w : ℕ) (u : Log) (su : SoundLog u) (wu : WideLog w u) (g : List ℕ) (sg : sound w g ≡ true) (ag : Agree u (logOf w g)) (s q : ℕ)
     (l : 1 ≤ s) (h : s ≤ 8) (lq : 1 ≤ q) (uq : q ≤ countIn (countsOf u) s) where
   abbrev r : Op
   r = opAt u s q
 
   x : HeldOp u s q r
-  x = good-ops gu s q l h lq uq
+  x = good-ops (su .good) s q l h lq uq
 
   long : length r ≡ w
   unfolding opAt opsOf
@@ -106,7 +106,7 @@ module _ (w : ℕ) (u : Log) (gu : GoodLog u) (wu : WideLog w u) (g : List ℕ) 
       go false e = admit (covered (logOf w g) (vectorOf r)) refl e
 
   -- in a buffer for all ops there is room for one that is not held
-  pub offered-in-full : 32 + w * 2040 ≤ length g → Offered (logOf w g) r (fileEnd w g + w) (deliverAnswer w g r)
+  pub offered-in-full : largest w ≤ length g → Offered (logOf w g) r (fileEnd w g + w) (deliverAnswer w g r)
   unfolding held fileEnd endOf
   offered-in-full big =
       let gg = sound-good w g sg in
@@ -115,5 +115,5 @@ module _ (w : ℕ) (u : Log) (gu : GoodLog u) (wu : WideLog w u) (g : List ℕ) 
       let m : countIn (countsOf (logOf w g)) s < q = rw (x .origin, x .number) at
       (leb-false (seqOf r) (countIn (countsOf (logOf w g)) (replicaOf r)) n) in
       let few : sum (headerCounts g) < 2040 = rw (← c) (sum-below (countsOf (logOf w g)) (rw c (length-counts g)) (gg .counts) s l h
-      (omega (arith, gu .counts s l h))) in
+      (omega (arith, su .good .counts s l h))) in
       room-for w (sum (headerCounts g)) (length g) few big)

@@ -1,14 +1,28 @@
 -- Laws of the eight replicas.
+use lib.Dec.{leb, lit≤}
+use Rattle.rules.specs.Op.{isReplica, replicas}
 use mathlib.Core.Path.{_≡_, refl}
 use mathlib.Core.Bool.{Bool, true, false, _&&_}
 use mathlib.Core.List.{map}
 use Prim.Native.Nat.{ℕ, zero, suc, _+_, _≤_, _<_, _-_}
 use native.Mathlib.Omega.{arith}
-use lib.Dec.{lit≤}
 use native.Mathlib.Numerals.{add-one}
 use Rattle.lists.specs.Lists.{upFrom, all}
-use Rattle.rules.specs.Op.{replicas}
 use Rattle.lists.proofs.RangeLaws.{all-from, fails-from}
+use Rattle.lists.proofs.BoolLaws.{and-both, and-left, and-right}
+use borrow.Author.Tests.{le-leb, leb-true}
+
+pub replica-low : (s : ℕ) → isReplica s ≡ true → 1 ≤ s
+unfolding isReplica
+replica-low s e = leb-true _ _ (and-left (leb 1 s) _ e)
+
+pub replica-high : (s : ℕ) → isReplica s ≡ true → s ≤ 8
+unfolding isReplica
+replica-high s e = leb-true _ _ (and-right (leb 1 s) _ e)
+
+pub in-replicas : (s : ℕ) → 1 ≤ s → s ≤ 8 → isReplica s ≡ true
+unfolding isReplica
+in-replicas s l u = and-both (le-leb 1 s l) (le-leb s 8 u)
 
 pub all-replicas : (p : ℕ → Bool) → ((s : ℕ) → 1 ≤ s → s ≤ 8 → p s ≡ true) → all p replicas ≡ true
 unfolding all replicas upFrom

@@ -1,16 +1,28 @@
 -- Laws of soundness: callers use these and not what soundness is made of. Assumes nothing.
+use Rattle.rules.specs.File.{append, emptyLog, Log, countsOf, fileOf, opsOf, logOf}
 use Prim.Native.Nat.{ℕ, _≤_}
 use mathlib.Core.List.{List, _++_}
 use mathlib.Core.Path.{_≡_, refl}
 use mathlib.Core.Bool.{true}
 use lib.Dec.{lit≤}
-use Rattle.rules.specs.File.{emptyLog, Log, countsOf, fileOf, opsOf, logOf}
 use Rattle.rules.specs.Log.{soundOps, structural}
 use Rattle.rules.specs.Sound.{sound}
-use Rattle.rules.specs.Op.{countIn}
+use Rattle.rules.specs.Op.{countIn, Op}
 use Rattle.rules.proofs.FileLaws.{WideLog, wide-logOf}
 use Rattle.rules.proofs.StructureLaws.{GoodLog, Laid, file-structural, laid-reads, structural-good, structural-laid}
 use Rattle.rules.proofs.ReplicaLaws.{replica-cases}
+use Rattle.rules.proofs.AppendLaws.{Admits, good-append}
+
+---- a log that a sound file can hold; a layer of soundness joins as a field
+
+pub record SoundLog (log : Log) : Type 0 where
+  pub good : GoodLog log
+
+-- one op more
+pub sound-append : (log : Log) (r : Op) → SoundLog log → Admits log r → SoundLog (append log r)
+sound-append log r h a = record { good = good-append log r (h .good) a }
+
+---- from bytes to facts and back
 
 module _ (w : ℕ) (f : List ℕ) where
   pub sound-structural : sound w f ≡ true → structural w f ≡ true
@@ -23,15 +35,18 @@ module _ (w : ℕ) (f : List ℕ) where
   pub sound-good : sound w f ≡ true → GoodLog (logOf w f)
   sound-good e = structural-good w f (sound-structural e)
 
+  pub sound-log : sound w f ≡ true → SoundLog (logOf w f)
+  sound-log e = record { good = sound-good e }
+
   pub sound-wide : sound w f ≡ true → WideLog w (logOf w f)
   sound-wide e = wide-logOf w f (sound-laid e .fits)
 
--- the file of a good log is sound
-pub sound-file : (w : ℕ) (log : Log) (t : List ℕ) → GoodLog log → WideLog w log → sound w (fileOf w log ++ t) ≡ true
+-- the file of a sound log is sound
+pub sound-file : (w : ℕ) (log : Log) (t : List ℕ) → SoundLog log → WideLog w log → sound w (fileOf w log ++ t) ≡ true
 unfolding sound
-sound-file w log t g wide = file-structural w log t g wide
+sound-file w log t g wide = file-structural w log t (g .good) wide
 
-pub good-empty : GoodLog emptyLog
+good-empty : GoodLog emptyLog
 unfolding emptyLog countIn countsOf opsOf soundOps
 good-empty = record {
   eight = refl;
@@ -39,6 +54,9 @@ good-empty = record {
       (lit≤ tt);
   ops = replica-cases (λ s. soundOps emptyLog s 1 (opsOf emptyLog s) ≡ true) refl refl refl refl refl refl refl refl;
 }
+
+pub sound-empty : SoundLog emptyLog
+sound-empty = record { good = good-empty }
 
 pub wide-empty : (w : ℕ) → WideLog w emptyLog
 unfolding emptyLog

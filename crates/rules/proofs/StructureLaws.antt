@@ -1,7 +1,7 @@
 -- Laws of structural soundness: what it says of a file, and of every op of its log. Assumes nothing.
 use Prim.Native.Nat.{zero, ℕ, _≤_, _-_, _<_, _+_, suc}
 use mathlib.Core.List.{List, _∷_, _++_, append-assoc, []}
-use lib.ListN.{length, List·getD-map, take, getD, length-append}
+use lib.ListN.{length, List·getD-map, getD, length-append}
 use mathlib.Core.Path.{_≡_, _∙_}
 use mathlib.Core.Bool.{true, and-eq-true-iff, false, or-true}
 use native.Mathlib.Omega.{arith}
@@ -11,11 +11,10 @@ use native.Mathlib.Nat.{le-refl, not-suc-le-zero, add-zero, add-suc, suc-add, le
 use Rattle.rules.specs.File.{Log, opAt, countsOf, within, countAt, opsOf, startAt, logOf, startOf, fileEnd, headerCounts, fileOf}
 use Rattle.rules.specs.Log.{closed, covered, soundOps, closedAt, soundOp, laid, structural, soundHeader, soundLog, namesKnown}
 use Rattle.rules.specs.Op.{countIn, Op, Vector, replicaOf, seqOf, wellFormed, vectorOf}
-use Rattle.rules.specs.Bytes.{byte}
 use Rattle.lists.specs.Lists.{concat}
 use Rattle.rules.proofs.ReplicaLaws.{all-replicas, replica-passes}
 use Rattle.lists.proofs.BoolLaws.{and-both, and-left, or-under, and-right}
-use Rattle.rules.proofs.FileLaws.{length-logOf, counts-logOf, counts-at, fileOf-logOf, header-bytes, WideLog, file-counts, header-starts, file-end, length-file, end-header, logOf-fileOf}
+use Rattle.rules.proofs.FileLaws.{length-logOf, counts-logOf, counts-at, WideLog, file-counts, header-starts, file-end, length-file, end-header, logOf-fileOf}
 
 -- what a right layout says
 pub record Laid (w : ℕ) (f : List ℕ) : Type 0 where
@@ -82,10 +81,6 @@ module _ (w : ℕ) (f : List ℕ) where
   pub structural-of : Laid w f → GoodLog (logOf w f) → structural w f ≡ true
   unfolding structural soundLog
   structural-of h g = and-both (laid-of h) (all-replicas _ (g .ops))
-
--- a structurally sound file is its log's
-pub structural-file : (w : ℕ) (f : List ℕ) → ((i : ℕ) → byte f i < 256) → laid w f ≡ true → take (fileEnd w f) f ≡ fileOf w (logOf w f)
-structural-file w f b e = let h = laid-reads w f e in fileOf-logOf w f (header-bytes w f b (h .starts) (h .header))
 
 ---- every op
 

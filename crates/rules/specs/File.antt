@@ -59,6 +59,10 @@ startOf w counts s = 32 + w * sum (take (s - 1) counts)
 unfoldable pub endOf : ℕ → Vector → ℕ
 endOf w counts = 32 + w * sum counts
 
+-- the largest file: 255 ops of each replica
+abbrev pub largest : ℕ → ℕ
+largest w = 32 + w * 2040
+
 unfoldable pub fileEnd : ℕ → List ℕ → ℕ
 fileEnd w f = endOf w (headerCounts f)
 

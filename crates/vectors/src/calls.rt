@@ -3,15 +3,11 @@ use crate::print::memory_front;
 use crate::print::number;
 use crate::print::numbers;
 use crate::print::text;
+use codec::Answer;
 use codec::Refusal;
 use codec::widen;
 use codec::widen16;
 use codec::word_at;
-use replica::Delivery;
-use replica::Issue;
-use replica::Judged;
-use replica::Made;
-use view::Listed;
 use view::View;
 
 fn refused(why: Refusal) {
@@ -35,28 +31,27 @@ fn accepted(n: usize) {
     number(n);
 }
 
-fn make(buf: &mut [u8]) {
-    match replica::make(buf) {
-        Made::Accepted(end) => accepted(end),
-        Made::Refused(why) => refused(why),
+fn answered(answer: Answer) {
+    match answer {
+        Answer::Refused(why) => refused(why),
+        Answer::HadIt => text(b"h"),
+        Answer::Done => text(b"d"),
+        Answer::Accepted(n) => accepted(n),
     }
+}
+
+fn make(buf: &mut [u8]) {
+    answered(replica::make(buf));
     memory(buf);
 }
 
 fn deliver(buf: &mut [u8], op: &[u8]) {
-    match replica::deliver(buf, op) {
-        Delivery::Accepted(end) => accepted(end),
-        Delivery::HadIt => text(b"h"),
-        Delivery::Refused(why) => refused(why),
-    }
+    answered(replica::deliver(buf, op));
     memory(buf);
 }
 
-fn issued(issue: Issue, buf: &[u8], out: &[u8]) {
-    match issue {
-        Issue::Accepted(end) => accepted(end),
-        Issue::Refused(why) => refused(why),
-    }
+fn issued(answer: Answer, buf: &[u8], out: &[u8]) {
+    answered(answer);
     memory(buf);
     memory(out);
 }
@@ -116,10 +111,7 @@ fn issue(buf: &mut [u8], line: &[u8]) {
 }
 
 fn judge_into(file: &[u8], parents: &mut [u16], outcomes: &mut [u8]) {
-    match replica::judge(file, parents, outcomes) {
-        Judged::Done => text(b"d"),
-        Judged::Refused(why) => refused(why),
-    }
+    answered(replica::judge(file, parents, outcomes));
     memory(file);
     numbers(parents);
     memory(outcomes);
@@ -146,15 +138,8 @@ fn judge(file: &[u8], line: &[u8]) {
     judge_parts(file, &mut parents, &mut outcomes, n, m);
 }
 
-fn listed(answer: Listed) {
-    match answer {
-        Listed::Accepted(n) => accepted(n),
-        Listed::Refused(why) => refused(why),
-    }
-}
-
 fn path_into(file: &[u8], node: u16, out: &mut [u16]) {
-    listed(view::path(file, node, out));
+    answered(view::path(file, node, out));
     memory(file);
     numbers(out);
 }
@@ -175,7 +160,7 @@ fn path(file: &[u8], line: &[u8]) {
     path_part(file, word_at(line, 1), &mut out, n);
 }
 
-fn list(file: &[u8], skipping: bool, out: &mut [u8]) -> Listed {
+fn list(file: &[u8], skipping: bool, out: &mut [u8]) -> Answer {
     if skipping {
         return view::listing(file, View::Skipping, out);
     }
@@ -183,7 +168,7 @@ fn list(file: &[u8], skipping: bool, out: &mut [u8]) -> Listed {
 }
 
 fn listing_into(file: &[u8], skipping: bool, out: &mut [u8]) {
-    listed(list(file, skipping, out));
+    answered(list(file, skipping, out));
     memory(file);
     memory(out);
 }
@@ -208,7 +193,7 @@ fn listing(file: &[u8], line: &[u8]) {
 fn outline(input: &[u8]) {
     let mut out = [0u8; 24492];
     text(b"o");
-    let Listed::Accepted(n) = view::outline(input, &mut out) else {
+    let Answer::Accepted(n) = view::outline(input, &mut out) else {
         return;
     };
     memory_front(&out, n);

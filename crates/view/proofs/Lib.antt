@@ -11,6 +11,7 @@ pub mod LinkLaws
 pub mod TourLaws
 pub mod OrderLaws
 pub mod PruneLaws
+pub mod PutCases
 pub mod RevealLaws
 pub mod ListingLaws
 pub mod TurnLaws

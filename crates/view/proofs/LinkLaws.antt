@@ -11,7 +11,7 @@ use mathlib.Core.Path.{refl, sym, _∙_, _≡_}
 use native.Mathlib.Decide.{ℕ-discrete}
 use native.Mathlib.Omega.{arith}
 use Rattle.lists.proofs.BoolLaws.{and-false}
-use Rattle.rules.proofs.TreeLaws.{Valid, slot-injective}
+use Rattle.rules.proofs.SlotLaws.{Valid, slot-injective}
 use Rattle.lists.specs.Lists.{downFrom, filter, upFrom}
 use Rattle.rules.specs.Tree.{noParent, slots}
 use Rattle.view.proofs.NodesLaws.{valid-parent}

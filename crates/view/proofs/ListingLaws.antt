@@ -8,13 +8,13 @@ use mathlib.Core.Logic.{inl}
 use mathlib.Core.Path.{ap, refl, sym, _∙_, _≡_}
 use native.Mathlib.Nat.{le-trans}
 use native.Mathlib.Omega.{arith}
-use Rattle.order.proofs.DepthLaws.{climb-length}
-use Rattle.order.proofs.FuelLaws.{Depth, depth-child, depth-unique, has-depth}
-use Rattle.order.proofs.GrowLaws.{Named, named-valid}
+use Rattle.rules.proofs.ClimbLaws.{climb-length, Depth, depth-child, depth-unique, up}
+use Rattle.order.proofs.FuelLaws.{has-depth}
+use Rattle.rules.proofs.KnownLaws.{Named, named-valid}
 use Rattle.order.proofs.TourLaws.{preorder-length}
 use Rattle.lists.proofs.FilterLaws.{filter-length, filter-map-filter}
 use Rattle.rules.proofs.StructureLaws.{GoodLog}
-use Rattle.rules.proofs.TreeLaws.{Valid, slot-root, up}
+use Rattle.rules.proofs.SlotLaws.{Valid, slot-root}
 use Rattle.lists.specs.Lists.{concat, filter}
 use Rattle.rules.specs.Listing.{children, line, listingIn, listingOf, preorder}
 use Rattle.rules.specs.File.{Log, countsOf}

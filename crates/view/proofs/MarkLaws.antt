@@ -10,10 +10,10 @@ use mathlib.Core.Logic.{inr}
 use mathlib.Core.Path.{refl, sym, _∙_, _≡_}
 use native.Mathlib.Decide.{ℕ-discrete}
 use native.Mathlib.Omega.{arith}
-use Rattle.order.proofs.GrowLaws.{named-valid}
+use Rattle.rules.proofs.KnownLaws.{named-valid}
 use Rattle.lists.proofs.BoolLaws.{and-left, and-right}
 use Rattle.rules.proofs.StructureLaws.{GoodLog}
-use Rattle.rules.proofs.TreeLaws.{Valid, slot-below, slot-injective}
+use Rattle.rules.proofs.SlotLaws.{Valid, slot-below, slot-injective}
 use Rattle.lists.specs.Lists.{all, any, filter, isIn}
 use Rattle.rules.specs.File.{Log, countsOf}
 use Rattle.rules.specs.Log.{known}

@@ -10,14 +10,14 @@ use mathlib.Core.Logic.{inl, inr, _⊎_}
 use mathlib.Core.Path.{ap, refl, sym, _∙_, _≡_}
 use native.Mathlib.Nat.{add-zero, le-of-suc-le-suc, not-suc-le-zero}
 use native.Mathlib.Omega.{arith}
-use Rattle.order.proofs.GrowLaws.{Named, known-of, known-reads, named-valid, names-add}
+use Rattle.rules.proofs.KnownLaws.{Named, known-of, known-reads, named-valid, names-add}
 use Rattle.order.proofs.NodeLaws.{added-is}
 use Rattle.order.proofs.TreeTheorem.{is-tree}
 use Rattle.replay.proofs.ClimbLaws.{parent-read}
 use Rattle.lists.proofs.BoolLaws.{both-ways, fails, never}
 use Rattle.lists.proofs.RangeLaws.{map-upFrom, upFrom-add, upFrom-cons, upFrom-none}
 use Rattle.rules.proofs.StructureLaws.{GoodLog, count-held, good-ops}
-use Rattle.rules.proofs.TreeLaws.{Valid}
+use Rattle.rules.proofs.SlotLaws.{Valid}
 use Rattle.lists.specs.Lists.{concat, filter, upFrom}
 use Rattle.rules.specs.Listing.{children}
 use Rattle.rules.specs.File.{Log, countsOf, opAt, opsOf}

@@ -1,6 +1,7 @@
 -- The cases of the program's output, as the code meets them. Assumes nothing.
-use Prim.Native.Nat.{_<_, ℕ, _≤_}
-use borrow.Author.Tests.{eq-eqb, le-leb, lt-leb, ne-eqb}
+use Prim.Native.Nat.{ℕ, _≤_}
+use borrow.Author.Needs.{needs}
+use borrow.Author.Tests.{eq-eqb, ne-eqb}
 use lib.ListN.{drop, length}
 use lib.Seq.{sets, sets-eq}
 use mathlib.Core.Bool.{Bool, false, true}
@@ -8,22 +9,19 @@ use mathlib.Core.List.{_++_, List}
 use mathlib.Core.Path.{ap, refl, _∙_, _≡_}
 use native.Mathlib.Decide.{ℕ-discrete}
 use native.Mathlib.Omega.{arith}
+use Rattle.oplog.proofs.HeaderLaws.{end-is}
 use Rattle.order.proofs.TourLaws.{sound-listing}
-use Rattle.rules.specs.Answer.{accepted, refused, require}
-use Rattle.rules.specs.Listing.{listing, listingAnswer, listingOf, outline, refusedLine}
-use Rattle.rules.specs.File.{fileEnd, logOf, width}
+use Rattle.lists.proofs.BoolLaws.{tested}
+use Rattle.rules.specs.Answer.{accepted}
+use Rattle.rules.specs.Listing.{listing, listingOf, outline, refusedLine}
+use Rattle.rules.specs.File.{fileEnd, headerCounts, logOf, startOf, width}
+use Rattle.rules.specs.Path.{Written}
 use Rattle.rules.specs.Sound.{sound}
-use Rattle.rules.specs.Views.{View, keeping}
-use Rattle.view.specs.Answers.{putText, textAnswer}
+use Rattle.rules.specs.Views.{keeping}
+use Rattle.view.proofs.ListingCases.{listing-put}
+use Rattle.view.proofs.PutCases.{put-all}
+use Rattle.view.specs.Answers.{putIn}
 use Rattle.view.specs.Claims.{OutlineFits}
-
-pub text-short : (text out : List ℕ) → length out < length text → textAnswer text (length out) ≡ refused 8
-unfolding textAnswer require
-text-short text out h = rw (lt-leb (length text) (length out) h)
-
-pub text-done : (text out : List ℕ) → length text ≤ length out → textAnswer text (length out) ≡ accepted (length text)
-unfolding textAnswer require
-text-done text out h = rw (le-leb (length text) (length out) h)
 
 pub refused-written : (out : List ℕ) → 10 ≤ length out → sets out 0 refusedLine ≡ refusedLine ++ drop 10 out
 unfolding refusedLine
@@ -47,9 +45,19 @@ module _ (f : List ℕ) where
     unfolding outline
     outline-listed q = rw (e, eq-eqb (fileEnd width f) (length f) q)
 
-    pub listing-text : (view : View) (out : List ℕ) → listing width f view out ≡ putText (listingOf view (logOf width f)) out
-    unfolding listing listingAnswer putText textAnswer require
-    listing-text view out = rw e
+  module _ (out : List ℕ) (x : Written) where
+    pub print-unsound : sound width f ≡ false → x ≡ putIn refusedLine out → x ≡ putIn (outline width f) out
+    print-unsound e h = rw (outline-unsound e) h
+
+    module _ (a : sound width f ≡ true) (n : ℕ) (is : n ≡ startOf width (headerCounts f) 9) where
+      end-by : n ≡ fileEnd width f
+      end-by = is ∙ end-is width f
+
+      pub print-long : (n ≡ length f → ⊥) → x ≡ putIn refusedLine out → x ≡ putIn (outline width f) out
+      print-long ne h = rw (outline-long a (rw (← end-by) ne)) h
+
+      pub print-listed : n ≡ length f → x ≡ listing width f keeping out → x ≡ putIn (outline width f) out
+      print-listed q h = rw (outline-listed a (rw (← end-by) q), ← listing-put f out keeping a) h
 
 -- the length of every output
 pub outline-size : OutlineFits
@@ -66,8 +74,11 @@ outline-size f = go (sound width f) refl
     ]
 
 -- lent so many bytes, the call puts the whole output in front
-pub outline-printed : (f out : List ℕ) → 24492 ≤ length out
-    → (putText (outline width f) out .answer ≡ accepted (length (outline width f))) × (putText (outline width f) out .out ≡ outline width f
-    ++ drop (length (outline width f)) out)
-unfolding putText
-outline-printed f out h = let s = outline-size f in rw (text-done (outline width f) out (omega arith)) (refl, refl)
+pub outline-printed :
+    (f out : List ℕ) → 24492 ≤ length out →
+    _≡_ {A = Written} (record { answer = accepted (length (outline width f)); out = outline width f ++ drop (length (outline width f)) out })
+    (putIn (outline width f) out)
+outline-printed f out h = let s = outline-size f in put-all (outline width f) out _ refl (omega arith) _ refl
+
+---- what the code of printing needs: search printing
+pub ruleset printing = (needs, tested, print-unsound, print-long, print-listed)

@@ -7,10 +7,10 @@ use mathlib.Core.Path.{sym, _∙_, _≡_}
 use native.Mathlib.Numerals.{add-one}
 use native.Mathlib.Omega.{arith}
 use Rattle.oplog.proofs.InsertLaws.{front, front-step}
-use Rattle.order.proofs.DepthLaws.{climb-length}
-use Rattle.order.proofs.GrowLaws.{Named, named-valid}
+use Rattle.rules.proofs.ClimbLaws.{climb-length, up-last}
+use Rattle.rules.proofs.KnownLaws.{Named, named-valid}
 use Rattle.rules.proofs.StructureLaws.{GoodLog}
-use Rattle.rules.proofs.TreeLaws.{slot-below, up-last}
+use Rattle.rules.proofs.SlotLaws.{slot-below}
 use Rattle.rules.specs.File.{Log, countsOf}
 use Rattle.rules.specs.Replay.{parentsOf}
 use Rattle.rules.specs.Tree.{climb, depth, path, slots}

@@ -11,12 +11,12 @@ use mathlib.Core.Path.{ap, refl, sym, _∙_, _≡_}
 use native.Mathlib.Decide.{ℕ-discrete}
 use native.Mathlib.Nat.{le-of-suc-le-suc, not-suc-le-zero}
 use native.Mathlib.Omega.{arith}
-use Rattle.order.proofs.FuelLaws.{Depth}
-use Rattle.order.proofs.GrowLaws.{Named, named-valid}
+use Rattle.rules.proofs.ClimbLaws.{Depth, up, up-last}
+use Rattle.rules.proofs.KnownLaws.{Named, named-valid}
 use Rattle.replay.proofs.ClimbLaws.{parent-read}
 use Rattle.lists.proofs.BoolLaws.{and-both, and-left, and-right, never, or-cases, and-swap, not-not}
 use Rattle.rules.proofs.StructureLaws.{GoodLog}
-use Rattle.rules.proofs.TreeLaws.{Valid, slot-below, slot-injective, slot-root, up, up-last}
+use Rattle.rules.proofs.SlotLaws.{Valid, slot-below, slot-injective, slot-root}
 use Rattle.lists.specs.Lists.{any, isIn, upFrom}
 use Rattle.rules.specs.File.{Log, countsOf}
 use Rattle.rules.specs.Log.{known}

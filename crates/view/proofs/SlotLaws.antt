@@ -6,7 +6,7 @@ use mathlib.Core.Bool.{Bool, cond, false, true}
 use mathlib.Core.Logic.{inl, inr}
 use mathlib.Core.Path.{refl, _∙_, _≡_}
 use native.Mathlib.Omega.{arith}
-use Rattle.rules.proofs.TreeLaws.{Valid, slot-below, slot-injective, slot-root}
+use Rattle.rules.proofs.SlotLaws.{Valid, slot-below, slot-injective, slot-root}
 use Rattle.rules.specs.Tree.{slot, slotOf, slots}
 use Rattle.view.specs.Tables.{nodeAt, spot}
 

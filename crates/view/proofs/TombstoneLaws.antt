@@ -9,7 +9,7 @@ use mathlib.Core.List.{List, [], map, _∷_}
 use mathlib.Core.Path.{ap, refl, _∙_, _≡_}
 use native.Mathlib.Decide.{ℕ-discrete}
 use native.Mathlib.Omega.{arith}
-use Rattle.order.proofs.GrowLaws.{known-more, known-reads, names-node}
+use Rattle.rules.proofs.KnownLaws.{known-later, known-reads, names-node}
 use Rattle.order.proofs.LevelLaws.{counted-bound}
 use Rattle.lists.proofs.BoolLaws.{and-left, and-right}
 use Rattle.rules.proofs.ReplicaLaws.{map-replicas}
@@ -44,7 +44,7 @@ module _ (log : Log) (good : GoodLog log) where
       one s q l u lq uq = elim (ℕ-discrete (kindOf (opAt log s q)) 2) [
         | yes e ↦
             let x = good-ops good s q l u lq uq in
-            rw (known-more log (vectorOf (opAt log s q)) (countsOf log) (held-in log (vectorOf (opAt log s q)) (x .is-covered))
+            rw (known-later log (vectorOf (opAt log s q)) (countsOf log) (held-in log (vectorOf (opAt log s q)) (x .is-covered))
             (nodeOf (opAt log s q)) (names-node log (opAt log s q) (x .names) (λ k. omega arith)))
             (or-true (not (eqb (kindOf (opAt log s q)) 2)))
         | no e ↦ rw (ne-eqb (kindOf (opAt log s q)) 2 e)

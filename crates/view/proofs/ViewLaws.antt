@@ -6,7 +6,7 @@ use mathlib.Core.Bool.{_&&_, not, or-true, true}
 use mathlib.Core.List.{List}
 use mathlib.Core.Logic.{inl, inr}
 use mathlib.Core.Path.{refl, sym, _∙_, _≡_}
-use Rattle.order.proofs.GrowLaws.{Named}
+use Rattle.rules.proofs.KnownLaws.{Named}
 use Rattle.lists.proofs.BoolLaws.{and-both, and-left, and-right, and-swap}
 use Rattle.rules.proofs.StructureLaws.{GoodLog}
 use Rattle.lists.specs.Lists.{all, isIn}

@@ -6,7 +6,7 @@ use mathlib.Core.Bool.{_&&_, false, not, or-true, true}
 use mathlib.Core.List.{List, []}
 use mathlib.Core.Logic.{inl, inr}
 use mathlib.Core.Path.{refl, sym, _∙_, _≡_}
-use Rattle.order.proofs.GrowLaws.{Named, parent-reads}
+use Rattle.rules.proofs.KnownLaws.{Named, parent-reads}
 use Rattle.lists.proofs.BoolLaws.{and-left, and-right}
 use Rattle.rules.proofs.StructureLaws.{GoodLog, structural-good}
 use Rattle.lists.specs.Lists.{any, isIn}

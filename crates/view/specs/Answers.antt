@@ -1,35 +1,43 @@
--- The paper's number and values for each case of the calls' answers, and what the writer of a path asks. Assumes nothing.
-use Prim.Native.Nat.{ℕ, _+_, _<_}
+-- What the views answer and ask. Assumes nothing.
+use Prim.Native.Nat.{ℕ, _+_, _<_, _≤_}
 use mathlib.Core.Path.{_≡_}
+use mathlib.Core.Bool.{true}
 use mathlib.Core.List.{List, _++_}
 use lib.ListN.{length, getD, drop}
 use lib.Dec.{leb}
-use Rattle.rules.specs.Answer.{Answer, refused, accepted, require, ifAccepted}
+use Rattle.rules.specs.Answer.{Answer, accepted, require, ifAccepted}
+use Rattle.rules.specs.File.{width, countsOf, logOf}
+use Rattle.rules.specs.Log.{knownParent}
 use Rattle.rules.specs.Path.{Written}
+use Rattle.rules.specs.Sound.{sound}
 use Rattle.rules.specs.Views.{View, keeping, skipping}
 use Rattle.rules.specs.Tree.{slotOf, slots, parentIn, path}
-use Rattle.codec.specs.Read.{numberOf}
-use Rattle.view.specs.declared.answer.Listed.{Listed}
-use Rattle.view.specs.declared.answer.Listed.the-variants as listed
 use Rattle.view.specs.declared.answer.View as code
 use Rattle.view.specs.declared.answer.View.the-variants as view
-
-abbrev pub listedAnswer : Listed → Answer
-listedAnswer (listed.Accepted n) = accepted n
-listedAnswer (listed.Refused r) = refused (numberOf r)
 
 abbrev pub viewOf : code.View → View
 viewOf view.Keeping = keeping
 viewOf view.Skipping = skipping
 
--- a text put into lent bytes; number 8 if it does not fit
-unfoldable pub textAnswer : (text : List ℕ) (room : ℕ) → Answer
-textAnswer text room = require (leb (length text) room) 8 (accepted (length text))
+-- a text, or the entries of a path, put into lent memory; number 8 if it does not fit
+unfoldable pub putAnswer : (content : List ℕ) (room : ℕ) → Answer
+putAnswer content room = require (leb (length content) room) 8 (accepted (length content))
 
-unfoldable pub putText : (text out : List ℕ) → Written
-putText text out =
-    let a = textAnswer text (length out) in
-    record { answer = a; out = ifAccepted a (text ++ drop (length text) out) out }
+unfoldable pub putIn : (content out : List ℕ) → Written
+putIn content out =
+    let a = putAnswer content (length out) in
+    record { answer = a; out = ifAccepted a (content ++ drop (length content) out) out }
+
+-- a sound buffer, and a number that is 0 or added
+pub record Present (f : List ℕ) (n : ℕ) : Type 0 where
+  pub is-sound : sound width f ≡ true
+  pub is-known : knownParent (logOf width f) (countsOf (logOf width f)) n ≡ true
+
+-- the first entries of a tour, and marks
+pub record Arranged (order : List ℕ) (count : ℕ) (marks : List ℕ) : Type 0 where
+  pub within : count ≤ length order
+  pub few : count ≤ slots
+  pub marks-size : length marks ≡ slots
 
 -- the tables of a listing have their size
 pub record Sized (parents marks first next : List ℕ) : Type 0 where

@@ -1,12 +1,3 @@
-use codec::Refusal;
-
-// What a path and a listing answer.
-pub enum Listed {
-    // The entries of the path, or the bytes of the listing.
-    Accepted(usize),
-    Refused(Refusal),
-}
-
 // The two views of a log.
 pub enum View {
     // A node is shown if it or some node below it is unmarked.

@@ -11,7 +11,6 @@ mod printing;
 mod slots;
 mod touring;
 
-pub use answer::Listed;
 pub use answer::View;
 pub use listings::listing;
 pub use paths::path;

@@ -1,10 +1,10 @@
-use crate::answer::Listed;
 use crate::answer::View;
 use crate::lines::size_of;
 use crate::lines::write_lines;
 use crate::linking::link_view;
 use crate::marking::mark_ops;
 use crate::touring::tour;
+use codec::Answer;
 use codec::Refusal;
 use replay::replay_all;
 use replica::WIDTH;
@@ -15,8 +15,9 @@ ghost use Prim.Native.Nat.{_≤_};
 ghost use lib.ListN.{length, take};
 ghost use Rattle.rules.specs.File.{width, logOf};
 ghost use Rattle.rules.specs.Sound.{sound};
-ghost use Rattle.view.specs.Answers.{listedAnswer, viewOf};
-ghost use Rattle.view.specs.Tables.{noMarks, marksOf, orderOf};
+ghost use Rattle.codec.specs.Answers.{answerOf};
+ghost use Rattle.view.specs.Answers.{viewOf, putIn, Arranged};
+ghost use Rattle.view.specs.Tables.{noMarks, marksOf, orderOf, linesOf};
 ghost use Rattle.rules.specs.Listing as rules;
 
 // Arranges the nodes that a view shows, and marks those with a tombstone.
@@ -34,20 +35,30 @@ fn arrange(file: &[u8], view: View, marks: &mut [u8], order: &mut [u32]) -> usiz
     tour(&first, &next, order)
 }
 
+// Writes the lines of arranged nodes into lent bytes, if they are enough.
+fn put_lines(order: &[u32], count: usize, marks: &[u8], out: &mut [u8]) -> Answer
+    requires { ⌜ Arranged (now order) count (now marks) ⌝ }
+    ensures { λ r. ⌜ record { answer = answerOf r; out = now (out .exit) }
+        ≡ putIn (linesOf (now (marks .entry)) (take count (now (order .entry)))) (now (out .entry)) ⌝ }
+{
+    let size = size_of(order, count);
+    if out.len() < size {
+        return Answer::Refused(Refusal::NoRoom);
+    }
+    write_lines(order, count, marks, out);
+    Answer::Accepted(size)
+}
+
 // Writes the listing of a view into lent bytes.
-pub fn listing(file: &[u8], view: View, out: &mut [u8]) -> Listed
-    ensures { λ r. ⌜ (listedAnswer r ≡ rules.listing width (now (file .entry)) (viewOf view) (now (out .entry)) .answer) × (now (out .exit) ≡ rules.listing width (now (file .entry)) (viewOf view) (now (out .entry)) .out) ⌝ }
+pub fn listing(file: &[u8], view: View, out: &mut [u8]) -> Answer
+    ensures { λ r. ⌜ record { answer = answerOf r; out = now (out .exit) }
+        ≡ rules.listing width (now (file .entry)) (viewOf view) (now (out .entry)) ⌝ }
 {
     if !is_sound(file) {
-        return Listed::Refused(Refusal::Unsound);
+        return Answer::Refused(Refusal::Unsound);
     }
     let mut marks = [0u8; 2041];
     let mut order = [0u32; 2041];
     let count = arrange(file, view, &mut marks, &mut order);
-    let size = size_of(&order, count);
-    if out.len() < size {
-        return Listed::Refused(Refusal::NoRoom);
-    }
-    write_lines(&order, count, &marks, out);
-    Listed::Accepted(size)
+    put_lines(&order, count, &marks, out)
 }

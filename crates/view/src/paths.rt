@@ -1,4 +1,4 @@
-use crate::answer::Listed;
+use codec::Answer;
 use codec::Refusal;
 use oplog::counts_of;
 use oplog::known_parent;
@@ -13,7 +13,8 @@ ghost use Prim.Native.Nat.{_+_, _<_};
 ghost use lib.ListN.{length, drop};
 ghost use Rattle.rules.specs.File.{width};
 ghost use Rattle.rules.specs.Path.{pathCall};
-ghost use Rattle.view.specs.Answers.{listedAnswer, Way};
+ghost use Rattle.codec.specs.Answers.{answerOf};
+ghost use Rattle.view.specs.Answers.{putIn, Way, Present};
 ghost use Rattle.rules.specs.Tree as tree;
 
 // Writes a node, its parent, and so on to the root.
@@ -30,24 +31,43 @@ fn write_path(parents: &[u16], node: u16, steps: usize, out: &mut [u16])
     out[steps] = at;
 }
 
-// Puts the path of a node into lent entries.
-pub fn path(file: &[u8], node: u16, out: &mut [u16]) -> Listed
-    ensures { λ r. ⌜ (listedAnswer r ≡ pathCall width (now (file .entry)) node (now (out .entry)) .answer) × (now (out .exit) ≡ pathCall width (now (file .entry)) node (now (out .entry)) .out) ⌝ }
+// Puts the path of a node into lent entries, if they are enough.
+fn put_path(parents: &[u16], node: u16, out: &mut [u16]) -> Answer
+    requires { ⌜ Way (now parents) node (tree.depth (now parents) node) ⌝ }
+    ensures { λ r. ⌜ record { answer = answerOf r; out = now (out .exit) }
+        ≡ putIn (tree.path (now (parents .entry)) node) (now (out .entry)) ⌝ }
 {
-    if !is_sound(file) {
-        return Listed::Refused(Refusal::Unsound);
+    let steps = depth_of(parents, node);
+    if out.len() <= steps {
+        return Answer::Refused(Refusal::NoRoom);
     }
-    let counts = counts_of(file, WIDTH);
-    if !known_parent(file, counts, node, WIDTH) {
-        return Listed::Refused(Refusal::Unknown);
-    }
+    write_path(parents, node, steps, out);
+    Answer::Accepted(steps + 1)
+}
+
+// The same in the present tree, of a node that is known.
+fn put_path_now(file: &[u8], node: u16, out: &mut [u16]) -> Answer
+    requires { ⌜ Present (now file) node ⌝ }
+    ensures { λ r. ⌜ record { answer = answerOf r; out = now (out .exit) }
+        ≡ pathCall width (now (file .entry)) node (now (out .entry)) ⌝ }
+{
     let mut parents = [0u16; 2041];
     let mut outcomes = [0u8; 2041];
     replay_all(file, &mut parents, &mut outcomes, WIDTH);
-    let steps = depth_of(&parents, node);
-    if out.len() <= steps {
-        return Listed::Refused(Refusal::NoRoom);
+    put_path(&parents, node, out)
+}
+
+// Puts the path of a node into lent entries.
+pub fn path(file: &[u8], node: u16, out: &mut [u16]) -> Answer
+    ensures { λ r. ⌜ record { answer = answerOf r; out = now (out .exit) }
+        ≡ pathCall width (now (file .entry)) node (now (out .entry)) ⌝ }
+{
+    if !is_sound(file) {
+        return Answer::Refused(Refusal::Unsound);
     }
-    write_path(&parents, node, steps, out);
-    Listed::Accepted(steps + 1)
+    let counts = counts_of(file, WIDTH);
+    if !known_parent(file, counts, node, WIDTH) {
+        return Answer::Refused(Refusal::Unknown);
+    }
+    put_path_now(file, node, out)
 }

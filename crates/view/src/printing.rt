@@ -1,6 +1,6 @@
-use crate::answer::Listed;
 use crate::answer::View;
 use crate::listings::listing;
+use codec::Answer;
 use codec::Refusal;
 use oplog::end_of;
 use replica::WIDTH;
@@ -8,15 +8,16 @@ use replica::is_sound;
 ghost use mathlib.Core.Path.{_≡_};
 ghost use Rattle.rules.specs.File.{width};
 ghost use Rattle.rules.specs.Listing.{refusedLine};
-ghost use Rattle.view.specs.Answers.{listedAnswer, putText};
+ghost use Rattle.codec.specs.Answers.{answerOf};
+ghost use Rattle.view.specs.Answers.{putIn};
 ghost use Rattle.rules.specs.Listing as rules;
 
 // Writes the line of a refused input.
-fn refuse(out: &mut [u8]) -> Listed
-    ensures { λ r. ⌜ (listedAnswer r ≡ putText refusedLine (now (out .entry)) .answer) × (now (out .exit) ≡ putText refusedLine (now (out .entry)) .out) ⌝ }
+fn refuse(out: &mut [u8]) -> Answer
+    ensures { λ r. ⌜ record { answer = answerOf r; out = now (out .exit) } ≡ putIn refusedLine (now (out .entry)) ⌝ }
 {
     if out.len() < 10 {
-        return Listed::Refused(Refusal::NoRoom);
+        return Answer::Refused(Refusal::NoRoom);
     }
     out[0] = b'r';
     out[1] = b'e';
@@ -28,13 +29,14 @@ fn refuse(out: &mut [u8]) -> Listed
     out[7] = b' ';
     out[8] = b'1';
     out[9] = b'\n';
-    Listed::Accepted(10)
+    Answer::Accepted(10)
 }
 
 // Writes what the program prints for an input: the keeping view of its log, or that it is
 // refused. No output has more than 24,492 bytes.
-pub fn outline(input: &[u8], out: &mut [u8]) -> Listed
-    ensures { λ r. ⌜ (listedAnswer r ≡ putText (rules.outline width (now (input .entry))) (now (out .entry)) .answer) × (now (out .exit) ≡ putText (rules.outline width (now (input .entry))) (now (out .entry)) .out) ⌝ }
+pub fn outline(input: &[u8], out: &mut [u8]) -> Answer
+    ensures { λ r. ⌜ record { answer = answerOf r; out = now (out .exit) }
+        ≡ putIn (rules.outline width (now (input .entry))) (now (out .entry)) ⌝ }
 {
     if !is_sound(input) {
         return refuse(out);

@@ -1,17 +1,18 @@
 -- `outline_c::calls::outline_deliver` meets its contract. Assumes nothing.
-use mathlib.Core.Path.{ap, _∙_}
-use borrow.Author.Needs.{needs}
-use Rattle.outline_c.specs.Number.{number}
-use Rattle.outline_c.proofs.FitLaws.{deliver-fits}
 use native.Mathlib.Omega.{arith}
+use borrow.Author.Needs.{needs}
+use Rattle.outline_c.proofs.NumberCases.{numbering, delivered-fits}
 use Rattle.outline_c.proofs.calls.outline_deliver.Statement.{statement}
 use Rattle.outline_c.proofs.calls.outline_deliver.Tie as tie
 
-delivery-number-requires : tie.Need-delivery-number-requires
-delivery-number-requires c κs = rw (c .before .before .deliver .ensures .0) (deliver-fits _ _ (omega arith))
-
-returns : tie.Need-returns
-returns c = let e = c .before .before .before .deliver .ensures in (c .delivery-number .ensures ∙ ap number (e .0), e .1)
+number-requires : tie.Need-number-requires
+number-requires c κs = delivered-fits _ _ _ _ (c .before .before .deliver .ensures) (omega arith)
 
 pub outline-deliver-spec : {M : Type 1} → statement M
-outline-deliver-spec = tie.close (tie.spec (λ c κs. search needs) delivery-number-requires (λ c. search needs) returns)
+outline-deliver-spec =
+    tie.close
+    (tie.spec
+    (λ c κs. search needs)
+    number-requires
+    (λ c. search needs)
+    (λ c. search numbering))

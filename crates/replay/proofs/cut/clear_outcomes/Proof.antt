@@ -1,5 +1,6 @@
 -- `replay::cut::clear_outcomes` meets its contract. Assumes nothing.
-use Rattle.replay.proofs.CutLaws.{cutting, Filled}
+use Rattle.replay.proofs.CutLaws.{cutting}
+use Rattle.lists.proofs.ListLaws.{Filled}
 use Prim.Native.Nat.{_-_}
 use Rattle.rules.specs.Tree.{slots}
 use Rattle.replay.proofs.cut.clear_outcomes.Statement.{statement}

@@ -1,5 +1,6 @@
 -- `replay::cut::clear_parents` meets its contract. Assumes nothing.
-use Rattle.replay.proofs.CutLaws.{cutting, Filled}
+use Rattle.replay.proofs.CutLaws.{cutting}
+use Rattle.lists.proofs.ListLaws.{Filled}
 use Prim.Native.Nat.{_-_}
 use native.Mathlib.Omega.{arith}
 use lib.ListN.{length-set}

@@ -2,17 +2,16 @@
 use denote.Ref.{now}
 use lib.Seq.{length-sets, lt-length-sets}
 use mathlib.Core.List.{[], _∷_}
-use mathlib.Core.Path.{refl}
+use mathlib.Core.Path.{sym}
 use native.Mathlib.Omega.{arith}
 use Rattle.rules.specs.Listing.{refusedLine}
-use Rattle.view.proofs.OutlineCases.{refused-size, refused-written, text-done, text-short}
+use Rattle.view.proofs.OutlineCases.{refused-size, refused-written}
+use Rattle.view.proofs.PutCases.{put-all, put-short}
 use Rattle.view.proofs.printing.refuse.Statement.{statement}
-use Rattle.view.specs.Answers.{putText}
 use Rattle.view.proofs.printing.refuse.Tie as tie
 
 returns : tie.Need-returns
-unfolding putText
-returns c = rw (text-short refusedLine (now (c .before .args .out)) (rw refused-size (c .if1 .taken))) (refl, refl)
+returns c = put-short refusedLine _ 10 (sym refused-size) (c .if1 .taken)
 
 slice-write-out-2 : tie.Need-slice-write-out-2
 slice-write-out-2 c = lt-length-sets (now (c .before .args .out)) 0 (114 ∷ []) (omega (arith, c .if1 .left))
@@ -45,8 +44,8 @@ same-length : tie.Need-same-length
 same-length c = length-sets (now (c .before .args .out)) 0 (114 ∷ 101 ∷ 102 ∷ 117 ∷ 115 ∷ 101 ∷ 100 ∷ 32 ∷ 49 ∷ 10 ∷ [])
 
 returns-2 : tie.Need-returns-2
-unfolding putText refusedLine
-returns-2 c = rw (text-done refusedLine (now (c .before .args .out)) (c .if1 .left)) (refl, refused-written (now (c .before .args .out)) (c .if1 .left))
+unfolding refusedLine
+returns-2 c = put-all refusedLine _ 10 (sym refused-size) (c .if1 .left) _ (refused-written (now (c .before .args .out)) (c .if1 .left))
 
 pub refuse-spec : {M : Type 1} → statement M
 refuse-spec =

@@ -1,0 +1,49 @@
+ghost use mathlib.Core.Path.{_≡_};
+ghost use Rattle.codec.specs.Answers.{answerOf, isAccepted};
+
+// Why a call is refused: a case for each of the document's numbers.
+pub enum Refusal {
+    // 1: the log is not sound.
+    Unsound,
+    // 2: lent or delivered memory has the wrong length.
+    Length,
+    // 3: a replica or an op out of form.
+    Malformed,
+    // 4: another op of this replica and sequence is held.
+    Conflict,
+    // 5: the op's vector counts what is not held.
+    Early,
+    // 6: the op's vector is not closed.
+    NotClosed,
+    // 7: a node that is not known.
+    Unknown,
+    // 8: no room.
+    NoRoom,
+    // 9: the replica has issued all its ops.
+    Exhausted,
+    // 10: the new parent lies below the node.
+    Cycle,
+}
+
+// What a call answers.
+pub enum Answer {
+    Refused(Refusal),
+    // The op was held already.
+    HadIt,
+    // Judging is done.
+    Done,
+    // The new file end, the entries of a path, or the bytes of a listing.
+    Accepted(usize),
+}
+
+// Whether a call was accepted.
+pub fn is_accepted(answer: Answer) -> bool
+    ensures { λ r. ⌜ r ≡ isAccepted (answerOf answer) ⌝ }
+{
+    match answer {
+        Answer::Refused(_) => false,
+        Answer::HadIt => false,
+        Answer::Done => false,
+        Answer::Accepted(_) => true,
+    }
+}

@@ -1,0 +1,55 @@
+-- The claims, proved.
+use Rattle.order.specs.Claims.{BoundsFree, Decimals, Listings, OneFile, Ordered, PartsAlike}
+use Rattle.order.proofs.LevelLaws.{Cut, equation}
+use Rattle.rules.specs.File.{Log, countsOf, logOf}
+use Rattle.rules.proofs.ExtendLaws.{alike-more, replay-alike}
+use Rattle.order.proofs.DecimalLaws.{decimal-any, decimal-digits, decimal-first, decimal-number}
+use Rattle.rules.proofs.FileLaws.{fileOf-logOf, header-bytes}
+use Rattle.rules.proofs.StructureLaws.{good-ops, laid-reads, structural-good, structural-laid}
+use Rattle.order.proofs.LastLaws.{greatest-last}
+use Rattle.order.proofs.TourLaws.{listing-size, preorder-is, preorder-once}
+use Rattle.order.proofs.OnceLaws.{ordered-once}
+use Rattle.rules.proofs.KnownLaws.{parent-reads}
+use Rattle.order.proofs.FuelLaws.{path-fuel, preorder-fuel}
+use Rattle.rules.specs.Tree.{slots}
+
+pub one-file : OneFile
+one-file w f bytes s =
+    let h = laid-reads w f (structural-laid w f s) in
+    fileOf-logOf w f (header-bytes w f bytes (h .starts) (h .header))
+
+pub in-order : Ordered
+in-order w f s cut cv cl =
+    let log : Log = logOf w f in
+    let good = structural-good w f s in
+    let is : Cut log cut = record { is-covered = cv; is-closed = cl } in
+    record { once = ordered-once log good cut is; latest = greatest-last log good cut is }
+
+pub parts-alike : PartsAlike
+parts-alike w f more s x cut cv cl =
+    let log : Log = logOf w f in
+    replay-alike log more (good-ops (structural-good w f s)) cut (alike-more log more x cut cv cl)
+
+pub bounds-free : BoundsFree
+bounds-free w f s =
+    let log : Log = logOf w f in
+    let good = structural-good w f s in
+    record {
+      times = equation log good;
+      paths = λ n k. path-fuel log good n (parent-reads log (countsOf log) n k);
+      listings = preorder-fuel log good;
+    }
+
+pub listings : Listings
+listings w f s =
+    let log : Log = logOf w f in
+    let good = structural-good w f s in
+    record { once = preorder-once log good slots; every = preorder-is log good; size = listing-size log good }
+
+pub decimals : Decimals
+decimals n small = record {
+  value = decimal-number n small;
+  are-digits = decimal-digits n;
+  first = λ l. decimal-first n l small;
+  unbounded = λ k l. decimal-any k n l small;
+}

@@ -1,0 +1,100 @@
+-- The cases of numbers handed over, as the code meets them. Assumes nothing.
+use Prim.Native.Nat.{ℕ, _+_, _≤_}
+use borrow.Author.Needs.{needs}
+use lib.ListN.{length}
+use mathlib.Core.List.{List}
+use mathlib.Core.Path.{_≡_, ap}
+use Rattle.codec.specs.Answers.{answerOf, numberOf}
+use Rattle.codec.specs.declared.answer.Answer.the-variants.{Refused, HadIt, Done, Accepted}
+use Rattle.codec.specs.declared.answer.Refusal.{Refusal}
+use Rattle.rules.specs.Answer.{Answer}
+use Rattle.rules.specs.Deliver.{Result, make, deliver}
+use Rattle.rules.specs.Issue.{Issued, Request, issue}
+use Rattle.rules.specs.Judge.{Judgement, judge}
+use Rattle.rules.specs.Listing.{listing}
+use Rattle.rules.specs.File.{width}
+use Rattle.rules.specs.Path.{Written, pathCall}
+use Rattle.rules.specs.Views.{View}
+use Rattle.outline_c.specs.Number.{number, fits, ofResult, ofIssued, ofJudgement, ofWritten}
+use Rattle.outline_c.proofs.FitLaws.{make-fits, deliver-fits, issue-fits, judge-fits, path-fits, listing-fits, value-fits}
+use Rattle.codec.specs.declared.answer.Answer as code
+
+---- the number of an answer
+
+module _ (a : code.Answer) where
+  pub refused-number : (why : Refusal) → a ≡ Refused why → (n : ℕ) → n ≡ numberOf why → n ≡ number (answerOf a)
+  unfolding number
+  refused-number why e n h = rw e h
+
+  pub had-it-number : a ≡ HadIt → 16 ≡ number (answerOf a)
+  unfolding number
+  had-it-number e = rw e
+
+  pub done-number : a ≡ Done → 17 ≡ number (answerOf a)
+  unfolding number
+  done-number e = rw e
+
+  module _ (n : ℕ) (e : a ≡ Accepted n) where
+    pub accepted-number : 256 + n ≡ number (answerOf a)
+    unfolding number
+    accepted-number = rw e
+
+    pub accepted-fits : fits (answerOf a) → n ≤ 9223372036854775807
+    accepted-fits h = value-fits (answerOf a) n (ap answerOf e) h
+
+---- what a call hands over; a is its answer and n the number of it
+
+module _ (a : Answer) (n : ℕ) (is : n ≡ number a) where
+  pub result-over : (b : List ℕ) (x : Result) → record { answer = a; buffer = b } ≡ x → (n, b) ≡ ofResult x
+  result-over b x e = rw is (ap ofResult e)
+
+  pub issued-over : (b o : List ℕ) (x : Issued) → record { answer = a; buffer = b; out = o } ≡ x → (n, b, o) ≡ ofIssued x
+  issued-over b o x e = rw is (ap ofIssued e)
+
+  pub judgement-over : (p o : List ℕ) (x : Judgement) → record { answer = a; parents = p; outcomes = o } ≡ x → (n, p, o) ≡ ofJudgement x
+  judgement-over p o x e = rw is (ap ofJudgement e)
+
+  pub written-over : (o : List ℕ) (x : Written) → record { answer = a; out = o } ≡ x → (n, o) ≡ ofWritten x
+  written-over o x e = rw is (ap ofWritten e)
+
+  pub listing-over :
+      (f out o : List ℕ) (v w : View) → v ≡ w → record { answer = a; out = o } ≡ listing width f v out →
+      (n, o) ≡ ofWritten (listing width f w out)
+  listing-over f out o v w h e = rw (← h) (written-over o (listing width f v out) e)
+
+---- and its answer fits
+
+module _ (a : Answer) where
+  pub made-fits : (f b : List ℕ) → record { answer = a; buffer = b } ≡ make width f → fits a
+  made-fits f b e = rw (ap (λ (x : Result). x .answer) e) (make-fits f)
+
+  pub delivered-fits :
+      (f op b : List ℕ) → record { answer = a; buffer = b } ≡ deliver width f op → length f ≤ 9223372036854775807 → fits a
+  delivered-fits f op b e h = rw (ap (λ (x : Result). x .answer) e) (deliver-fits f op h)
+
+  pub issued-fits :
+      (f out b o : List ℕ) (s : ℕ) (q : Request) → record { answer = a; buffer = b; out = o } ≡ issue width f out s q →
+      length f ≤ 9223372036854775807 → fits a
+  issued-fits f out b o s q e h = rw (ap (λ (x : Issued). x .answer) e) (issue-fits f (length out) s q h)
+
+  pub judged-fits : (f p o x y : List ℕ) → record { answer = a; parents = x; outcomes = y } ≡ judge width f p o → fits a
+  judged-fits f p o x y e = rw (ap (λ (x : Judgement). x .answer) e) (judge-fits f p o)
+
+  pub path-written :
+      (f : List ℕ) (n : ℕ) (out o : List ℕ) → record { answer = a; out = o } ≡ pathCall width f n out →
+      length out ≤ 9223372036854775807 → fits a
+  path-written f n out o e h = rw (ap (λ (x : Written). x .answer) e) (path-fits f n out h)
+
+  pub listing-written :
+      (f : List ℕ) (v : View) (out o : List ℕ) → record { answer = a; out = o } ≡ listing width f v out →
+      length out ≤ 9223372036854775807 → fits a
+  listing-written f v out o e h = rw (ap (λ (x : Written). x .answer) e) (listing-fits f v out h)
+
+---- what the code of numbers needs: search numbering
+pub ruleset answers = (refused-number, had-it-number, done-number, accepted-number, accepted-fits)
+
+pub ruleset handing = (result-over, issued-over, judgement-over, written-over, listing-over)
+
+pub ruleset fitting = (made-fits, delivered-fits, issued-fits, judged-fits, path-written, listing-written)
+
+pub ruleset numbering = (needs, answers, handing, fitting)

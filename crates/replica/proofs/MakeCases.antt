@@ -1,0 +1,32 @@
+-- The cases of making, as the code meets them. Assumes nothing.
+use mathlib.Core.Path.{_≡_, _∙_}
+use mathlib.Core.List.{List, [], _++_, append-assoc}
+use Prim.Native.Nat.{ℕ, _≤_, _<_}
+use lib.ListN.{length, replicate, drop}
+use borrow.Author.Needs.{needs}
+use borrow.Author.Tests.{le-leb, lt-leb}
+use Rattle.rules.specs.Answer.{accepted, refused, require}
+use Rattle.lists.specs.Lists.{concat}
+use Rattle.rules.specs.Deliver.{Result, make, makeAnswer, makeBuffer}
+use Rattle.rules.specs.File.{width, countsOf, emptyLog, fileOf, headerOf}
+
+empty-file : (w : ℕ) (t : List ℕ) → headerOf w (replicate 8 0) ++ t ≡ fileOf w emptyLog ++ t
+unfolding fileOf countsOf emptyLog concat
+empty-file w t = rw (append-assoc (headerOf w (replicate 8 0)) [] t)
+
+module _ (f : List ℕ) where
+  abbrev made : (n : ℕ) → Result
+  made n = record { answer = refused n; buffer = f }
+
+  pub made-short : length f < 32 → made 8 ≡ make width f
+  unfolding makeAnswer makeBuffer require
+  made-short h = rw (lt-leb 32 (length f) h)
+
+  pub made-long :
+      32 ≤ length f → (b : List ℕ) → b ≡ headerOf width (replicate 8 0) ++ drop 32 f →
+      _≡_ {A = Result} (record { answer = accepted 32; buffer = b }) (make width f)
+  unfolding makeAnswer makeBuffer require
+  made-long h b e = rw (le-leb 32 (length f) h, e ∙ empty-file width (drop 32 f))
+
+---- what the code of making needs: search making
+pub ruleset making = (needs, made-short, made-long)

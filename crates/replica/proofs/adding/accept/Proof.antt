@@ -1,0 +1,14 @@
+-- `replica::adding::accept` meets its contract. Assumes nothing.
+use borrow.Author.Needs.{needs}
+use Rattle.replica.proofs.SoundCases.{append-asks}
+use Rattle.replica.proofs.adding.accept.Statement.{statement}
+use Rattle.replica.proofs.adding.accept.Tie as tie
+
+pub accept-spec : {M : Type 1} → statement M
+accept-spec =
+    tie.close
+    (tie.spec
+    (λ c κs. search needs)
+    (λ c κs. append-asks _ _ _ (search needs) _ (c .widen .ensures))
+    (λ c. search needs)
+    (λ c. search needs))

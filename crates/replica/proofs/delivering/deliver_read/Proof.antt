@@ -1,0 +1,17 @@
+-- `replica::delivering::deliver_read` meets its contract. Assumes nothing.
+use borrow.Author.Needs.{needs}
+use Rattle.replica.proofs.DeliverCases.{delivering}
+use Rattle.replica.proofs.delivering.deliver_read.Statement.{statement}
+use Rattle.replica.proofs.delivering.deliver_read.Tie as tie
+
+pub deliver-read-spec : {M : Type 1} → statement M
+deliver-read-spec =
+    tie.close
+    (tie.spec
+    (λ c κs. search needs)
+    (λ c κs. search needs)
+    (λ c. search needs)
+    (λ c. search delivering)
+    (λ c κs. search delivering)
+    (λ c. search needs)
+    (λ c. search delivering))

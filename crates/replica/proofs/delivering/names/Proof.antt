@@ -1,0 +1,23 @@
+-- `replica::delivering::names` meets its contract. Assumes nothing.
+use Rattle.rules.specs.Op.{nodeNumber}
+use Rattle.replica.specs.Delivering.{namesIn}
+use mathlib.Core.Path.{_∙_}
+use borrow.Author.Needs.{needs}
+use Rattle.replica.proofs.delivering.names.Statement.{statement}
+use Rattle.replica.proofs.delivering.names.Tie as tie
+
+returns : tie.Need-returns
+unfolding namesIn nodeNumber
+returns c = c .names-known .ensures ∙ rw (c .before .before .small .ensures .0, c .before .small2 .ensures .0)
+
+pub names-spec : {M : Type 1} → statement M
+names-spec =
+    tie.close
+    (tie.spec
+    (λ c κs. search needs)
+    (λ c. search needs)
+    (λ c κs. search needs)
+    (λ c. search needs)
+    (λ c. search needs)
+    (λ c κs. search needs)
+    returns)

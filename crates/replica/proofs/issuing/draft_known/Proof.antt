@@ -1,0 +1,18 @@
+-- `replica::issuing::draft_known` meets its contract. Assumes nothing.
+use borrow.Author.Needs.{needs}
+use Rattle.replica.proofs.IssueCases.{issuing}
+use Rattle.replica.proofs.issuing.draft_known.Statement.{statement}
+use Rattle.replica.proofs.issuing.draft_known.Tie as tie
+
+pub draft-known-spec : {M : Type 1} → statement M
+draft-known-spec =
+    tie.close
+    (tie.spec
+    (λ c. search needs)
+    (λ c κs. search needs)
+    (λ c. search needs)
+    (λ c. search needs)
+    (λ c κs. search issuing)
+    (λ c. search issuing)
+    (λ c. search issuing)
+    (λ c. search issuing))

@@ -1,0 +1,14 @@
+-- `replica::issuing::draft_move` meets its contract. Assumes nothing.
+use borrow.Author.Needs.{needs}
+use Rattle.replica.proofs.IssueCases.{issuing}
+use Rattle.replica.proofs.issuing.draft_move.Statement.{statement}
+use Rattle.replica.proofs.issuing.draft_move.Tie as tie
+
+pub draft-move-spec : {M : Type 1} → statement M
+draft-move-spec =
+    tie.close
+    (tie.spec
+    (λ c κs. search needs)
+    (λ c. search issuing)
+    (λ c κs. search needs)
+    (λ c. search issuing))

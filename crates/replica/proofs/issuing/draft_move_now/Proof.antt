@@ -1,0 +1,16 @@
+-- `replica::issuing::draft_move_now` meets its contract. Assumes nothing.
+use borrow.Author.Needs.{needs}
+use Rattle.replica.proofs.IssueCases.{issuing}
+use Rattle.replica.proofs.issuing.draft_move_now.Statement.{statement}
+use Rattle.replica.proofs.issuing.draft_move_now.Tie as tie
+
+pub draft-move-now-spec : {M : Type 1} → statement M
+draft-move-now-spec =
+    tie.close
+    (tie.spec
+    (λ c. search needs)
+    (λ c. search needs)
+    (λ c κs. search issuing)
+    (λ c. search needs)
+    (λ c κs. search issuing)
+    (λ c. search issuing))

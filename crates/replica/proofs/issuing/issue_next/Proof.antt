@@ -1,0 +1,19 @@
+-- `replica::issuing::issue_next` meets its contract. Assumes nothing.
+use borrow.Author.Needs.{needs}
+use Rattle.replica.proofs.IssueCases.{issuing}
+use Rattle.replica.proofs.issuing.issue_next.Statement.{statement}
+use Rattle.replica.proofs.issuing.issue_next.Tie as tie
+
+pub issue-next-spec : {M : Type 1} → statement M
+issue-next-spec =
+    tie.close
+    (tie.spec
+    (λ c κs. search needs)
+    (λ c. search needs)
+    (λ c κs. search issuing)
+    (λ c. search needs)
+    (λ c. search needs)
+    (λ c. search needs)
+    (λ c. search issuing)
+    (λ c. search needs)
+    (λ c. search issuing))

@@ -1,0 +1,29 @@
+-- The last test of an op and its addition, as delivering and issuing share them. Assumes nothing.
+use Prim.Native.Nat.{ℕ, _+_, _<_, _≤_}
+use mathlib.Core.Path.{_≡_}
+use mathlib.Core.Bool.{true}
+use mathlib.Core.List.{List}
+use lib.ListN.{length}
+use lib.Dec.{leb}
+use Rattle.rules.specs.Answer.{Answer, accepted, require}
+use Rattle.rules.specs.File.{width, countsOf, fileEnd, logOf}
+use Rattle.rules.specs.Op.{Vector, countIn, isReplica, replicaOf}
+use Rattle.rules.specs.Sound.{sound}
+
+-- number 8: room for one op more; the answer is the new file end
+unfoldable pub lastTest : List ℕ → Answer
+lastTest f = require (leb (fileEnd width f + width) (length f)) 8 (accepted (fileEnd width f + width))
+
+-- a sound buffer and its counts
+pub record Tallied (f : List ℕ) (u : Vector) : Type 0 where
+  pub is-sound : sound width f ≡ true
+  pub counts : u ≡ countsOf (logOf width f)
+
+-- a sound buffer with room, and an op of replica s, which may have one more
+pub record Acceptable (f : List ℕ) (s : ℕ) (op : List ℕ) : Type 0 where
+  pub is-sound : sound width f ≡ true
+  pub is-replica : isReplica s ≡ true
+  pub count : countIn (countsOf (logOf width f)) s < 255
+  pub origin : s ≡ replicaOf op
+  pub long : length op ≡ width
+  pub room : fileEnd width f + width ≤ length f
