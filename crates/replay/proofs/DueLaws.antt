@@ -17,7 +17,7 @@ use Rattle.order.specs.Levels.{entry}
 use Rattle.rules.proofs.KnownLaws.{kinds}
 use Rattle.oplog.specs.Spots.{Spot, placeOf}
 use Rattle.oplog.proofs.FieldLaws.{kind-is, spot-of}
-use Rattle.replay.specs.Tables.{Applicable, Bottom, ReplayableAt, SoundAt, Top, classOf, dueAt, stampedAt}
+use Rattle.replay.specs.Tables.{Applicable, Bottom, ReplayableAt, StructuralAt, Top, classOf, dueAt, stampedAt}
 use Rattle.replay.proofs.HeldLaws.{held-op}
 
 ---- the class of a kind
@@ -50,7 +50,7 @@ due-zero log next k s q is z =
     go true n = refl
     go false n = refl
 
-module _ (w : ℕ) (f : List ℕ) (next : Vector) (s : ℕ) (x : SoundAt w f next s) (q : ℕ) (is : q ≡ getD next (s - 1) 0) (nz : q ≡ 0 → ⊥) where
+module _ (w : ℕ) (f : List ℕ) (next : Vector) (s : ℕ) (x : StructuralAt w f next s) (q : ℕ) (is : q ≡ getD next (s - 1) 0) (nz : q ≡ 0 → ⊥) where
   pub due-spot : Spot w f s q
   unfolding countIn
   due-spot = let a = x .at in spot-of w f next (a .counted) s q (a .low) (a .high) (omega (arith, nz)) (omega arith)
@@ -114,10 +114,10 @@ module _ (log : Log) (t : ℕ) (next : Vector) (k s : ℕ) where
 pub due-applies : (w : ℕ) (f : List ℕ) (next : Vector) (k s : ℕ) (p o l : List ℕ) → ReplayableAt w f next s p o l → (q : ℕ)
     → q ≡ dueAt (logOf w f) next k s → (q ≡ 0 → ⊥) → Applicable w f s q p o l
 due-applies w f next k s p o l x q is nz =
-    let a = x .sound .at in
+    let a = x .source .at in
     let m = due-least (logOf w f) next k s in
     record {
-      is-structural = x .sound .is-structural;
+      is-structural = x .source .is-structural;
       spot = spot-of w f next (a .counted) s q (a .low) (a .high) (omega (arith, nz)) (omega arith);
       sized = x .sized;
     }

@@ -95,7 +95,7 @@ module _ (w : ℕ) (f : List ℕ) (next : Vector) (high low : ℕ) (p₀ o₀ l�
 
   pub entry-asks : (i : ℕ) → i < 9 - low → (p o l : List ℕ) → Sized p o l → ReplayableAt w f next (8 - i) p o l
   entry-asks i h p o l z = record {
-    sound = record {
+    source = record {
       is-structural = x .all .is-structural;
       at = record { counted = x .all .counted; low = omega (arith, x .bottom .least); high = omega arith };
     };

@@ -43,13 +43,13 @@ pub record CountedAt (w : ℕ) (f : List ℕ) (v : Vector) (s : ℕ) : Type 0 wh
   pub high : s ≤ 8
 
 -- the same of a structurally sound file
-pub record SoundAt (w : ℕ) (f : List ℕ) (v : Vector) (s : ℕ) : Type 0 where
+pub record StructuralAt (w : ℕ) (f : List ℕ) (v : Vector) (s : ℕ) : Type 0 where
   pub is-structural : structural w f ≡ true
   pub at : CountedAt w f v s
 
 -- and its op can be applied to the tables
 pub record ReplayableAt (w : ℕ) (f : List ℕ) (v : Vector) (s : ℕ) (p o l : List ℕ) : Type 0 where
-  pub sound : SoundAt w f v s
+  pub source : StructuralAt w f v s
   pub sized : Sized p o l
 
 -- the ops that a vector counts can be applied to the tables

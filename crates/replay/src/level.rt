@@ -11,7 +11,7 @@ ghost use Rattle.rules.specs.File.{logOf};
 ghost use Rattle.rules.specs.Replay.{step};
 ghost use Rattle.rules.specs.Tree.{slots};
 ghost use Rattle.order.specs.Levels.{entry, levelKind, level, levels, nothing};
-ghost use Rattle.replay.specs.Tables.{tables, SoundAt, ReplayableAt, ReplayableIn, Replayable, Top, Bottom, classOf, dueAt};
+ghost use Rattle.replay.specs.Tables.{tables, StructuralAt, ReplayableAt, ReplayableIn, Replayable, Top, Bottom, classOf, dueAt};
 
 // The class of a kind, in the order in which ops of one timestamp are judged: adds, removes,
 // upward moves, downward moves. Any other kind is in none of them.
@@ -39,7 +39,7 @@ fn class_of(kind: u8) -> u8
 
 // The number of the op of a replica that is ready, if it is of this class; else 0.
 fn due(file: &[u8], next: [u8; 8], class: u8, s: usize, width: usize) -> usize
-    requires { ⌜ SoundAt width (now file) next s ⌝ }
+    requires { ⌜ StructuralAt width (now file) next s ⌝ }
     ensures { λ r. ⌜ r ≡ dueAt (logOf width (now (file .entry))) next class s ⌝ }
 {
     let q = widen(next[s - 1]);
