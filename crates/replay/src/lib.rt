@@ -8,7 +8,9 @@ mod tree;
 
 pub use cut::replay_all;
 pub use cut::replay_cut;
+pub use tree::NO_PARENT;
 pub use tree::SLOTS;
 pub use tree::below;
 pub use tree::depth_of;
+pub use tree::move_kind;
 pub use tree::slot_of;

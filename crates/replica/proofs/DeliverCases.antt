@@ -34,7 +34,7 @@ use Rattle.codec.proofs.AnswerLaws.{accepted-with, if-accepted, if-not-accepted
 use Rattle.codec.proofs.ReadLaws.{reads}
 use Rattle.replica.specs.Adding.{lastTest, Acceptable}
 use Rattle.replica.specs.Delivering.{namesIn, Readable, Again, Fresh}
-use Rattle.replica.proofs.SoundCases.{laid-of, tallied}
+use Rattle.soundness.proofs.SoundCases.{laid-of, tallied}
 
 -- what a call hands back
 abbrev handed : Answer → (buffer : List ℕ) → Result

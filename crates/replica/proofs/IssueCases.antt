@@ -31,7 +31,8 @@ use Rattle.replica.specs.declared.request.Draft.{Draft}
 use Rattle.replica.specs.declared.request.Drafted.{Drafted}
 use Rattle.replica.specs.declared.request.Drafted.the-variants.{Op, Refused}
 use Rattle.replica.specs.declared.request.Request.the-variants.{Add, Remove, Move}
-use Rattle.replica.proofs.SoundCases.{counted, has-room, tallied}
+use Rattle.soundness.proofs.SoundCases.{counted, tallied}
+use Rattle.replica.proofs.AddCases.{has-room}
 use Rattle.rules.specs.Issue as rules
 use Rattle.replica.specs.declared.request.Request as code
 

@@ -13,7 +13,8 @@ use Rattle.rules.specs.Op.{Op, Vector, countIn, isReplica, nodeNumber}
 use Rattle.rules.specs.Replay.{parentsOf}
 use Rattle.rules.specs.Sound.{sound}
 use Rattle.codec.specs.declared.answer.Refusal.the-variants.{Unknown, Exhausted, Cycle}
-use Rattle.replica.specs.Adding.{lastTest, Tallied}
+use Rattle.replica.specs.Adding.{lastTest}
+use Rattle.soundness.specs.Asked.{Tallied}
 use Rattle.replica.specs.declared.request.Draft.{Draft}
 use Rattle.replica.specs.declared.request.Drafted.{Drafted}
 use Rattle.replica.specs.declared.request.Request.the-variants.{Add, Remove, Move}

@@ -1,7 +1,8 @@
 -- `replica::adding::last_test` meets its contract. Assumes nothing.
 use native.Mathlib.Omega.{arith}
 use borrow.Author.Needs.{needs}
-use Rattle.replica.proofs.SoundCases.{adding, end-asks, end-small}
+use Rattle.replica.proofs.AddCases.{adding, end-small}
+use Rattle.soundness.proofs.SoundCases.{end-asks}
 use Rattle.replica.proofs.adding.last_test.Statement.{statement}
 use Rattle.replica.proofs.adding.last_test.Tie as tie
 

@@ -1,7 +1,7 @@
 -- `replica::issuing::draft` meets its contract. Assumes nothing.
 use borrow.Author.Needs.{needs}
 use Rattle.lists.proofs.BoolLaws.{so-by-not}
-use Rattle.replica.proofs.SoundCases.{header-of}
+use Rattle.soundness.proofs.SoundCases.{header-of}
 use Rattle.replica.proofs.IssueCases.{issuing, known-request}
 use Rattle.replica.proofs.issuing.draft.Statement.{statement}
 use Rattle.replica.proofs.issuing.draft.Tie as tie

@@ -2,7 +2,7 @@
 use native.Mathlib.Omega.{arith}
 use lib.ListN.{length-take}
 use borrow.Author.Needs.{needs}
-use Rattle.replica.proofs.SoundCases.{header-of}
+use Rattle.soundness.proofs.SoundCases.{header-of}
 use Rattle.replica.proofs.IssueCases.{issuing}
 use Rattle.replica.proofs.issuing.write_out.Statement.{statement}
 use Rattle.replica.proofs.issuing.write_out.Tie as tie

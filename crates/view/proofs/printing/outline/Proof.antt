@@ -1,6 +1,6 @@
 -- `view::printing::outline` meets its contract. Assumes nothing.
 use borrow.Author.Needs.{needs}
-use Rattle.replica.proofs.SoundCases.{end-asks}
+use Rattle.soundness.proofs.SoundCases.{end-asks}
 use Rattle.view.proofs.OutlineCases.{printing}
 use Rattle.view.proofs.printing.outline.Statement.{statement}
 use Rattle.view.proofs.printing.outline.Tie as tie
