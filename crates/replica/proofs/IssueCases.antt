@@ -8,7 +8,7 @@ use lib.ListN.{length, take, drop}
 use lib.Seq.{take-at}
 use lib.Dec.{ltb, eqb}
 use borrow.Author.Needs.{needs}
-use borrow.Author.Tests.{leb-true, ltb-true, lt-ltb, le-ltb, lt-leb, le-leb}
+use borrow.Author.Tests.{leb-true, ltb-true, lt-leb, le-leb}
 use Rattle.rules.specs.Answer.{Answer, refused, require}
 use Rattle.rules.specs.Bytes.{word}
 use Rattle.rules.specs.Issue.{Request, add, remove, move, Issued, issueAnswer, issueBuffer, issueOut, issued, opBytes, requestClear, requestKnown}
@@ -25,6 +25,7 @@ use Rattle.codec.specs.Answers.{isAccepted, numberOf}
 use Rattle.codec.specs.declared.answer.Refusal.{Refusal}
 use Rattle.codec.specs.declared.answer.Refusal.the-variants.{Unknown, Exhausted, Cycle}
 use Rattle.codec.proofs.AnswerLaws.{if-accepted, if-not-accepted}
+use Rattle.replay.specs.Tables.{moveOrCycle}
 use Rattle.replica.specs.Adding.{lastTest, Acceptable}
 use Rattle.replica.specs.Issuing.{requestOf, bytesOf, movedIn, clearedOp, drafted, withOp, putOut, Lent, Ready, Writable, KnownRequest}
 use Rattle.replica.specs.declared.request.Draft.{Draft}
@@ -79,24 +80,32 @@ known-small log n p e =
     let b : n / 256 ≤ 8 = leb-true _ _ (h .0 .0 .0 .0 .0 .1) in
     omega arith
 
-module _ (t : List ℕ) (n p x y : ℕ) (dx : x ≡ depth t p) (dy : y ≡ depth t n) where
-  pub upward : x < y → 3 ≡ moveKind t n p
-  unfolding moveKind
-  upward h = rw (← dx, ← dy, lt-ltb x y h)
+-- b tells whether a move closes a circle, and m is its kind
+kind-by : (b : Bool) → let m : ℕ = cond b 3 4 in m ≡ 0 → ⊥
+kind-by true e = omega arith
+kind-by false e = omega arith
 
-  pub downward : y ≤ x → 4 ≡ moveKind t n p
-  unfolding moveKind
-  downward h = rw (← dx, ← dy, le-ltb x y h)
+cycle-by : (b : Bool) (m : ℕ) (d : Draft) → (m ≡ 0 → ⊥) → cond b 0 m ≡ 0 → Refused Cycle ≡ cond b (Refused Cycle) (Op d)
+cycle-by true m d h z = refl
+cycle-by false m d h z = absurd (h z)
+
+abbrev moveDraft : (k n p : ℕ) → Draft
+moveDraft k n p = record { kind = k; node = n; parent = p }
+
+op-by : (b : Bool) (m n p : ℕ) → (cond b 0 m ≡ 0 → ⊥) → Op (moveDraft (cond b 0 m) n p) ≡ cond b (Refused Cycle) (Op (moveDraft m n p))
+op-by true m n p h = absurd (h refl)
+op-by false m n p h = refl
+
+module _ (t : List ℕ) (n p k : ℕ) (is : k ≡ moveOrCycle t n p) where
+  pub move-cycle : k ≡ 0 → Refused Cycle ≡ movedIn t n p
+  unfolding movedIn moveOrCycle moveKind
+  move-cycle e = cycle-by (atOrBelow t p n) _ _ (kind-by (ltb (depth t p) (depth t n))) (sym is ∙ e)
+
+  pub move-op : (k ≡ 0 → ⊥) → Op (moveDraft k n p) ≡ movedIn t n p
+  unfolding movedIn moveOrCycle
+  move-op ne = rw is (op-by (atOrBelow t p n) (moveKind t n p) n p (rw is at ne))
 
 module _ (t : List ℕ) (n p : ℕ) where
-  pub move-cycle : atOrBelow t p n ≡ true → Refused Cycle ≡ movedIn t n p
-  unfolding movedIn
-  move-cycle e = rw e
-
-  pub move-op : atOrBelow t p n ≡ false → (k : ℕ) → k ≡ moveKind t n p → Op (record { kind = k; node = n; parent = p }) ≡ movedIn t n p
-  unfolding movedIn
-  move-op e k m = rw (e, m)
-
   pub move-now : (log : Log) → t ≡ parentsOf log → (r : Drafted) → r ≡ movedIn t n p → r ≡ movedIn (parentsOf log) n p
   move-now log is r e = rw (← is) e
 
@@ -277,7 +286,7 @@ lent f room s a b e = record { issuer = record { is-sound = a; is-replica = e };
 ---- what the code of issuing needs: search issuing
 pub ruleset requests = (add-known, remove-known, move-known, node-unknown, parent-unknown, both-known, known-small)
 
-pub ruleset moves = (upward, downward, move-cycle, move-op, move-now, cleared-move, move-names)
+pub ruleset moves = (move-cycle, move-op, move-now, cleared-move, move-names)
 
 pub ruleset drafting = (moves, add-op, remove-op, exhausted, unknown, known-request, drafts)
 

@@ -13,8 +13,7 @@ use oplog::counts_of;
 use oplog::known_in;
 use oplog::known_parent;
 use replay::SLOTS;
-use replay::below;
-use replay::depth_of;
+use replay::move_kind;
 use replay::replay_all;
 use soundness::WIDTH;
 use soundness::is_sound;
@@ -24,7 +23,6 @@ ghost use Prim.Native.Nat.{_+_};
 ghost use lib.ListN.{length};
 ghost use lib.Dec.{ltb};
 ghost use Rattle.rules.specs.Issue.{add, remove, move, requestKnown};
-ghost use Rattle.rules.specs.Tree.{moveKind, slots};
 ghost use Rattle.rules.specs.File.{width, logOf, headerCounts};
 ghost use Rattle.rules.specs.Op.{isReplica, countIn, nodeNumber};
 ghost use Rattle.rules.specs.Replay.{parentsOf};
@@ -86,26 +84,15 @@ fn knows(file: &[u8], counts: [u8; 8], request: Request) -> bool
     }
 }
 
-// A move is upward if the node's depth is greater than the new parent's, else downward.
-fn move_kind(parents: &[u16], node: u16, parent: u16) -> u8
-    requires { ⌜ length (now parents) ≡ slots ⌝ }
-    ensures { λ r. ⌜ r ≡ moveKind (now (parents .entry)) node parent ⌝ }
-{
-    if depth_of(parents, parent) < depth_of(parents, node) {
-        return 3;
-    }
-    4
-}
-
 // Number 10 of a move in a tree, or the op to issue.
 fn draft_move(parents: &[u16], node: u16, parent: u16) -> Drafted
     requires { ⌜ InTree (now parents) node ⌝ }
     ensures { λ r. ⌜ r ≡ movedIn (now (parents .entry)) node parent ⌝ }
 {
-    if below(parents, parent, node) {
+    let kind = move_kind(parents, node, parent);
+    if kind == 0 {
         return Drafted::Refused(Refusal::Cycle);
     }
-    let kind = move_kind(parents, node, parent);
     Drafted::Op(Draft { kind, node, parent })
 }
 

@@ -10,5 +10,4 @@ draft-move-spec =
     (tie.spec
     (λ c κs. search needs)
     (λ c. search issuing)
-    (λ c κs. search needs)
     (λ c. search issuing))
