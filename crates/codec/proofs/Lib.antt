@@ -2,3 +2,4 @@ pub mod VectorLaws
 pub mod ReadLaws
 pub mod WriteLaws
 pub mod ReadsBackLaws
+pub mod AccessLaws

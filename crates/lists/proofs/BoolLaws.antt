@@ -1,6 +1,7 @@
 -- Laws of truth values.
 use mathlib.Core.Bool.{Bool, _&&_, _||_, false, not, true}
-use mathlib.Core.Path.{_≡_, refl, sym}
+use mathlib.Core.Path.{_≡_, refl, sym, _∙_}
+use borrow.Author.Tests.{not-true, not-false}
 use mathlib.Core.Logic.{_⊎_, inl, inr}
 use native.Mathlib.Omega.{arith}
 use Prim.Native.Nat.{ℕ}
@@ -64,3 +65,20 @@ pub under-and : (a b : Bool) → (b ≡ true → a ≡ true) → b ≡ (a && b)
 under-and true b h = refl
 under-and false true h = sym (h refl)
 under-and false false h = refl
+
+---- r, which the code tests, is what b defines
+
+module _ {r b : Bool} (e : r ≡ b) where
+  pub is-so : r ≡ true → b ≡ true
+  is-so h = sym e ∙ h
+
+  pub is-not-so : r ≡ false → b ≡ false
+  is-not-so h = sym e ∙ h
+
+  pub so-by-not : not r ≡ false → b ≡ true
+  so-by-not h = sym e ∙ not-false _ h
+
+  pub not-so-by-not : not r ≡ true → b ≡ false
+  not-so-by-not h = sym e ∙ not-true _ h
+
+pub ruleset tested = (is-so, is-not-so, so-by-not, not-so-by-not)

@@ -15,7 +15,7 @@ use Rattle.rules.specs.Deliver.{held, admitAnswer, deliverAnswer, heldAnswer, m
 use Rattle.rules.specs.Op.{parentOf, wellFormed, isAdd, replicaOf, nodeOf, seqOf, nodeNumber, kindOf, isRemove, vectorOf, Op}
 use Rattle.rules.specs.File.{fileOf, fileEnd, headerOf, countsOf, Log, emptyLog, logOf, width, opAt}
 use Rattle.rules.specs.Log.{namesKnown, covered, closed}
-use Rattle.oplog.specs.Spots.{namesBy}
+use Rattle.oplog.specs.Tests.{namesBy}
 use Rattle.rules.specs.Answer.{Answer, require, accepted, refused, ifAccepted, hadIt}
 use Rattle.lists.specs.Lists.{concat, same}
 use Rattle.rules.specs.Sound.{sound}

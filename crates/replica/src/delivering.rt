@@ -42,7 +42,7 @@ fn admit(buf: &mut [u8], counts: [u8; 8], fields: Fields, op: &[u8]) -> Delivery
     requires { ⌜ Deliverable (now buf) (now op) (fields .replica) (fields .sequence) × (fieldsOf (now op) ≡ fields) × (counts ≡ headerCounts (now buf)) × (held (logOf width (now buf)) (now op) ≡ false) ⌝ }
     ensures { λ r. ⌜ (deliveryAnswer r ≡ admitAnswer width (now (buf .entry)) (now (op .entry))) × (now (buf .exit) ≡ ifAccepted (admitAnswer width (now (buf .entry)) (now (op .entry))) (appended width (now (buf .entry)) (now (op .entry))) (now (buf .entry))) ⌝ }
 {
-    let v = vector_at(op, 6);
+    let v = vector_at(op, 0);
     if !within(v, counts) {
         return Delivery::Refused(Refusal::Early);
     }
@@ -57,7 +57,7 @@ fn admit(buf: &mut [u8], counts: [u8; 8], fields: Fields, op: &[u8]) -> Delivery
     if buf.len() < end_of(buf, 8, WIDTH) + WIDTH {
         return Delivery::Refused(Refusal::NoRoom);
     }
-    Delivery::Accepted(append_op(buf, replica, op, WIDTH))
+    Delivery::Accepted(append_op(buf, counts, replica, op, WIDTH))
 }
 
 // Delivers an op to the log in a buffer.

@@ -67,7 +67,7 @@ fn put_out(
     }
     write_op(out, kind, replica, node, parent, counts);
     let n = WIDTH;
-    Issue::Accepted(append_op(buf, widen(replica), &out[..n], WIDTH))
+    Issue::Accepted(append_op(buf, counts, widen(replica), &out[..n], WIDTH))
 }
 
 // Issues an add of a new node under a parent.

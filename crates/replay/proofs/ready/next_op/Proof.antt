@@ -8,7 +8,7 @@ use denote.Ref.{now}
 use Rattle.oplog.specs.Spots.{Spot}
 use Rattle.rules.specs.File.{opAt, logOf, within}
 use Rattle.rules.specs.Op.{countIn, vectorOf}
-use Rattle.oplog.proofs.FieldLaws.{vector-is}
+use Rattle.oplog.proofs.FieldLaws.{fields-at}
 use Rattle.replay.proofs.ready.next_op.Statement.{statement}
 use Rattle.replay.proofs.TurnLaws.{next-none, next-some}
 use Rattle.replay.proofs.HeldLaws.{count-small, in-file, spot}
@@ -23,7 +23,7 @@ there c =
 
 -- what the code has compared
 compared : (c : tie.After-within) → let s = c .before .before .before .before .before .before .args in within (vectorOf (opAt (logOf (s .width) (now (s .file))) (s .s) (getD (s .t3) (s .s - 1) 0 + 1))) (s .t3) ≡ c .within .result
-compared c = rw (← c .before .before .before .widen .ensures, vector-is _ _ _ _ (there (c .before .before .before)), ← c .before .before .place .ensures .0, ← c .before .vector-at .ensures) (sym (c .within .ensures))
+compared c = rw (← c .before .before .before .widen .ensures, fields-at _ _ _ _ (there (c .before .before .before)) _ (c .before .before .place .ensures .0) .vector, ← c .before .vector-at .ensures) (sym (c .within .ensures))
 
 returns : tie.Need-returns
 unfolding countIn
@@ -35,9 +35,6 @@ add-q c = let p = c .before .before .pre in omega (arith, c .if1 .left, count-sm
 
 place-requires : tie.Need-place-requires
 place-requires c κs = there c
-
-add-at : tie.Need-add-at
-add-at c = omega (arith, c .place .ensures .1, c .before .before .before .before .pre .0 .wide)
 
 vector-at-requires : tie.Need-vector-at-requires
 vector-at-requires c κs = omega (arith, c .place .ensures .1, c .before .before .before .before .pre .0 .wide)
@@ -62,7 +59,6 @@ next-op-spec =
     add-q
     (λ c κs. search needs)
     place-requires
-    add-at
     vector-at-requires
     (λ c κs. search needs)
     returns-2

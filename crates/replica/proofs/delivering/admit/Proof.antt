@@ -110,7 +110,18 @@ append-op-requires : tie.Need-append-op-requires
 append-op-requires c κs =
     let m = small (c .before .before .before .before .before .before .before) in
     let i = replica-formed (now (c .before .before .before .before .before .before .before .before .before .before .before .before .before .before .before .before .before .args .op)) (c .before .before .before .before .before .before .before .before .before .before .before .before .before .before .before .before .before .pre .0 .formed) in
-    (omega arith, omega arith, good (c .before .before .before .before .before .before .before .before .before .before .before .before .before .before .before .before .before), m .0, omega (arith, m .0, i .0), omega (arith, m .0, i .1), rw (m .0) (below-full (c .before .before .before .before .before .before .before .before .before .before .before .before .before .before .before .before .before) (is-covered (c .before .before .before .before .before .before .before .before .before .before .before .before))), c .before .before .before .before .before .before .before .before .before .before .before .before .before .before .before .before .before .pre .0 .long, omega (arith, end (c .before .before), c .before .if4 .left))
+    record {
+      wide = omega arith;
+      narrow = omega arith;
+      is-laid = good (c .before .before .before .before .before .before .before .before .before .before .before .before .before .before .before .before .before);
+      held = c .before .before .before .before .before .before .before .before .before .before .before .before .before .before .before .before .before .pre .2;
+      origin = m .0;
+      low = omega (arith, m .0, i .0);
+      high = omega (arith, m .0, i .1);
+      below = rw (m .0) (below-full (c .before .before .before .before .before .before .before .before .before .before .before .before .before .before .before .before .before) (is-covered (c .before .before .before .before .before .before .before .before .before .before .before .before)));
+      long = c .before .before .before .before .before .before .before .before .before .before .before .before .before .before .before .before .before .pre .0 .long;
+      room = omega (arith, end (c .before .before), c .before .if4 .left);
+    }
 
 returns-5 : tie.Need-returns-5
 returns-5 c =

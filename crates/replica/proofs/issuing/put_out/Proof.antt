@@ -63,7 +63,18 @@ append-op-requires c κs =
     let i = replica-range (c .before .before .before .before .before .before .before .before .before .before .before .before .args .replica) (p .is-replica) in
     let w = c .before .widen .ensures in
     let n : countAt (now (c .before .before .before .before .before .before .before .before .before .before .before .before .args .buf)) (c .before .before .before .before .before .before .before .before .before .before .before .before .args .replica) < 255 = rw (← counts-in width (now (c .before .before .before .before .before .before .before .before .before .before .before .before .args .buf)) (c .before .before .before .before .before .before .before .before .before .before .before .before .args .replica) (i .0) (i .1)) (p .count) in
-    (omega arith, omega arith, good (c .before .before .before .before .before .before .before .before .before .before .before .before), rw (e, op-replica (c .before .before .before .before .before .before .before .before .before .before .before .before)) w, omega (arith, i .0), omega (arith, i .1), rw w n, ap length e ∙ op-long (c .before .before .before .before .before .before .before .before .before .before .before .before), omega (arith, end (c .before .before .before .before .before .before .before .before), c .before .before .before .before .before .before .before .if1 .left))
+    record {
+      wide = omega arith;
+      narrow = omega arith;
+      is-laid = good (c .before .before .before .before .before .before .before .before .before .before .before .before);
+      held = p .held;
+      origin = rw (e, op-replica (c .before .before .before .before .before .before .before .before .before .before .before .before)) w;
+      low = omega (arith, i .0);
+      high = omega (arith, i .1);
+      below = rw w n;
+      long = ap length e ∙ op-long (c .before .before .before .before .before .before .before .before .before .before .before .before);
+      room = omega (arith, end (c .before .before .before .before .before .before .before .before), c .before .before .before .before .before .before .before .if1 .left);
+    }
 
 returns-2 : tie.Need-returns-2
 returns-2 c =
