@@ -19,7 +19,7 @@ fn next_op(file: &[u8], cut: [u8; 8], done: [u8; 8], s: usize, width: usize) -> 
         return 0;
     }
     let q = held + 1;
-    let at = place(file, s, widen(q), width) + 6;
+    let at = place(file, s, widen(q), width);
     if within(vector_at(file, at), done) {
         return q;
     }

@@ -62,7 +62,7 @@ fn answer_new(file: &[u8], counts: [u8; 8], fields: Fields, op: &[u8]) -> Answer
     requires { ⌜ Fresh (now file) (now op) fields counts ⌝ }
     ensures { λ r. ⌜ answerOf r ≡ rules.deliverAnswer width (now (file .entry)) (now (op .entry)) ⌝ }
 {
-    let v = vector_at(op, 6);
+    let v = vector_at(op, 0);
     if !within(v, counts) {
         return Answer::Refused(Refusal::Early);
     }
