@@ -3,7 +3,6 @@ use crate::answer::Issue;
 use crate::soundness::WIDTH;
 use crate::soundness::is_sound;
 use codec::Refusal;
-use codec::small;
 use codec::widen;
 use codec::write_op;
 use oplog::append_op;
@@ -43,7 +42,7 @@ fn first_tests(file: &[u8], replica: u8, room: usize) -> Gate
         return Gate::Refused(Refusal::Malformed);
     }
     let counts = counts_of(file, WIDTH);
-    if 255 <= small(counts[widen(replica) - 1]) {
+    if 255 <= widen(counts[widen(replica) - 1]) {
         return Gate::Refused(Refusal::Exhausted);
     }
     Gate::Open
@@ -86,7 +85,7 @@ pub fn issue_add(buf: &mut [u8], replica: u8, parent: u16, out: &mut [u8]) -> Is
         return Issue::Refused(Refusal::Unknown);
     }
     let s = widen(replica);
-    let node = (256 * s + small(counts[s - 1]) + 1) as u16;
+    let node = (256 * s + widen(counts[s - 1]) + 1) as u16;
     put_out(buf, 1, replica, node, parent, counts, out)
 }
 

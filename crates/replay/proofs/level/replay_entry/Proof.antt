@@ -20,7 +20,7 @@ there : (c : tie.Else1) → let s = c .before .before .before .before .before .b
 unfolding countIn
 there c =
     let p = c .before .before .before .before .before .before .pre in
-    let e = c .before .widen .ensures in
+    let e = c .before .widen .ensures .0 in
     (in-file _ _ _ (p .0) (c .before .before .before .before .before .before .args .s) _ (p .1) (p .2) (omega (arith, c .if1 .left)) (omega arith), e)
 
 -- the kind that the code reads
@@ -29,7 +29,7 @@ kind-read c = rw (← there (c .before) .1, c .place .ensures .0) (kind-is _ _ _
 
 returns : tie.Need-returns
 unfolding countIn
-returns c = let s = c .before .before .before .before .before .before .args in rw (entry-zero (logOf (s .width) (now (s .file))) (s .time) (s .t2) (s .kind) (s .s) (sym (c .before .widen .ensures) ∙ c .if1 .taken))
+returns c = let s = c .before .before .before .before .before .before .args in rw (entry-zero (logOf (s .width) (now (s .file))) (s .time) (s .t2) (s .kind) (s .s) (sym (c .before .widen .ensures .0) ∙ c .if1 .taken))
 
 place-requires : tie.Need-place-requires
 place-requires c κs = spot (there c .0)

@@ -19,11 +19,11 @@ there : (c : tie.After-widen) → Spot (c .before .before .before .args .width) 
 unfolding countIn
 there c =
     let p = c .before .before .before .pre in
-    spot (in-file _ _ _ (p .0) (c .before .before .before .args .s) _ (p .1) (p .2) (omega (arith, c .widen .ensures)) (omega (arith, c .widen .ensures, c .before .if1 .left)))
+    spot (in-file _ _ _ (p .0) (c .before .before .before .args .s) _ (p .1) (p .2) (omega (arith, c .widen .ensures .0)) (omega (arith, c .widen .ensures .0, c .before .if1 .left)))
 
 -- what the code has compared
 compared : (c : tie.After-within) → let s = c .before .before .before .before .before .before .args in within (vectorOf (opAt (logOf (s .width) (now (s .file))) (s .s) (getD (s .t3) (s .s - 1) 0 + 1))) (s .t3) ≡ c .within .result
-compared c = rw (← c .before .before .before .widen .ensures, fields-at _ _ _ _ (there (c .before .before .before)) _ (c .before .before .place .ensures .0) .vector, ← c .before .vector-at .ensures) (sym (c .within .ensures))
+compared c = rw (← c .before .before .before .widen .ensures .0, fields-at _ _ _ _ (there (c .before .before .before)) _ (c .before .before .place .ensures .0) .vector, ← c .before .vector-at .ensures) (sym (c .within .ensures))
 
 returns : tie.Need-returns
 unfolding countIn

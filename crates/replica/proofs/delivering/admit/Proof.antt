@@ -53,7 +53,7 @@ unfolding seqOf
 small c =
     let p = c .before .before .before .before .before .before .before .before .before .before .pre .0 in
     let i = replica-formed (now (c .before .before .before .before .before .before .before .before .before .before .args .op)) (p .formed) in
-    (c .before .widen .ensures ∙ sym (p .replica), c .widen2 .ensures ∙ sym (p .sequence), i .1, omega (arith, i .2))
+    (c .before .widen .ensures .0 ∙ sym (p .replica), c .widen2 .ensures .0 ∙ sym (p .sequence), i .1, omega (arith, i .2))
 
 -- test 7
 names-is : (c : tie.After-names-known) → c .names-known .result ≡ namesKnown (logOf width (now (c .before .before .before .before .before .before .before .before .before .before .before .before .args .buf))) (now (c .before .before .before .before .before .before .before .before .before .before .before .before .args .op))

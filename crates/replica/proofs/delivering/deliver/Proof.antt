@@ -59,7 +59,7 @@ held-is : (c : tie.After-widen3) → held (logOf width (now (c .before .before .
 unfolding held countIn
 held-is c =
     let d = deliverable (c .before .before .before .before .before) in
-    rw (d .replica, d .sequence, c .widen3 .ensures, c .before .widen2 .ensures, c .before .before .widen .ensures, c .before .before .before .counts-of .ensures, counts-logOf)
+    rw (d .replica, d .sequence, c .widen3 .ensures .0, c .before .widen2 .ensures .0, c .before .before .widen .ensures .0, c .before .before .before .counts-of .ensures, counts-logOf)
 
 returns : tie.Need-returns
 unfolding deliverBuffer
@@ -77,18 +77,18 @@ counts-of-requires c κs =
     (laid-reads _ _ l .header, laid-header _ _ l)
 
 sub-widen : tie.Need-sub-widen
-sub-widen c = let i = in-range (c .before .before .before .before) in omega (arith, i .0, c .before .widen .ensures)
+sub-widen c = let i = in-range (c .before .before .before .before) in omega (arith, i .0, c .before .widen .ensures .0)
 
 array-read-widen : tie.Need-array-read-widen
 array-read-widen c =
     let i = in-range (c .before .before .before .before) in
     let n : length (c .before .before .counts-of .result) ≡ 8 = rw (c .before .before .counts-of .ensures) (length-counts (now (c .before .before .before .before .before .before .before .before .before .before .before .before .before .args .buf))) in
-    omega (arith, i .0, i .1, c .before .widen .ensures)
+    omega (arith, i .0, i .1, c .before .widen .ensures .0)
 
 answer-held-requires : tie.Need-answer-held-requires
 answer-held-requires c κs =
     let h : held (logOf width (now (c .before .before .before .before .before .before .before .before .before .before .before .before .before .before .before .before .args .buf))) (now (c .before .before .before .before .before .before .before .before .before .before .before .before .before .before .before .before .args .op)) ≡ true = held-is (c .before .before) ∙ le-leb _ _ (c .before .if2 .taken) in
-    (rw (c .before .before .before .before .widen .ensures, c .before .before .before .widen2 .ensures) (deliverable (c .before .before .before .before .before .before .before)), h)
+    (rw (c .before .before .before .before .widen .ensures .0, c .before .before .before .widen2 .ensures .0) (deliverable (c .before .before .before .before .before .before .before)), h)
 
 returns-4 : tie.Need-returns-4
 unfolding deliverBuffer

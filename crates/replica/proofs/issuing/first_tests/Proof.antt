@@ -21,9 +21,9 @@ good : (c : tie.Else1) → sound width (now (c .before .before .before .args .fi
 good c = sym (c .before .is-sound .ensures) ∙ not-false (c .before .is-sound .result) (c .if1 .left)
 
 -- the count that was read
-count : (c : tie.After-small) → c .small .result ≡ countIn (countsOf (logOf width (now (c .before .before .before .before .before .before .before .before .before .args .file)))) (c .before .before .before .before .before .before .before .before .before .args .replica)
+count : (c : tie.After-widen2) → c .widen2 .result ≡ countIn (countsOf (logOf width (now (c .before .before .before .before .before .before .before .before .before .args .file)))) (c .before .before .before .before .before .before .before .before .before .args .replica)
 unfolding countIn
-count c = c .small .ensures .0 ∙ rw (c .before .before .counts-of .ensures, c .before .widen .ensures, counts-logOf)
+count c = c .widen2 .ensures .0 ∙ rw (c .before .before .counts-of .ensures, c .before .widen .ensures .0, counts-logOf)
 
 returns : tie.Need-returns
 returns c = λ next. sym (first-unsound _ _ _ next (sym (c .before .is-sound .ensures) ∙ not-true (c .before .is-sound .result) (c .if1 .taken)))
@@ -42,10 +42,10 @@ counts-of-requires c κs =
     let l = structural-laid _ _ (sound-structural _ _ (good (c .before .before .before))) in
     (laid-reads _ _ l .header, laid-header _ _ l)
 
-array-read-small : tie.Need-array-read-small
-array-read-small c =
+array-read-widen : tie.Need-array-read-widen
+array-read-widen c =
     let n : length (c .before .counts-of .result) ≡ 8 = rw (c .before .counts-of .ensures) (length-counts (now (c .before .before .before .before .before .before .before .before .args .file))) in
-    omega (arith, c .widen .ensures, c .before .before .before .if3 .left, c .before .before .if4 .left)
+    omega (arith, c .widen .ensures .0, c .before .before .before .if3 .left, c .before .before .if4 .left)
 
 returns-5 : tie.Need-returns-5
 returns-5 c = λ next. sym (first-full _ _ _ next (good (c .before .before .before .before .before .before .before)) (c .before .before .before .before .before .before .if2 .left) (c .before .before .before .before .before .if3 .left) (c .before .before .before .before .if4 .left) (omega (arith, count (c .before), c .if5 .taken)))
@@ -65,7 +65,7 @@ first-tests-spec =
     counts-of-requires
     (λ c κs. search needs)
     (λ c. search needs)
-    array-read-small
+    array-read-widen
     (λ c κs. search needs)
     returns-5
     returns-6)

@@ -48,11 +48,11 @@ unfolding requestKnown
 known-is c = c .known-parent .ensures ∙ rw (held-counts (c .before .before))
 
 -- the op that is put out
-op-is : (c : tie.After-small) → let f = now (c .before .before .before .before .before .before .before .before .before .before .before .before .before .args .buf) in opBytes 1 (c .before .before .before .before .before .before .before .before .before .before .before .before .before .args .replica) (256 * c .before .widen .result + c .small .result + 1) (c .before .before .before .before .before .before .before .before .before .before .before .before .before .args .parent) (c .before .before .before .before .before .counts-of .result) ≡ issued (logOf width f) (c .before .before .before .before .before .before .before .before .before .before .before .before .before .args .replica) (add (c .before .before .before .before .before .before .before .before .before .before .before .before .before .args .parent))
+op-is : (c : tie.After-widen2) → let f = now (c .before .before .before .before .before .before .before .before .before .before .before .before .before .args .buf) in opBytes 1 (c .before .before .before .before .before .before .before .before .before .before .before .before .before .args .replica) (256 * c .before .widen .result + c .widen2 .result + 1) (c .before .before .before .before .before .before .before .before .before .before .before .before .before .args .parent) (c .before .before .before .before .before .counts-of .result) ≡ issued (logOf width f) (c .before .before .before .before .before .before .before .before .before .before .before .before .before .args .replica) (add (c .before .before .before .before .before .before .before .before .before .before .before .before .before .args .parent))
 unfolding issued nodeNumber countIn
 op-is c =
     let v = held-counts (c .before .before .before .before .before) in
-    let n : 256 * c .before .widen .result + c .small .result + 1 ≡ 256 * c .before .before .before .before .before .before .before .before .before .before .before .before .before .args .replica + (getD (countsOf (logOf width (now (c .before .before .before .before .before .before .before .before .before .before .before .before .before .args .buf)))) (c .before .before .before .before .before .before .before .before .before .before .before .before .before .args .replica - 1) 0 + 1) = rw (c .small .ensures .0, v, c .before .widen .ensures) (omega arith) in
+    let n : 256 * c .before .widen .result + c .widen2 .result + 1 ≡ 256 * c .before .before .before .before .before .before .before .before .before .before .before .before .before .args .replica + (getD (countsOf (logOf width (now (c .before .before .before .before .before .before .before .before .before .before .before .before .before .args .buf)))) (c .before .before .before .before .before .before .before .before .before .before .before .before .before .args .replica - 1) 0 + 1) = rw (c .widen2 .ensures .0, v, c .before .widen .ensures .0) (omega arith) in
     rw (n, v)
 
 -- the first tests refuse
@@ -75,17 +75,17 @@ returns-3 c =
     let a = issue-unknown _ _ (c .before .before .before .before .before .before .before .before .before .before .before .args .replica) (add (c .before .before .before .before .before .before .before .before .before .before .before .args .parent)) (open-gate (c .before .before .before .before .before)) (sym (known-is (c .before)) ∙ not-true (c .before .known-parent .result) (c .if1 .taken)) in
     rw a (refl, refl, refl)
 
-sub-small : tie.Need-sub-small
-sub-small c = omega (arith, open-gate (c .before .before .before .before .before .before) .low, c .widen .ensures)
+sub-widen : tie.Need-sub-widen
+sub-widen c = omega (arith, open-gate (c .before .before .before .before .before .before) .low, c .widen .ensures .0)
 
-array-read-small : tie.Need-array-read-small
-array-read-small c =
+array-read-widen : tie.Need-array-read-widen
+array-read-widen c =
     let h = open-gate (c .before .before .before .before .before .before) in
     let n : length (c .before .before .before .before .counts-of .result) ≡ 8 = rw (c .before .before .before .before .counts-of .ensures) (length-counts (now (c .before .before .before .before .before .before .before .before .before .before .before .before .args .buf))) in
-    omega (arith, h .low, h .high, c .widen .ensures)
+    omega (arith, h .low, h .high, c .widen .ensures .0)
 
 cast-node : tie.Need-cast-node
-cast-node c = omega (arith, open-gate (c .before .before .before .before .before .before .before) .high, c .before .widen .ensures, c .small .ensures .1)
+cast-node c = omega (arith, open-gate (c .before .before .before .before .before .before .before) .high, c .before .widen .ensures .0, c .widen2 .ensures .1)
 
 put-out-requires : tie.Need-put-out-requires
 put-out-requires c κs = (issuable (c .before .before .before .before .before .before .before), open-gate (c .before .before .before .before .before .before .before .before .before) .space)
@@ -116,8 +116,8 @@ issue-add-spec =
     returns-3
     (λ c κs. search needs)
     (λ c. search needs)
-    sub-small
-    array-read-small
+    sub-widen
+    array-read-widen
     (λ c κs. search needs)
     (λ c. search needs)
     (λ c. search needs)

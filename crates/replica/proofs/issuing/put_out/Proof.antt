@@ -61,7 +61,7 @@ append-op-requires c κs =
     let e = op-out (c .before .before .before .before .before) in
     let p = c .before .before .before .before .before .before .before .before .before .before .before .before .pre .0 in
     let i = replica-range (c .before .before .before .before .before .before .before .before .before .before .before .before .args .replica) (p .is-replica) in
-    let w = c .before .widen .ensures in
+    let w = c .before .widen .ensures .0 in
     let n : countAt (now (c .before .before .before .before .before .before .before .before .before .before .before .before .args .buf)) (c .before .before .before .before .before .before .before .before .before .before .before .before .args .replica) < 255 = rw (← counts-in width (now (c .before .before .before .before .before .before .before .before .before .before .before .before .args .buf)) (c .before .before .before .before .before .before .before .before .before .before .before .before .args .replica) (i .0) (i .1)) (p .count) in
     record {
       wide = omega arith;
