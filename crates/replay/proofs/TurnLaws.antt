@@ -93,11 +93,11 @@ module _ (w : ℕ) (f : List ℕ) (next : Vector) (high low : ℕ) (p₀ o₀ l�
       Left (tables p₀ o₀ l₀) (levelKind log t next k) p₀ o₀ l₀ (kindFrom log t next k (8 - high))
   class-starts t k = left-all _ _ p₀ o₀ l₀ (x .all .sized) (kind-all (logOf w f) t next k high (x .top))
 
-  pub entry-asks : (i : ℕ) → i < 9 - low → (p o l : List ℕ) → Sized p o l → ReplayableAt w f next (8 - i) p o l
-  entry-asks i h p o l z = record {
+  pub entry-asks : (s : ℕ) → 1 ≤ s → s ≤ 8 → (p o l : List ℕ) → Sized p o l → ReplayableAt w f next s p o l
+  entry-asks s a b p o l z = record {
     source = record {
       is-structural = x .all .is-structural;
-      at = record { counted = x .all .counted; low = omega (arith, x .bottom .least); high = omega arith };
+      at = record { counted = x .all .counted; low = a; high = b };
     };
     sized = z;
   }
@@ -221,6 +221,6 @@ pub ruleset level-turns = (level-starts, level-on, level-ends)
 
 pub ruleset levels-turns = (levels-start, levels-end, levels-idle, levels-on)
 
-pub ruleset asks = (entry-asks, class-asks, level-asks)
+pub ruleset asks = (class-asks, level-asks)
 
 pub ruleset levelling = (needs, classes, dues, bounds, class-turns, level-turns, levels-turns, asks)
