@@ -34,7 +34,11 @@ use Rattle.codec.proofs.AnswerLaws.{accepted-with, if-accepted, if-not-accepted
 use Rattle.codec.proofs.ReadLaws.{reads}
 use Rattle.replica.specs.Adding.{lastTest, Acceptable}
 use Rattle.replica.specs.Delivering.{namesIn, Readable, Again, Fresh}
-use Rattle.replica.proofs.SoundCases.{laid-of, tallied}
+use Rattle.soundness.proofs.SoundCases.{laid-of, tallied}
+
+-- what a call hands back
+abbrev handed : Answer → (buffer : List ℕ) → Result
+handed a b = record { answer = a; buffer = b }
 
 ---- an op that reads
 
@@ -167,22 +171,17 @@ module _ (f op : List ℕ) (x : Fields) (u : Vector) (d : Fresh f op x u) (v : V
 ---- the whole
 
 module _ (f op : List ℕ) where
-  abbrev kept : Answer → Result
-  kept a = record { answer = a; buffer = f }
-
   -- a is the answer
   module _ (a : Answer) (is : a ≡ deliverAnswer width f op) where
-    pub deliver-kept : isAccepted a ≡ false → kept a ≡ deliver width f op
+    pub deliver-kept : isAccepted a ≡ false → handed a f ≡ deliver width f op
     unfolding deliverBuffer
     deliver-kept h = rw (← is, if-not-accepted (appended width f op) f a h)
 
-    pub deliver-added :
-        isAccepted a ≡ true → (b : List ℕ) → b ≡ appended width f op →
-        _≡_ {A = Result} (record { answer = a; buffer = b }) (deliver width f op)
+    pub deliver-added : isAccepted a ≡ true → (b : List ℕ) → b ≡ appended width f op → handed a b ≡ deliver width f op
     unfolding deliverBuffer
     deliver-added h b e = rw (← is, if-accepted (appended width f op) f a h, e)
 
-  pub deliver-unsound : sound width f ≡ false → kept (refused 1) ≡ deliver width f op
+  pub deliver-unsound : sound width f ≡ false → handed (refused 1) f ≡ deliver width f op
   unfolding deliverAnswer deliverBuffer require
   deliver-unsound e = rw e
 
@@ -193,21 +192,24 @@ module _ (f op : List ℕ) where
         let h = reads width op x (sym is ∙ e) in
         record { is-sound = a; long = h .long; formed = h .formed; fields = h .fields }
 
-    pub unread : (why : Refusal) → r ≡ Refused why → kept (refused (numberOf why)) ≡ deliver width f op
+    pub unread : (why : Refusal) → r ≡ Refused why → handed (refused (numberOf why)) f ≡ deliver width f op
     unfolding deliverAnswer deliverBuffer require readOf
     unread why e = rw a (go (eqb (length op) width) (wellFormed op) _ (sym is ∙ e))
       where
         answered : Answer → Result
-        answered t = record { answer = t; buffer = ifAccepted t (appended width f op) f }
+        answered t = handed t (ifAccepted t (appended width f op) f)
 
         -- l and w are the tests of length and form
         go :
             (l w : Bool) (next : Answer) → cond l (cond w (Op (fieldsOf op)) (Refused Malformed)) (Refused Length) ≡ Refused why →
-            kept (refused (numberOf why)) ≡ answered (require l 2 (require w 3 next))
+            handed (refused (numberOf why)) f ≡ answered (require l 2 (require w 3 next))
         go true true next z = cc
         go true false next z = let m : Malformed ≡ why = cc in rw (← m)
         go false w next z = let m : Length ≡ why = cc in rw (← m)
 
 ---- what the code of delivering needs: search delivering
-pub ruleset delivering =
-    (needs, tested, replica-so, again, fresh, acceptable, spot, had-it, conflict, early, counted-in, not-closed, unknown, last, deliver-kept, deliver-added, deliver-unsound, readable, unread)
+pub ruleset readings = (replica-so, again, fresh, acceptable, readable, unread)
+
+pub ruleset answers = (spot, had-it, conflict, early, counted-in, not-closed, unknown, last)
+
+pub ruleset delivering = (needs, tested, readings, answers, deliver-kept, deliver-added, deliver-unsound)

@@ -1,5 +1,5 @@
 -- The cases of issuing, as the code meets them. Assumes nothing.
-use mathlib.Core.Path.{_≡_, refl, sym, _∙_}
+use mathlib.Core.Path.{_≡_, refl, sym, _∙_, ap}
 use mathlib.Core.Bool.{Bool, true, false, cond, not, and-eq-true-iff}
 use mathlib.Core.List.{List, _++_}
 use Prim.Native.Nat.{ℕ, _+_, _≤_, _<_, _/_}
@@ -26,14 +26,19 @@ use Rattle.codec.specs.declared.answer.Refusal.{Refusal}
 use Rattle.codec.specs.declared.answer.Refusal.the-variants.{Unknown, Exhausted, Cycle}
 use Rattle.codec.proofs.AnswerLaws.{if-accepted, if-not-accepted}
 use Rattle.replica.specs.Adding.{lastTest, Acceptable}
-use Rattle.replica.specs.Issuing.{requestOf, bytesOf, movedIn, clearedOp, drafted, putOut, Lent, Ready, Named}
+use Rattle.replica.specs.Issuing.{requestOf, bytesOf, movedIn, clearedOp, drafted, withOp, putOut, Lent, Ready, Writable, KnownRequest}
 use Rattle.replica.specs.declared.request.Draft.{Draft}
 use Rattle.replica.specs.declared.request.Drafted.{Drafted}
 use Rattle.replica.specs.declared.request.Drafted.the-variants.{Op, Refused}
 use Rattle.replica.specs.declared.request.Request.the-variants.{Add, Remove, Move}
-use Rattle.replica.proofs.SoundCases.{counted, has-room, tallied}
+use Rattle.soundness.proofs.SoundCases.{counted, tallied}
+use Rattle.replica.proofs.AddCases.{has-room}
 use Rattle.rules.specs.Issue as rules
 use Rattle.replica.specs.declared.request.Request as code
+
+-- what a call hands back
+abbrev handed : Answer → (buffer out : List ℕ) → Issued
+handed a b o = record { answer = a; buffer = b; out = o }
 
 ---- number 7; v are the held counts
 
@@ -50,20 +55,19 @@ module _ (log : Log) (q : code.Request) (r : Bool) where
   pub move-known : (n p : ℕ) → q ≡ Move n p → r ≡ requestKnown log (move n p) → r ≡ requestKnown log (requestOf q)
   move-known n p e h = rw e h
 
-module _ (log : Log) (v : Vector) (is : v ≡ countsOf log) where
-  module _ (n p : ℕ) where
-    pub node-unknown : known log v n ≡ false → false ≡ requestKnown log (move n p)
+module _ (log : Log) (v : Vector) (is : v ≡ countsOf log) (n p : ℕ) where
+  pub node-unknown : known log v n ≡ false → false ≡ requestKnown log (move n p)
+  unfolding requestKnown
+  node-unknown e = rw (← is, e)
+
+  module _ (a : known log v n ≡ true) where
+    pub parent-unknown : knownParent log v p ≡ false → false ≡ requestKnown log (move n p)
     unfolding requestKnown
-    node-unknown e = rw (← is, e)
+    parent-unknown e = rw (← is, a, e)
 
-    module _ (a : known log v n ≡ true) where
-      pub parent-unknown : knownParent log v p ≡ false → false ≡ requestKnown log (move n p)
-      unfolding requestKnown
-      parent-unknown e = rw (← is, a, e)
-
-      pub both-known : knownParent log v p ≡ true → not (eqb p n) ≡ requestKnown log (move n p)
-      unfolding requestKnown
-      both-known e = rw (← is, a, e)
+    pub both-known : knownParent log v p ≡ true → not (eqb p n) ≡ requestKnown log (move n p)
+    unfolding requestKnown
+    both-known e = rw (← is, a, e)
 
 ---- number 10, and the op
 
@@ -127,8 +131,8 @@ module _ (f : List ℕ) (s : ℕ) (q : Request) (v : Vector) (is : v ≡ headerC
     unfolding drafted
     unknown e = rw (counts-logOf width f, ← is, a, e)
 
-    pub named : sound width f ≡ true → isReplica s ≡ true → requestKnown (logOf width f) q ≡ true → Named f v s q
-    named b r e = record { tallied = tallied f b v is; is-replica = r; names = e }
+    pub known-request : sound width f ≡ true → isReplica s ≡ true → requestKnown (logOf width f) q ≡ true → KnownRequest f v s q
+    known-request b r e = record { tallied = tallied f b v is; is-replica = r; names = e }
 
     pub drafts :
         requestKnown (logOf width f) q ≡ true → (r : Drafted) → r ≡ clearedOp (logOf width f) s q →
@@ -136,43 +140,51 @@ module _ (f : List ℕ) (s : ℕ) (q : Request) (v : Vector) (is : v ≡ headerC
     unfolding drafted
     drafts e r m = rw (counts-logOf width f, ← is, a, e) m
 
----- the last test, 8, and the op that is put out
+---- the op that is put out
 
--- a is what the last test says
+-- v are the held counts, o is what was put out, and op its first bytes
+module _ (f : List ℕ) (v : Vector) (e : v ≡ headerCounts f) (k s n p : ℕ) (o t : List ℕ) (w : o ≡ opBytes k s n p v ++ t) where
+  op-long : length (opBytes k s n p v) ≡ width
+  unfolding opBytes word
+  op-long = let l : length v ≡ 8 = rw e (length-counts f) in omega arith
+
+  written : take width o ≡ opBytes k s n p v
+  written = rw w (take-at (opBytes k s n p v) t width op-long)
+
+  pub acceptable : (room : ℕ) → Writable f room s → Acceptable f s (take 14 o)
+  unfolding opBytes replicaOf
+  acceptable room r =
+      let i = r .ready .lent .issuer in
+      record {
+        is-sound = i .is-sound;
+        is-replica = i .is-replica;
+        count = ltb-true _ _ (r .ready .left);
+        origin = rw written;
+        long = rw written op-long;
+        room = r .end;
+      }
+
+  pub all-added :
+      (out : List ℕ) → t ≡ drop 14 out → (b : List ℕ) → b ≡ appended width f (take 14 o) →
+      (b, o) ≡ withOp f out (opBytes k s n p (headerCounts f))
+  all-added out m b x = rw (x, written, ← e, w, m)
+
+---- the last test, 8; a is what it says
+
 module _ (f : List ℕ) (a : Answer) (is : a ≡ lastTest f) where
-  pub put-kept : isAccepted a ≡ false → (out op : List ℕ) → _≡_ {A = Issued} (record { answer = a; buffer = f; out = out }) (putOut f out op)
+  pub put-kept : isAccepted a ≡ false → (out op : List ℕ) → handed a f out ≡ putOut f out op
   unfolding putOut
   put-kept h out op = rw (← is, if-not-accepted (appended width f op) f a h, if-not-accepted (op ++ drop width out) out a h)
 
-  -- o is what was put out
-  module _ (h : isAccepted a ≡ true) (s k n p : ℕ) (v : Vector) (e : v ≡ headerCounts f) (o t : List ℕ) (w : o ≡ opBytes k s n p v ++ t) where
-    op-long : length (opBytes k s n p v) ≡ width
-    unfolding opBytes word
-    op-long = let l : length v ≡ 8 = rw e (length-counts f) in omega arith
+  module _ (h : isAccepted a ≡ true) where
+    pub writable : (room s : ℕ) → Ready f room s → Writable f room s
+    writable room s r = record { ready = r; end = has-room f a is h }
 
-    written : take width o ≡ opBytes k s n p v
-    written = rw w (take-at (opBytes k s n p v) t width op-long)
-
-    pub put-acceptable :
-        sound width f ≡ true → isReplica s ≡ true → ltb (countIn (countsOf (logOf width f)) s) 255 ≡ true →
-        (op : List ℕ) → op ≡ take width o → Acceptable f s op
-    unfolding opBytes replicaOf
-    put-acceptable b r l op m = record {
-      is-sound = b;
-      is-replica = r;
-      count = ltb-true _ _ l;
-      origin = rw (m, written);
-      long = rw (m, written) op-long;
-      room = has-room f a is h;
-    }
-
-    pub put-added :
-        (out : List ℕ) → t ≡ drop 14 out → (b : List ℕ) → b ≡ appended width f (take 14 o) →
-        _≡_ {A = Issued} (record { answer = a; buffer = b; out = o }) (putOut f out (opBytes k s n p (headerCounts f)))
+    pub put-added : (b o out op : List ℕ) → (b, o) ≡ withOp f out op → handed a b o ≡ putOut f out op
     unfolding putOut
-    put-added out m b x =
-        let op = opBytes k s n p v in
-        rw (← e, ← is, if-accepted (appended width f op) f a h, if-accepted (op ++ drop width out) out a h, ← m, ← w, ← written, x)
+    put-added b o out op e =
+        rw (← is, if-accepted (appended width f op) f a h, if-accepted (op ++ drop width out) out a h)
+        (ap (λ (x : List ℕ × List ℕ). handed a (x .0) (x .1)) e)
 
 ---- the whole
 
@@ -204,7 +216,8 @@ module _ (f : List ℕ) (s : ℕ) where
   unfolding issueAnswer drafted require lastTest
   answer-by room l q =
       rw (l .issuer .is-sound, le-leb width room (l .space), l .issuer .is-replica)
-      (step (ltb (countIn (countsOf (logOf width f)) s) 255) Exhausted _ _ (step (requestKnown (logOf width f) q) Unknown _ _ (cleared-by q)))
+      (step (ltb (countIn (countsOf (logOf width f)) s) 255) Exhausted _ _
+      (step (requestKnown (logOf width f) q) Unknown _ _ (cleared-by q)))
 
 -- tests that end in an op
 passes : (b : Bool) (why : Refusal) (y : Drafted) (d : Draft) → cond (not b) (Refused why) y ≡ Op d → (b ≡ true) × (y ≡ Op d)
@@ -226,10 +239,7 @@ op-of log s (move n p) d e = clear (atOrBelow (parentsOf log) p n) s (countsOf l
 
 -- r is what was drafted
 module _ (f out : List ℕ) (s : ℕ) (q : Request) (l : Lent f (length out) s) (r : Drafted) (is : r ≡ drafted (logOf width f) s q) where
-  abbrev kept : Answer → Issued
-  kept a = record { answer = a; buffer = f; out = out }
-
-  pub issue-refused : (why : Refusal) → r ≡ Refused why → kept (refused (numberOf why)) ≡ rules.issue width f out s q
+  pub issue-refused : (why : Refusal) → r ≡ Refused why → handed (refused (numberOf why)) f out ≡ rules.issue width f out s q
   unfolding issueBuffer issueOut byDraft
   issue-refused why e = rw (answer-by f s (length out) l q, ← is, e)
 
@@ -248,29 +258,29 @@ module _ (f out : List ℕ) (s : ℕ) (q : Request) (l : Lent f (length out) s) 
     issue-put x h = rw (answer-by f s (length out) l q, ← is, e, op-of (logOf width f) s q d (opened .1), counts-logOf width f) h
 
 module _ (f out : List ℕ) (s : ℕ) (q : Request) where
-  pub issue-unsound : sound width f ≡ false → _≡_ {A = Issued} (record { answer = refused 1; buffer = f; out = out }) (rules.issue width f out s q)
+  pub issue-unsound : sound width f ≡ false → handed (refused 1) f out ≡ rules.issue width f out s q
   unfolding issueAnswer issueBuffer issueOut require
   issue-unsound e = rw e
 
   module _ (a : sound width f ≡ true) where
-    pub issue-short : length out < width → _≡_ {A = Issued} (record { answer = refused 2; buffer = f; out = out }) (rules.issue width f out s q)
+    pub issue-short : length out < width → handed (refused 2) f out ≡ rules.issue width f out s q
     unfolding issueAnswer issueBuffer issueOut require
     issue-short h = rw (a, lt-leb width (length out) h)
 
-    pub issue-stranger :
-        width ≤ length out → isReplica s ≡ false →
-        _≡_ {A = Issued} (record { answer = refused 3; buffer = f; out = out }) (rules.issue width f out s q)
+    pub no-replica : width ≤ length out → isReplica s ≡ false → handed (refused 3) f out ≡ rules.issue width f out s q
     unfolding issueAnswer issueBuffer issueOut require
-    issue-stranger b e = rw (a, le-leb width (length out) b, e)
+    no-replica b e = rw (a, le-leb width (length out) b, e)
 
-    pub lent-by : (room : ℕ) → width ≤ room → isReplica s ≡ true → Lent f room s
-    lent-by room b e = record { issuer = record { is-sound = a; is-replica = e }; space = b }
+pub lent : (f : List ℕ) (room s : ℕ) → sound width f ≡ true → width ≤ room → isReplica s ≡ true → Lent f room s
+lent f room s a b e = record { issuer = record { is-sound = a; is-replica = e }; space = b }
 
 ---- what the code of issuing needs: search issuing
 pub ruleset requests = (add-known, remove-known, move-known, node-unknown, parent-unknown, both-known, known-small)
 
-pub ruleset drafting = (upward, downward, move-cycle, move-op, move-now, add-op, remove-op, cleared-move, move-names, exhausted, unknown, named, drafts)
+pub ruleset moves = (upward, downward, move-cycle, move-op, move-now, cleared-move, move-names)
 
-pub ruleset putting = (put-kept, put-acceptable, put-added, issue-refused, ready, issue-put)
+pub ruleset drafting = (moves, add-op, remove-op, exhausted, unknown, known-request, drafts)
 
-pub ruleset issuing = (needs, tested, sound-structural, tallied, counted, requests, drafting, putting, issue-unsound, issue-short, issue-stranger, lent-by)
+pub ruleset issues = (acceptable, all-added, put-kept, writable, put-added, issue-refused, ready, issue-put, issue-unsound, issue-short, no-replica)
+
+pub ruleset issuing = (needs, tested, sound-structural, tallied, counted, requests, drafting, issues, lent)

@@ -15,27 +15,28 @@ use Rattle.rules.specs.Tree.{slots}
 use Rattle.lists.proofs.BoolLaws.{tested}
 use Rattle.rules.proofs.SoundLaws.{sound-structural}
 
-module _ (f p o : List ℕ) where
-  abbrev kept : Answer → Judgement
-  kept a = record { answer = a; parents = p; outcomes = o }
+-- what a call hands back
+abbrev handed : Answer → (parents outcomes : List ℕ) → Judgement
+handed a p o = record { answer = a; parents = p; outcomes = o }
 
-  pub judge-unsound : sound width f ≡ false → kept (refused 1) ≡ judge width f p o
+module _ (f p o : List ℕ) where
+  pub judge-unsound : sound width f ≡ false → handed (refused 1) p o ≡ judge width f p o
   unfolding judge judgeAnswer require
   judge-unsound e = rw e
 
   module _ (a : sound width f ≡ true) where
-    pub judge-parents : length p < slots → kept (refused 2) ≡ judge width f p o
+    pub judge-parents : length p < slots → handed (refused 2) p o ≡ judge width f p o
     unfolding judge judgeAnswer require
     judge-parents h = rw (a, lt-leb slots (length p) h)
 
     module _ (l : slots ≤ length p) where
-      pub judge-outcomes : length o < slots → kept (refused 2) ≡ judge width f p o
+      pub judge-outcomes : length o < slots → handed (refused 2) p o ≡ judge width f p o
       unfolding judge judgeAnswer require
       judge-outcomes h = rw (a, le-leb slots (length p) l, lt-leb slots (length o) h)
 
       pub judge-done :
           slots ≤ length o → (x y : List ℕ) → (x ≡ parentsOf (logOf width f)) × (y ≡ outcomesOf (logOf width f)) →
-          _≡_ {A = Judgement} (record { answer = done; parents = x ++ drop slots p; outcomes = y ++ drop slots o }) (judge width f p o)
+          handed done (x ++ drop slots p) (y ++ drop slots o) ≡ judge width f p o
       unfolding judge judgeAnswer require
       judge-done h x y i = rw (a, le-leb slots (length p) l, le-leb slots (length o) h, i .0, i .1)
 

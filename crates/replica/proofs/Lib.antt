@@ -1,5 +1,5 @@
+pub mod AddCases
 pub mod DeliverCases
 pub mod IssueCases
 pub mod JudgeCases
 pub mod MakeCases
-pub mod SoundCases

@@ -11,7 +11,7 @@ use Rattle.rules.specs.Sound.{sound}
 use Rattle.oplog.specs.Spots.{namesBy}
 use Rattle.codec.specs.Read.{fieldsOf}
 use Rattle.codec.specs.declared.op.Fields.{Fields}
-use Rattle.replica.specs.Adding.{Tallied}
+use Rattle.soundness.specs.Asked.{Tallied}
 
 -- number 7 by the fields of an op
 unfoldable pub namesIn : Log → Vector → Fields → Bool

@@ -8,12 +8,13 @@ use lib.Dec.{ltb}
 use Rattle.rules.specs.Answer.{ifAccepted}
 use Rattle.rules.specs.Issue.{Request, add, remove, move, Issued, opBytes, requestKnown}
 use Rattle.rules.specs.Tree.{moveKind, atOrBelow, slots}
-use Rattle.rules.specs.File.{Log, width, appended, countsOf, logOf}
+use Rattle.rules.specs.File.{Log, width, appended, countsOf, fileEnd, logOf}
 use Rattle.rules.specs.Op.{Op, Vector, countIn, isReplica, nodeNumber}
 use Rattle.rules.specs.Replay.{parentsOf}
 use Rattle.rules.specs.Sound.{sound}
 use Rattle.codec.specs.declared.answer.Refusal.the-variants.{Unknown, Exhausted, Cycle}
-use Rattle.replica.specs.Adding.{lastTest, Tallied}
+use Rattle.replica.specs.Adding.{lastTest}
+use Rattle.soundness.specs.Asked.{Tallied}
 use Rattle.replica.specs.declared.request.Draft.{Draft}
 use Rattle.replica.specs.declared.request.Drafted.{Drafted}
 use Rattle.replica.specs.declared.request.Request.the-variants.{Add, Remove, Move}
@@ -47,6 +48,10 @@ drafted log s q =
     cond (not (ltb (countIn (countsOf log) s) 255)) (drafts.Refused Exhausted)
     (cond (not (requestKnown log q)) (drafts.Refused Unknown) (clearedOp log s q))
 
+-- the buffer with an op added, and the op in the first bytes of what is lent for it
+abbrev pub withOp : (f out : List ℕ) → Op → List ℕ × List ℕ
+withOp f out op = (appended width f op, op ++ drop width out)
+
 -- the last test, and what an op that passes it leaves
 unfoldable pub putOut : (f out : List ℕ) → Op → Issued
 putOut f out op = record {
@@ -72,8 +77,13 @@ pub record Ready (f : List ℕ) (room s : ℕ) : Type 0 where
   pub lent : Lent f room s
   pub left : ltb (countIn (countsOf (logOf width f)) s) 255 ≡ true
 
+-- and 8
+pub record Writable (f : List ℕ) (room s : ℕ) : Type 0 where
+  pub ready : Ready f room s
+  pub end : fileEnd width f + width ≤ length f
+
 -- the tests 1, 3 and 7 passed; u are the held counts
-pub record Named (f : List ℕ) (u : Vector) (s : ℕ) (q : Request) : Type 0 where
+pub record KnownRequest (f : List ℕ) (u : Vector) (s : ℕ) (q : Request) : Type 0 where
   pub tallied : Tallied f u
   pub is-replica : isReplica s ≡ true
   pub names : requestKnown (logOf width f) q ≡ true

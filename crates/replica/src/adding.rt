@@ -1,9 +1,9 @@
-use crate::soundness::WIDTH;
 use codec::Answer;
 use codec::Refusal;
 use codec::widen;
 use oplog::append_op;
 use oplog::end_of;
+use soundness::WIDTH;
 ghost use mathlib.Core.Path.{_≡_};
 ghost use mathlib.Core.Bool.{true};
 ghost use Rattle.rules.specs.File.{width, appended};

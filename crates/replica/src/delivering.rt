@@ -1,7 +1,5 @@
 use crate::adding::accept;
 use crate::adding::last_test;
-use crate::soundness::WIDTH;
-use crate::soundness::is_sound;
 use codec::Answer;
 use codec::Fields;
 use codec::Read;
@@ -17,6 +15,8 @@ use oplog::counts_of;
 use oplog::names_known;
 use oplog::place;
 use oplog::same_op;
+use soundness::WIDTH;
+use soundness::is_sound;
 ghost use mathlib.Core.Path.{_≡_};
 ghost use mathlib.Core.Bool.{true};
 ghost use lib.Dec.{leb};

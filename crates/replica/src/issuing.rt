@@ -3,8 +3,6 @@ use crate::adding::last_test;
 use crate::request::Draft;
 use crate::request::Drafted;
 use crate::request::Request;
-use crate::soundness::WIDTH;
-use crate::soundness::is_sound;
 use codec::Answer;
 use codec::Refusal;
 use codec::is_accepted;
@@ -17,6 +15,8 @@ use oplog::known_parent;
 use replay::below;
 use replay::depth_of;
 use replay::replay_all;
+use soundness::WIDTH;
+use soundness::is_sound;
 ghost use mathlib.Core.Path.{_≡_};
 ghost use mathlib.Core.Bool.{true};
 ghost use Prim.Native.Nat.{_+_};
@@ -28,8 +28,8 @@ ghost use Rattle.rules.specs.File.{width, logOf, headerCounts};
 ghost use Rattle.rules.specs.Op.{isReplica, countIn, nodeNumber};
 ghost use Rattle.rules.specs.Replay.{parentsOf};
 ghost use Rattle.codec.specs.Answers.{answerOf};
-ghost use Rattle.replica.specs.Adding.{Tallied};
-ghost use Rattle.replica.specs.Issuing.{requestOf, bytesOf, movedIn, clearedOp, drafted, putOut, Issuer, Lent, Ready, Named, Movable, InTree};
+ghost use Rattle.soundness.specs.Asked.{Tallied};
+ghost use Rattle.replica.specs.Issuing.{requestOf, bytesOf, movedIn, clearedOp, drafted, withOp, putOut, Issuer, Lent, Ready, Writable, KnownRequest, Movable, InTree};
 ghost use Rattle.rules.specs.Issue as rules;
 
 // Whether a number is a replica's.
@@ -121,7 +121,7 @@ fn draft_move_now(file: &[u8], node: u16, parent: u16) -> Drafted
 
 // Number 10 of a request whose names are known, and the op to issue.
 fn draft_known(file: &[u8], counts: [u8; 8], replica: u8, request: Request) -> Drafted
-    requires { ⌜ Named (now file) counts replica (requestOf request) ⌝ }
+    requires { ⌜ KnownRequest (now file) counts replica (requestOf request) ⌝ }
     ensures { λ r. ⌜ r ≡ clearedOp (logOf width (now (file .entry))) replica (requestOf request) ⌝ }
 {
     match request {
@@ -157,7 +157,19 @@ fn draft(file: &[u8], replica: u8, request: Request) -> Drafted
     draft_known(file, counts, replica, request)
 }
 
-// The last test, 8; then the op is put out and added.
+// Puts out an op that passed every test, and adds it.
+fn write_out(buf: &mut [u8], replica: u8, draft: Draft, out: &mut [u8])
+    requires { ⌜ Writable (now buf) (length (now out)) replica ⌝ }
+    ensures { λ _. ⌜ (now (buf .exit), now (out .exit))
+        ≡ withOp (now (buf .entry)) (now (out .entry)) (bytesOf replica draft (headerCounts (now (buf .entry)))) ⌝ }
+{
+    let counts = counts_of(buf, WIDTH);
+    write_op(out, draft.kind, replica, draft.node, draft.parent, counts);
+    let n = WIDTH;
+    accept(buf, replica, &out[..n]);
+}
+
+// The last test, 8; an op that passes it is put out and added.
 fn put_out(buf: &mut [u8], replica: u8, draft: Draft, out: &mut [u8]) -> Answer
     requires { ⌜ Ready (now buf) (length (now out)) replica ⌝ }
     ensures { λ r. ⌜ record { answer = answerOf r; buffer = now (buf .exit); out = now (out .exit) }
@@ -167,10 +179,7 @@ fn put_out(buf: &mut [u8], replica: u8, draft: Draft, out: &mut [u8]) -> Answer
     if !is_accepted(answer) {
         return answer;
     }
-    let counts = counts_of(buf, WIDTH);
-    write_op(out, draft.kind, replica, draft.node, draft.parent, counts);
-    let n = WIDTH;
-    accept(buf, replica, &out[..n]);
+    write_out(buf, replica, draft, out);
     answer
 }
 

@@ -1,8 +1,8 @@
-use crate::soundness::WIDTH;
-use crate::soundness::is_sound;
 use codec::Answer;
 use codec::Refusal;
 use replay::replay_all;
+use soundness::WIDTH;
+use soundness::is_sound;
 ghost use mathlib.Core.Path.{_≡_};
 ghost use Rattle.rules.specs.File.{width};
 ghost use Rattle.codec.specs.Answers.{answerOf};

@@ -6,7 +6,6 @@ mod issuing;
 mod judging;
 mod making;
 mod request;
-mod soundness;
 
 pub use delivering::deliver;
 pub use issuing::issue_add;
@@ -14,5 +13,3 @@ pub use issuing::issue_move;
 pub use issuing::issue_remove;
 pub use judging::judge;
 pub use making::make;
-pub use soundness::WIDTH;
-pub use soundness::is_sound;

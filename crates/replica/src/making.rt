@@ -1,7 +1,7 @@
-use crate::soundness::WIDTH;
 use codec::Answer;
 use codec::Refusal;
 use oplog::write_header;
+use soundness::WIDTH;
 ghost use mathlib.Core.Path.{_≡_};
 ghost use Rattle.rules.specs.File.{width};
 ghost use Rattle.codec.specs.Answers.{answerOf};

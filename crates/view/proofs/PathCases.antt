@@ -7,7 +7,7 @@ use mathlib.Core.List.{_++_, List}
 use mathlib.Core.Path.{sym, _∙_, _≡_}
 use native.Mathlib.Omega.{arith}
 use Rattle.rules.proofs.KnownLaws.{parent-reads}
-use Rattle.replica.proofs.SoundCases.{counted, tallied}
+use Rattle.soundness.proofs.SoundCases.{counted, tallied}
 use Rattle.lists.proofs.BoolLaws.{tested}
 use Rattle.rules.proofs.FileLaws.{counts-logOf}
 use Rattle.rules.proofs.SoundLaws.{sound-good, sound-structural}

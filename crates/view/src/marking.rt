@@ -2,7 +2,7 @@ use crate::slots::spot_of;
 use codec::word_at;
 use oplog::Marker;
 use oplog::place;
-use replica::WIDTH;
+use soundness::WIDTH;
 ghost use mathlib.Core.Path.{_≡_};
 ghost use mathlib.Core.Bool.{true};
 ghost use mathlib.Core.List.{foldl};

@@ -1,6 +1,6 @@
 -- `replica::adding::accept` meets its contract. Assumes nothing.
 use borrow.Author.Needs.{needs}
-use Rattle.replica.proofs.SoundCases.{append-asks}
+use Rattle.replica.proofs.AddCases.{append-asks}
 use Rattle.replica.proofs.adding.accept.Statement.{statement}
 use Rattle.replica.proofs.adding.accept.Tie as tie
 

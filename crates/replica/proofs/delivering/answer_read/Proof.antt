@@ -1,6 +1,6 @@
 -- `replica::delivering::answer_read` meets its contract. Assumes nothing.
 use borrow.Author.Needs.{needs}
-use Rattle.replica.proofs.SoundCases.{header-of}
+use Rattle.soundness.proofs.SoundCases.{header-of}
 use Rattle.replica.proofs.DeliverCases.{delivering}
 use Rattle.replica.proofs.delivering.answer_read.Statement.{statement}
 use Rattle.replica.proofs.delivering.answer_read.Tie as tie

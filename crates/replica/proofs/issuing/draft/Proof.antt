@@ -1,15 +1,15 @@
 -- `replica::issuing::draft` meets its contract. Assumes nothing.
 use borrow.Author.Needs.{needs}
 use Rattle.lists.proofs.BoolLaws.{so-by-not}
-use Rattle.replica.proofs.SoundCases.{header-of}
-use Rattle.replica.proofs.IssueCases.{issuing, named}
+use Rattle.soundness.proofs.SoundCases.{header-of}
+use Rattle.replica.proofs.IssueCases.{issuing, known-request}
 use Rattle.replica.proofs.issuing.draft.Statement.{statement}
 use Rattle.replica.proofs.issuing.draft.Tie as tie
 
 draft-known-requires : tie.Need-draft-known-requires
 draft-known-requires c κs =
     let known = so-by-not (c .before .knows .ensures) (c .if2 .left) in
-    named _ _ _ _ (search issuing) (search issuing) (search issuing) (search issuing) known
+    known-request _ _ _ _ (search issuing) (search issuing) (search issuing) (search issuing) known
 
 pub draft-spec : {M : Type 1} → statement M
 draft-spec =

@@ -1,6 +1,6 @@
 -- `view::paths::path` meets its contract. Assumes nothing.
 use borrow.Author.Needs.{needs}
-use Rattle.replica.proofs.SoundCases.{header-of}
+use Rattle.soundness.proofs.SoundCases.{header-of}
 use Rattle.view.proofs.PathCases.{paths}
 use Rattle.view.proofs.paths.path.Statement.{statement}
 use Rattle.view.proofs.paths.path.Tie as tie

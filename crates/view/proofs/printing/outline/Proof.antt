@@ -1,7 +1,6 @@
 -- `view::printing::outline` meets its contract. Assumes nothing.
-use native.Mathlib.Omega.{arith}
 use borrow.Author.Needs.{needs}
-use Rattle.replica.proofs.SoundCases.{header-of}
+use Rattle.soundness.proofs.SoundCases.{end-asks}
 use Rattle.view.proofs.OutlineCases.{printing}
 use Rattle.view.proofs.printing.outline.Statement.{statement}
 use Rattle.view.proofs.printing.outline.Tie as tie
@@ -14,7 +13,7 @@ outline-spec =
     (λ c κs. search needs)
     (λ c. search needs)
     (λ c. search printing)
-    (λ c κs. let h = header-of _ (search printing) in (h .0, omega arith, h .1, omega arith, omega arith))
+    (λ c κs. end-asks _ (search printing))
     (λ c κs. search needs)
     (λ c. search needs)
     (λ c. search printing)

@@ -1,8 +1,8 @@
--- `replica::soundness::is_sound` meets its contract. Assumes nothing.
+-- `soundness::is_sound` meets its contract. Assumes nothing.
 use borrow.Author.Needs.{needs}
 use Rattle.rules.specs.Sound.{sound}
-use Rattle.replica.proofs.soundness.is_sound.Statement.{statement}
-use Rattle.replica.proofs.soundness.is_sound.Tie as tie
+use Rattle.soundness.proofs.is_sound.Statement.{statement}
+use Rattle.soundness.proofs.is_sound.Tie as tie
 
 returns : tie.Need-returns
 unfolding sound

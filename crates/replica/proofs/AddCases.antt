@@ -1,45 +1,27 @@
--- What a sound buffer gives to the code, and the last test of an op. Assumes nothing.
-use mathlib.Core.Path.{_≡_, sym, _∙_}
-use mathlib.Core.Bool.{true}
-use mathlib.Core.List.{List}
-use Prim.Native.Nat.{ℕ, _+_, _≤_, _<_}
-use native.Mathlib.Omega.{arith}
-use lib.ListN.{length}
+-- The last test of an op, and its addition.
 use borrow.Author.Needs.{needs}
-use borrow.Author.Tests.{le-leb, lt-leb, leb-true}
+use Rattle.replica.specs.Adding.{Acceptable, lastTest}
 use Rattle.rules.specs.Answer.{Answer, accepted, refused, require}
-use Rattle.rules.specs.File.{width, countAt, fileEnd, headerCounts, logOf, startOf}
-use Rattle.rules.specs.Log.{covered, laid, soundHeader}
-use Rattle.rules.specs.Op.{Vector, replicaOf}
-use Rattle.rules.specs.Sound.{sound}
-use Rattle.rules.proofs.ReplicaLaws.{replica-low, replica-high}
-use Rattle.lists.proofs.BoolLaws.{tested}
-use Rattle.rules.proofs.DeliverLaws.{required}
-use Rattle.rules.proofs.FileLaws.{counts-logOf}
-use Rattle.rules.proofs.SoundLaws.{sound-structural, sound-laid}
-use Rattle.rules.proofs.StructureLaws.{counts-covered, structural-laid}
-use Rattle.oplog.specs.Spots.{Counted}
-use Rattle.oplog.proofs.FieldLaws.{counted-of, counts-in}
-use Rattle.oplog.proofs.HeaderLaws.{end-is, laid-header}
-use Rattle.codec.specs.Answers.{isAccepted}
 use Rattle.codec.proofs.AnswerLaws.{accepted-with}
-use Rattle.replica.specs.Adding.{lastTest, Acceptable, Tallied}
-
-module _ (f : List ℕ) (a : sound width f ≡ true) where
-  pub laid-of : laid width f ≡ true
-  laid-of = structural-laid width f (sound-structural width f a)
-
-  pub header-of : (32 ≤ length f) × (soundHeader width f ≡ true)
-  header-of = (sound-laid width f a .header, laid-header width f laid-of)
-
-  pub tallied : (u : Vector) → u ≡ headerCounts f → Tallied f u
-  tallied u e = record { is-sound = a; counts = e ∙ sym (counts-logOf width f) }
-
-pub counted : (f : List ℕ) (u : Vector) → Tallied f u → Counted width f u
-unfolding covered
-counted f u t =
-    counted-of width f u (omega arith) (laid-of f (t .is-sound))
-    (rw (t .counts, ← counts-logOf width f) (counts-covered (logOf width f)))
+use Rattle.rules.specs.File.{countAt, fileEnd, headerCounts, startOf, width}
+use Rattle.oplog.proofs.FieldLaws.{counts-in}
+use Rattle.oplog.proofs.HeaderLaws.{end-is}
+use Rattle.codec.specs.Answers.{isAccepted}
+use Rattle.rules.specs.Log.{laid}
+use Rattle.soundness.proofs.SoundCases.{laid-of}
+use Rattle.rules.proofs.ReplicaLaws.{replica-high, replica-low}
+use Rattle.rules.specs.Op.{replicaOf}
+use Rattle.rules.proofs.DeliverLaws.{required}
+use Rattle.rules.specs.Sound.{sound}
+use Rattle.rules.proofs.SoundLaws.{sound-laid}
+use Rattle.lists.proofs.BoolLaws.{tested}
+use mathlib.Core.List.{List}
+use Prim.Native.Nat.{_+_, _<_, _≤_, ℕ}
+use mathlib.Core.Path.{_∙_, _≡_, sym}
+use native.Mathlib.Omega.{arith}
+use borrow.Author.Tests.{le-leb, leb-true, lt-leb}
+use lib.ListN.{length}
+use mathlib.Core.Bool.{true}
 
 ---- the last test; e is where the file ends
 

@@ -1,3 +1,4 @@
+// Whether a buffer holds a sound log: what every call tests first.
 use oplog::structural;
 ghost use mathlib.Core.Path.{_≡_};
 ghost use Rattle.rules.specs.File.{width};
