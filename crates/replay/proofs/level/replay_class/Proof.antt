@@ -5,7 +5,7 @@ use Rattle.rules.specs.File.{logOf}
 use Rattle.replay.specs.Tables.{tables}
 use native.Mathlib.Omega.{arith}
 use Rattle.order.specs.Levels.{levelKind}
-use Rattle.replay.proofs.TurnLaws.{Left, kindFrom, entry-asks}
+use Rattle.replay.proofs.TurnLaws.{Left, kindFrom, due-asks}
 use Rattle.replay.proofs.level.replay_class.Statement.{statement}
 use Rattle.replay.proofs.level.replay_class.Tie as tie
 
@@ -17,13 +17,13 @@ Inv-loop file next high low time class parents₀ outcomes₀ placed₀ width fr
 abbrev μ-loop : tie.MeasureT-loop
 μ-loop file next high low time class parents₀ outcomes₀ placed₀ width from to i₀ parents outcomes placed i = to - i
 
-replay-entry-requires : tie.Need-replay-entry-requires Inv-loop μ-loop
-replay-entry-requires c κs =
+replay-due-requires : tie.Need-replay-due-requires Inv-loop μ-loop
+replay-due-requires c κs =
     let turn = c .before .before .before in
     let loop = turn .before in
     let start = loop .before .before .before in
     let asked = start .before .before .pre in
-    entry-asks _ _ _ _ _ _ _ _ asked _ (omega arith) (omega arith) _ _ _ (loop .loop .inv .sized)
+    due-asks _ _ _ _ _ _ _ _ asked _ (omega arith) (omega arith) _ _ _ (loop .loop .inv .sized)
 
 pub replay-class-spec : {M : Type 1} → statement M
 replay-class-spec =
@@ -35,7 +35,7 @@ replay-class-spec =
     (λ c. search levelling)
     (λ c. search levelling)
     (λ c. search levelling)
-    replay-entry-requires
+    replay-due-requires
     (λ c. search levelling)
     (λ c. search levelling)
     (λ c. search levelling)
