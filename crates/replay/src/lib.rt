@@ -8,6 +8,8 @@ mod tree;
 
 pub use cut::replay_all;
 pub use cut::replay_cut;
+pub use tree::NO_PARENT;
+pub use tree::SLOTS;
 pub use tree::below;
 pub use tree::depth_of;
 pub use tree::slot_of;

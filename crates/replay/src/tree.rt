@@ -4,6 +4,11 @@ ghost use Prim.Native.Nat.{_<_};
 ghost use lib.ListN.{length};
 ghost use Rattle.rules.specs.Tree.{slotOf, depth, atOrBelow};
 
+// How many slots a table has, and the parent entry of a slot without an added node.
+pub const SLOTS: usize = 2041;
+
+pub const NO_PARENT: u16 = 65535;
+
 // The slot of a node: 255 x (s - 1) + q is 256 x s + q less s and 255.
 pub fn slot_of(node: u16) -> usize
     ensures { λ r. ⌜ r ≡ slotOf node ⌝ }
