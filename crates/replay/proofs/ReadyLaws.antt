@@ -1,11 +1,11 @@
 -- The ops that are ready, as the code has them. Assumes nothing.
-use mathlib.Core.Path.{_≡_, sym, _∙_}
+use mathlib.Core.Path.{ap, _≡_, sym, _∙_}
 use mathlib.Core.Bool.{Bool, true, false, cond}
 use mathlib.Core.List.{List}
 use Prim.Native.Nat.{ℕ, _+_, _-_, _≤_, _<_}
 use native.Mathlib.Omega.{arith}
 use native.Mathlib.Decide.{decLt}
-use lib.ListN.{take, drop, getD, set}
+use lib.ListN.{drop, getD, set}
 use borrow.Author.Tests.{lt-ltb, le-ltb, eq-eqb, ne-eqb}
 use borrow.Author.Needs.{needs, fits-under}
 use mir.Syntax.{w8}
@@ -15,8 +15,8 @@ use Rattle.rules.specs.File.{opAt, Log, logOf, within}
 use Rattle.rules.proofs.FileLaws.{count-map}
 use Rattle.codec.proofs.VectorLaws.{count-of, Built, build-none, build-more, build-all}
 use Rattle.oplog.specs.Spots.{Counted, Spot, placeOf}
-use Rattle.oplog.proofs.FieldLaws.{spot-of, vector-is}
-use Rattle.order.specs.Levels.{advanced, advancedAt, nextAt, nextOf, ready}
+use Rattle.oplog.proofs.FieldLaws.{spot-of, fields-at}
+use Rattle.order.specs.Levels.{advanced, advancedAt, nextAt, readyOps, ready}
 use Rattle.replay.specs.Tables.{CountedAt, later}
 use Rattle.replay.proofs.HeldLaws.{count-small}
 
@@ -45,9 +45,9 @@ module _ (w : ℕ) (f : List ℕ) (cut : Vector) (s : ℕ) (x : CountedAt w f cu
     unfolding countIn
     next-spot = spot-of w f cut (x .counted) s q (x .low) (x .high) (omega arith) (omega arith)
 
-    module _ (at : ℕ) (e : at ≡ placeOf w f s q) (v : Vector) (hv : v ≡ take 8 (drop (at + 6) f)) where
+    module _ (at : ℕ) (e : at ≡ placeOf w f s q) (v : Vector) (hv : v ≡ vectorOf (drop at f)) where
       vector-so : v ≡ vectorOf (opAt (logOf w f) s (n + 1))
-      vector-so = hv ∙ rw (e, ← vector-is w f s q next-spot, is)
+      vector-so = hv ∙ sym (fields-at w f s q next-spot at e .vector) ∙ ap (λ (k : ℕ). vectorOf (opAt (logOf w f) s k)) is
 
       module _ (done : Vector) (b : Bool) (hb : b ≡ within v done) (hn : n ≡ getD done (s - 1) 0) where
         pub next-ready : b ≡ true → n + 1 ≡ nextAt (logOf w f) cut done s
@@ -63,8 +63,8 @@ counted-at w f v i c h = record { counted = c; low = omega arith; high = omega a
 ---- the numbers of all replicas
 
 module _ (log : Log) (cut done v : Vector) where
-  pub nexts-all : (i : ℕ) → Built (nextAt log cut done) v i → 8 ≤ i → v ≡ nextOf log cut done
-  unfolding nextOf
+  pub nexts-all : (i : ℕ) → Built (nextAt log cut done) v i → 8 ≤ i → v ≡ readyOps log cut done
+  unfolding readyOps
   nexts-all i b h = build-all (nextAt log cut done) v i b h
 
 module _ (done next v : Vector) where
@@ -87,8 +87,8 @@ module _ (old new : ℕ) where
   later-new e = rw (ne-eqb new 0 e)
 
 -- a file that holds a cut holds what is ready
-pub next-counted : (w : ℕ) (f : List ℕ) (cut done : Vector) → Counted w f cut → Counted w f (nextOf (logOf w f) cut done)
-unfolding nextOf countIn
+pub next-counted : (w : ℕ) (f : List ℕ) (cut done : Vector) → Counted w f cut → Counted w f (readyOps (logOf w f) cut done)
+unfolding readyOps countIn
 next-counted w f cut done h = record {
   wide = h .wide;
   is-laid = h .is-laid;

@@ -1,10 +1,16 @@
 -- `replay::ready::next_op` meets its contract. Assumes nothing.
+use native.Mathlib.Omega.{arith}
 use Rattle.replay.proofs.ReadyLaws.{readies, next-spot}
 use Rattle.replay.proofs.ready.next_op.Statement.{statement}
 use Rattle.replay.proofs.ready.next_op.Tie as tie
 
 place-requires : tie.Need-place-requires
-place-requires c κs = next-spot _ _ _ _ (c .before .before .before .pre) _ (c .before .if1 .left) _ (c .widen .ensures)
+place-requires c κs = next-spot _ _ _ _ (c .before .before .before .pre) _ (c .before .if1 .left) _ (c .widen .ensures .0)
+
+vector-at-requires : tie.Need-vector-at-requires
+vector-at-requires c κs =
+    let widened = c .before .before in
+    omega (arith, c .place .ensures .1, widened .before .before .pre .counted .wide)
 
 pub next-op-spec : {M : Type 1} → statement M
 next-op-spec =
@@ -18,8 +24,7 @@ next-op-spec =
     (λ c. search readies)
     (λ c κs. search readies)
     place-requires
-    (λ c. search readies)
-    (λ c κs. search readies)
+    vector-at-requires
     (λ c κs. search readies)
     (λ c. search readies)
     (λ c. search readies))
