@@ -1,5 +1,6 @@
 -- What the op reader answers. Assumes nothing.
-use Prim.Native.Nat.{ℕ}
+use mathlib.Core.Path.{_≡_}
+use Prim.Native.Nat.{_≤_, ℕ}
 use mathlib.Core.List.{List}
 use mathlib.Core.Bool.{Bool, _&&_, _||_, not, cond}
 use lib.ListN.{length}
@@ -20,3 +21,10 @@ fieldsOf b = record { kind = kindOf b; replica = replicaOf b; sequence = seqOf b
 -- an op of w bytes
 unfoldable pub readOf : ℕ → List ℕ → Read
 readOf w b = cond (eqb (length b) w) (cond (wellFormed b) (Op (fieldsOf b)) (Refused Malformed)) (Refused Length)
+
+-- an op's bytes are all there, and s is its replica
+pub record Origin (b : List ℕ) (s : ℕ) : Type 0 where
+  pub long : 14 ≤ length b
+  pub is-origin : s ≡ replicaOf b
+  pub low : 1 ≤ s
+  pub high : s ≤ 8
