@@ -60,20 +60,21 @@ module _ (w : ℕ) (b : List ℕ) where
         unfolding readOf isReplica
         read-own h = rw (eq-eqb (length b) w e, formed-is b, ← is, le-leb 1 s l, le-leb s 8 u, ← is-own, le-ltb own 255 (omega arith))
 
-        module _ (h : own ≤ 254) (k p : ℕ) (is-kind : k ≡ kindOf b) (is-parent : p ≡ parentOf b) (fits : Bool) (by : fits ≡ kindFits k p) where
-          formed : wellFormed b ≡ fits
-          unfolding isReplica
-          formed =
-              rw (formed-is b, ← is, le-leb 1 s l, le-leb s 8 u, ← is-own, lt-ltb own 255 (omega arith), ← is-kind, ← is-parent) (sym by)
+        module _ (h : own ≤ 254) (k p : ℕ) (is-kind : k ≡ kindOf b) (is-parent : p ≡ parentOf b) (fits : Bool) (by : fits ≡ kindFits k p)
+          where
+            formed : wellFormed b ≡ fits
+            unfolding isReplica
+            formed =
+                rw (formed-is b, ← is, le-leb 1 s l, le-leb s 8 u, ← is-own, lt-ltb own 255 (omega arith), ← is-kind, ← is-parent) (sym by)
 
-          pub read-kind : not fits ≡ true → Refused Malformed ≡ readOf w b
-          unfolding readOf
-          read-kind z = rw (eq-eqb (length b) w e, formed, not-true fits z)
+            pub read-kind : not fits ≡ true → Refused Malformed ≡ readOf w b
+            unfolding readOf
+            read-kind z = rw (eq-eqb (length b) w e, formed, not-true fits z)
 
-          pub read-all : not fits ≡ false → (n : ℕ) → n ≡ nodeOf b
-              → Op (record { kind = k; replica = s; sequence = own + 1; node = n; parent = p }) ≡ readOf w b
-          unfolding readOf seqOf
-          read-all z n is-node = rw (eq-eqb (length b) w e, formed, not-false fits z, is, is-own, is-kind, is-parent, is-node)
+            pub read-all : not fits ≡ false → (n : ℕ) → n ≡ nodeOf b
+                → Op (record { kind = k; replica = s; sequence = own + 1; node = n; parent = p }) ≡ readOf w b
+            unfolding readOf seqOf
+            read-all z n is-node = rw (eq-eqb (length b) w e, formed, not-false fits z, is, is-own, is-kind, is-parent, is-node)
 
 pub own-is : (b : List ℕ) (s : ℕ) → Origin b s → (t : ℕ) → t ≡ s → getD b (5 + t) 0 ≡ ownCount b
 own-is b s o t e = rw (e, o .is-origin) (sym (own-byte b (omega (arith, o .low, o .is-origin)) (omega (arith, o .high, o .is-origin))))

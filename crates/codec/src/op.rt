@@ -1,10 +1,10 @@
 use crate::answer::Refusal;
-use crate::word::put_word;
-use crate::word::widen;
 use crate::field::kind_at;
 use crate::field::node_at;
 use crate::field::parent_at;
 use crate::field::replica_at;
+use crate::word::put_word;
+use crate::word::widen;
 ghost use mathlib.Core.Path.{_≡_};
 ghost use mathlib.Core.List.{_++_};
 ghost use Prim.Native.Nat.{_+_, _≤_};

@@ -281,6 +281,18 @@ pub ruleset moves = (upward, downward, move-cycle, move-op, move-now, cleared-mo
 
 pub ruleset drafting = (moves, add-op, remove-op, exhausted, unknown, known-request, drafts)
 
-pub ruleset issues = (acceptable, all-added, put-kept, writable, put-added, issue-refused, ready, issue-put, issue-unsound, issue-short, no-replica)
+pub ruleset issues = (
+  acceptable,
+  all-added,
+  put-kept,
+  writable,
+  put-added,
+  issue-refused,
+  ready,
+  issue-put,
+  issue-unsound,
+  issue-short,
+  no-replica,
+)
 
 pub ruleset issuing = (needs, tested, sound-structural, tallied, counted, requests, drafting, issues, lent)
