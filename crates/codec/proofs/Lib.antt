@@ -3,3 +3,4 @@ pub mod VectorLaws
 pub mod ReadLaws
 pub mod WriteLaws
 pub mod ReadsBackLaws
+pub mod AccessLaws

@@ -2,7 +2,8 @@
 use Prim.Native.Nat.{ℕ, _+_, _-_, _<_, _*_, _/_, _%_, _≤_}
 use borrow.Author.Tests.{lt-leb, le-leb, eq-eqb, ne-eqb}
 use lib.Dec.{leb, eqb}
-use lib.ListN.{length, take, getD, set}
+use lib.ListN.{length, take, getD, set, length-set}
+use lib.Seq.{take-all}
 use mathlib.Core.Bool.{_&&_, Bool, and-eq-true-iff, true}
 use mathlib.Core.List.{List, map}
 use mathlib.Core.Path.{_≡_, refl, sym, _∙_}
@@ -24,12 +25,33 @@ pub count-of : (v : Vector) (i : ℕ) → countIn v (i + 1) ≡ getD v i 0
 unfolding countIn
 count-of v i = let e : i + 1 - 1 ≡ i = omega arith in rw e
 
--- a turn of a loop that fills a vector by a rule
+-- a loop that fills a vector by a rule: i counts are made
+pub record Built (F : ℕ → ℕ) (v : List ℕ) (i : ℕ) : Type 0 where
+  pub made : i ≤ 8
+  pub eight : length v ≡ 8
+  pub part : take i v ≡ take i (map F replicas)
+
+-- a turn
 pub build-step : (F : ℕ → ℕ) (v : List ℕ) (i x : ℕ) → take i v ≡ take i (map F replicas) → i < 8 → length v ≡ 8 → x ≡ F (i + 1)
     → take (i + 1) (set v i x) ≡ take (i + 1) (map F replicas)
 build-step F v i x e h l ex =
     copy-step v (map F replicas) i x e (omega arith) (omega (arith, length-eight F))
     (ex ∙ sym (count-map F (i + 1) (omega arith) (omega arith)) ∙ count-of (map F replicas) i)
+
+pub build-none : (F : ℕ → ℕ) (v : List ℕ) → length v ≡ 8 → Built F v 0
+build-none F v l = record { made = omega arith; eight = l; part = refl }
+
+pub build-more : (F : ℕ → ℕ) (v : List ℕ) (i x : ℕ) → Built F v i → i < 8 → x ≡ F (i + 1) → Built F (set v i x) (i + 1)
+build-more F v i x b h e = record {
+  made = omega arith;
+  eight = length-set v i x ∙ b .eight;
+  part = build-step F v i x (b .part) h (b .eight) e;
+}
+
+pub build-all : (F : ℕ → ℕ) (v : List ℕ) (i : ℕ) → Built F v i → 8 ≤ i → v ≡ map F replicas
+build-all F v i b h =
+    let e : i ≡ 8 = omega (arith, b .made) in
+    sym (take-all 8 v (omega (arith, b .eight))) ∙ rw e at (b .part) ∙ take-all 8 (map F replicas) (omega (arith, length-eight F))
 
 ---- a comparison of four counts at once
 

@@ -1,6 +1,7 @@
 // Bytes to numbers and back: two-byte words, version vectors by value, and the reader and writer
 // of an op (the document's record); what a call answers.
 mod answer;
+mod field;
 mod op;
 mod vector;
 mod word;
@@ -8,15 +9,18 @@ mod word;
 pub use answer::Answer;
 pub use answer::Refusal;
 pub use answer::is_accepted;
+pub use field::kind_at;
+pub use field::node_at;
+pub use field::parent_at;
+pub use field::replica_at;
+pub use field::vector_at;
 pub use op::Fields;
 pub use op::Read;
 pub use op::kind_fits;
 pub use op::read_op;
 pub use op::write_op;
-pub use vector::vector_at;
 pub use vector::within;
 pub use word::put_word;
-pub use word::small;
 pub use word::widen;
 pub use word::widen16;
 pub use word::word_at;

@@ -70,16 +70,16 @@ judged-is f log pt ot s e lp lo = rw (s, le-leb slots (length pt) lp, le-leb slo
 
 module _ (p : Pair) (k : (d : Side) → Kept (p d)) (big : (d : Side) → largest width ≤ length (p d .buffer))
     (ag : Agreed (p left .held) (p right .held)) where
-  abbrev u : Log
+  abbrev pub u : Log
   u = union (logIn (p left)) (logIn (p right))
 
   agree : Agree (logIn (p left)) (logIn (p right))
   agree = agree-logs (p left) (p right) (k left) (k right) ag
 
-  wu : WideLog width u
+  pub wu : WideLog width u
   wu = union-wide (logIn (p left)) (logIn (p right)) width (kept-wide (p left) (k left)) (kept-wide (p right) (k right))
 
-  su : SoundLog u
+  pub su : SoundLog u
   su = sound-union (logIn (p left)) (logIn (p right)) agree (kept-sound (p left) (k left)) (kept-sound (p right) (k right))
 
   gu : GoodLog u
@@ -89,7 +89,7 @@ module _ (p : Pair) (k : (d : Side) → Kept (p d)) (big : (d : Side) → larges
   unfolding other
   extends = both left (λ d. Extends (logIn (p d)) u) (union-left _ _ agree) (union-right _ _ agree)
 
-  stands : (d : Side) → Stands u (p d .buffer) (p d)
+  pub stands : (d : Side) → Stands u (p d .buffer) (p d)
   stands d = record { kept = k d; inside = extends d; size = refl; past = refl }
 
   either : (d : Side) (r : Op) → OpIn (logIn (p left)) r ⊎ OpIn (logIn (p right)) r

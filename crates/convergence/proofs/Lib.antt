@@ -10,3 +10,4 @@ pub mod ArriveLaws
 pub mod MoveLaws
 pub mod ClashLaws
 pub mod ClashTheorem
+pub mod HandoverTheorem

@@ -19,7 +19,7 @@ use Rattle.rules.specs.Deliver.{held, deliverAnswer}
 use Rattle.convergence.specs.Exchange.{Site, answer, has, Side, left, right, other, isSide, Pair, missing, Offer, Round, answerTo, offered, after, Answered, answers, acceptances, acceptedBy, offers, ValidRound, EachRound, onlyIn}
 use Rattle.convergence.specs.Converges.{expected}
 use Rattle.rules.specs.Answer.{Answer, refused, hadIt, accepted, ifAccepted, done}
-use Rattle.lists.proofs.BoolLaws.{never, and-left, and-right, and-both, or-cases}
+use Rattle.lists.proofs.BoolLaws.{never, and-left, and-right, or-cases}
 use Rattle.rules.proofs.AppendLaws.{in-range, own-next, seq-positive}
 use Rattle.rules.proofs.DeliverLaws.{appended-past, Admitted, admitted, appended-log, appended-end, appended-length}
 use Rattle.rules.proofs.OfferLaws.{Agree, Offered, early, offered-in-full, had, taken}
@@ -32,6 +32,7 @@ use Rattle.rules.proofs.InLaws.{OpIn, in-more, append-within, op-in}
 use Rattle.convergence.proofs.KeptLaws.{logIn, Kept, kept-ops, kept-grown, grown-new, kept-good}
 use Rattle.convergence.proofs.SideLaws.{both, side-self, side-other, side-eq, missing-from, delivered, offered-to, offered-other, offered-same, answers-append, after-append, acceptedBy-append, acceptances-append}
 use Rattle.rules.proofs.SoundLaws.{SoundLog}
+use Rattle.lists.proofs.AllLaws.{all-append}
 
 -- a side in the rounds: its log lies within u, and past its file are the bytes of f, the buffer before the rounds
 pub record Stands (u : Log) (f : List ℕ) (x : Site) : Type 0 where
@@ -84,12 +85,6 @@ reached (o ∷ os) p d r n e h = go (ifAccepted (answerTo p o) true false) refl 
         (λ (z : offers os d r ≡ true). ih z (rw (offered-same p o q d) h))
         (or-cases (isSide d (o .to) && same r (o .op)) (offers os d r) e)
 
-all-append : (a b : List Answered) → all (λ x. expected (x .answered)) a ≡ true → all (λ x. expected (x .answered)) b ≡ true
-    → all (λ x. expected (x .answered)) (a ++ b) ≡ true
-unfolding all
-all-append [] b e h = h
-all-append (x ∷ a) b e h = and-both (and-left (expected (x .answered)) _ e) (all-append a b (and-right (expected (x .answered)) _ e) h)
-
 module _ (u : Log) (su : SoundLog u) (wu : WideLog width u) (base : Side → List ℕ) (big : (d : Side) → largest width ≤ length (base d))
   where
     ---- one offer
@@ -102,7 +97,7 @@ module _ (u : Log) (su : SoundLog u) (wu : WideLog width u) (base : Side → Lis
         rw (i .there) at (offered-in-full width u su wu (x .buffer) (s .kept .is-sound) agree (replicaOf r) (seqOf r) (i .low) (i .high)
         (seq-positive r) (i .here) room)
 
-    stands-grown : (d : Side) (x : Site) → Stands u (base d) x → (r : Op) → OpIn u r → (n : ℕ) → Admitted width (x .buffer) r n
+    pub stands-grown : (d : Side) (x : Site) → Stands u (base d) x → (r : Op) → OpIn u r → (n : ℕ) → Admitted width (x .buffer) r n
         → Stands u (base d) (record { buffer = appended width (x .buffer) r; held = x .held ++ (r ∷ []) })
     stands-grown d x s r i n h =
         let good = kept-good x (s .kept) in
@@ -129,7 +124,7 @@ module _ (u : Log) (su : SoundLog u) (wu : WideLog width u) (base : Side → Lis
     pass-then : {p q z : Pair} {xs ys : List Answered} → Passes u base p q xs → Passes u base q z ys → Passes u base p z (xs ++ ys)
     pass-then {p} {q} {z} {xs} {ys} a b = record {
       stands = b .stands;
-      answered = all-append xs ys (a .answered) (b .answered);
+      answered = all-append (λ x. expected (x .answered)) xs ys (a .answered) (b .answered);
       gained = λ d. rw (b .gained d, a .gained d, acceptedBy-append) (append-assoc (p d .held) (acceptedBy d xs) (acceptedBy d ys));
       fewer = omega (arith, a .fewer, b .fewer, acceptances-append xs ys);
     }
@@ -147,13 +142,18 @@ module _ (u : Log) (su : SoundLog u) (wu : WideLog width u) (base : Side → Lis
 
     -- the side t gains the op r
     pass-gain : (p q : Pair) (t : Side) (r : Op) (n : ℕ) → ((d : Side) → Stands u (base d) (p d)) → has (p (other t) .held) r ≡ true
-        → OpIn u r → Admitted width (p t .buffer) r n → q t ≡ record { buffer = appended width (p t .buffer) r; held = p t .held ++ (r ∷ []) }
+        → OpIn u r → Admitted width (p t .buffer) r n → q t ≡ record {
+          buffer = appended width (p t .buffer) r;
+          held = p t .held
+              ++ (r ∷ []);
+        }
         → q (other t) ≡ p (other t) → Passes u base p q (record { offer = record { to = t; op = r }; answered = accepted n } ∷ [])
     unfolding all acceptedBy acceptances filter expected
     pass-gain p q t r n s o i h eq eo = record {
       stands = both t (λ d. Stands u (base d) (q d)) (rw eq (stands-grown t (p t) (s t) r i n h)) (rw eo (s (other t)));
       answered = refl;
-      gained = both t (λ d. q d .held ≡ p d .held ++ acceptedBy d (record { offer = record { to = t; op = r }; answered = accepted n } ∷ []))
+      gained = both t (λ d. q d .held ≡ p d .held ++ acceptedBy d (record { offer = record { to = t; op = r }; answered = accepted n }
+          ∷ []))
           (rw (side-self t, eq)) (rw (side-other t, eo) (sym (append-nil (p (other t) .held))));
       fewer = rw (missing-from p t, missing-from q t, eq, eo, onlyIn-same (p t .held) (p (other t) .held) r o)
           (omega (

@@ -1,5 +1,6 @@
 pub mod Exchange
 pub mod Lists
 pub mod Converges
+pub mod Handover
 pub mod Clash
 pub mod Meeting

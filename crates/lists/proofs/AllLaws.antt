@@ -46,3 +46,8 @@ module _ {A : Type 0} (p : A → Bool) (d : A) where
   unfolding all
   all-of [] h = refl
   all-of (x ∷ xs) h = and-both (h 0 (omega arith)) (all-of xs (λ i l. h (suc i) (omega arith)))
+
+pub all-append : {A : Type 0} (p : A → Bool) (xs ys : List A) → all p xs ≡ true → all p ys ≡ true → all p (xs ++ ys) ≡ true
+unfolding all
+all-append p [] ys a b = b
+all-append p (x ∷ xs) ys a b = and-both (and-left (p x) _ a) (all-append p xs ys (and-right (p x) _ a) b)

@@ -7,7 +7,7 @@ use Prim.Native.Nat.{_+_, _<_, _≤_, suc, zero, ℕ}
 use mathlib.Core.Path.{_∙_, _≡_, ap, ap₂, refl, sym}
 use native.Mathlib.Numerals.{add-one}
 use native.Mathlib.Omega.{arith}
-use lib.ListN.{drop, drop-of-length-le, getD, length, replicate, replicate-append-replicate, set, take}
+use lib.ListN.{length-set, drop, drop-of-length-le, getD, length, replicate, replicate-append-replicate, set, take}
 use lib.Seq.{drop-cons, drop-drop, take-all, take-nil, take-suc, take-suc-set}
 use borrow.Author.Tests.{eq-eqb, eqb-true}
 use lib.Dec.{eqb}
@@ -90,12 +90,32 @@ pub copy-step : (v s : List ℕ) (i x : ℕ) → take i v ≡ take i s → i < l
     → take (i + 1) (set v i x) ≡ take (i + 1) s
 copy-step v s i x e hv hs ex = rw (add-one, take-suc-set, take-suc s i 0, e, ex)
 
--- a turn of a loop that fills a table with one number
-pub fill-step : (t : List ℕ) (i x : ℕ) → take i t ≡ replicate i x → i < length t → take (i + 1) (set t i x) ≡ replicate (i + 1) x
+---- a loop that fills a table of n entries with x: the first i have it
+
+pub record Filled (x n i : ℕ) (t : List ℕ) : Type 0 where
+  pub size : length t ≡ n
+  pub made : i ≤ n
+  pub part : take i t ≡ replicate i x
+
+pub fill-none : (x n : ℕ) (t : List ℕ) → length t ≡ n → Filled x n 0 t
+fill-none x n t l = record { size = l; made = omega arith; part = refl }
+
+fill-step : (t : List ℕ) (i x : ℕ) → take i t ≡ replicate i x → i < length t → take (i + 1) (set t i x) ≡ replicate (i + 1) x
 fill-step t i x e h = rw (add-one i, take-suc-set t i x h, e) (replicate-append-replicate i 1 x ∙ ap (λ (n : ℕ). replicate n x) (add-one i))
 
-pub filled : (t : List ℕ) (n x : ℕ) → length t ≡ n → take n t ≡ replicate n x → t ≡ replicate n x
-filled t n x l e = sym (take-all n t (omega arith)) ∙ e
+pub fill-more : (x n i : ℕ) (t : List ℕ) → Filled x n i t → i < n → Filled x n (i + 1) (set t i x)
+fill-more x n i t f h = record {
+  size = length-set t i x ∙ f .size;
+  made = omega arith;
+  part = fill-step t i x (f .part) (omega (arith, f .size));
+}
+
+pub fill-all : (x n i : ℕ) (t : List ℕ) → Filled x n i t → n ≤ i → t ≡ replicate n x
+fill-all x n i t f h =
+    let e : i ≡ n = omega (arith, f .made) in
+    sym (take-all n t (omega (arith, f .size))) ∙ rw e at (f .part)
+
+---- parts of parts
 
 pub drop-take : (m n : ℕ) (l : List ℕ) → drop m (take (m + n) l) ≡ take n (drop m l)
 drop-take zero n l = rw zero-add

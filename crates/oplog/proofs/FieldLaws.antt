@@ -1,22 +1,50 @@
 -- Where the fields of an op stand in a laid-out file. Assumes nothing.
 use lib.Seq.{getD-take, getD-drop, drop-drop, take-take}
-use mathlib.Core.Path.{_≡_, ap, _∙_}
-use mathlib.Core.Bool.{true}
+use lib.Dec.{eqb}
+use borrow.Author.Needs.{needs}
+use borrow.Author.Tests.{eq-eqb, ne-eqb}
+use mathlib.Core.Path.{_≡_, refl, sym, ap, _∙_}
+use mathlib.Core.Bool.{true, false, _&&_}
 use mathlib.Core.List.{List}
-use Prim.Native.Nat.{ℕ, _+_, _*_, _-_, _≤_, _<_}
+use Prim.Native.Nat.{ℕ, _+_, _*_, _-_, _^_, _≤_, _<_}
 use native.Mathlib.Omega.{arith}
-use lib.ListN.{length, take, drop, getD}
-use native.Mathlib.Nat.{add-zero, mul-le-mul-left, mul-add, mul-one}
-use Rattle.rules.specs.Op.{Vector, countIn, kindOf, nodeOf, parentOf, replicaOf, vectorOf}
-use Rattle.rules.specs.Bytes.{byte, wordAt}
-use Rattle.lists.specs.Lists.{sum}
+use lib.ListN.{length, take, drop, getD, length-take, length-drop}
+use native.Mathlib.Nat.{mul-le-mul-left, mul-add, mul-one}
+use Rattle.rules.specs.Op.{Op, Vector, countIn, kindOf, nodeOf, parentOf, replicaOf, vectorOf}
+use Rattle.rules.specs.Bytes.{wordAt}
+use Rattle.lists.specs.Lists.{sum, same}
 use Rattle.rules.specs.File.{countsOf, opAt, startAt, startOf, fileEnd, logOf, opsOf, within, countAt, endOf, headerCounts}
 use Rattle.rules.specs.Log.{laid}
 use Rattle.rules.proofs.StructureLaws.{Laid, laid-reads}
 use Rattle.rules.proofs.FileLaws.{counts-at, counts-logOf, ops-chunksOf, length-counts, chunk-at}
 use Rattle.rules.proofs.CausalLaws.{within-le}
-use Rattle.lists.proofs.ListLaws.{sum-take, drop-take}
+use Rattle.lists.proofs.ListLaws.{sum-take, drop-take, sameFrom, same-all, same-turn, same-end}
+use Rattle.codec.proofs.AccessLaws.{kind-there, node-there, parent-there}
 use Rattle.oplog.specs.Spots.{Spot, Counted, placeOf}
+
+-- two ops of the same fields
+pub record SameFields (r o : Op) : Type 0 where
+  pub kind : kindOf r ≡ kindOf o
+  pub replica : replicaOf r ≡ replicaOf o
+  pub node : nodeOf r ≡ nodeOf o
+  pub parent : parentOf r ≡ parentOf o
+  pub vector : vectorOf r ≡ vectorOf o
+
+-- the fields of an op stand in its first 14 bytes
+same-front : (w : ℕ) (o : Op) → 14 ≤ w → SameFields (take w o) o
+unfolding kindOf replicaOf nodeOf parentOf vectorOf wordAt
+same-front w o h =
+    let e : (i : ℕ) → i < 14 → getD (take w o) i 0 ≡ getD o i 0 = λ i l. getD-take w o i 0 (omega arith) in
+    let s : w ≡ 6 + (w - 6) = omega arith in
+    let v : take 8 (drop 6 (take w o)) ≡ take 8 (drop 6 o) =
+    ap (λ (n : ℕ). take 8 (drop 6 (take n o))) s ∙ rw (drop-take 6 (w - 6), take-take 8 (w - 6) _ (omega arith)) in
+    record {
+      kind = e 0 (omega arith);
+      replica = e 1 (omega arith);
+      node = rw (e 2 (omega arith), e 3 (omega arith));
+      parent = rw (e 4 (omega arith), e 5 (omega arith));
+      vector = v;
+    }
 
 pub counts-in : (w : ℕ) (f : List ℕ) (s : ℕ) → 1 ≤ s → s ≤ 8 → countIn (countsOf (logOf w f)) s ≡ countAt f s
 counts-in w f s l u = ap (λ v. countIn v s) (counts-logOf w f) ∙ counts-at f s l u
@@ -28,14 +56,13 @@ module _ (w : ℕ) (f : List ℕ) (s q : ℕ) (x : Spot w f s q) where
   pub header-fits : 32 ≤ length f
   header-fits = facts .header
 
-  pub start-is : wordAt f (4 * (s - 1) + 2) ≡ startOf w (headerCounts f) s
-  unfolding startAt
+  start-is : startAt f s ≡ startOf w (headerCounts f) s
   start-is = facts .starts s (x .low) (x .high)
 
   pub small : q ≤ 255
   small = omega (arith, x .last, facts .counts s (x .low) (x .high))
 
-  pub fits : placeOf w f s q + w ≤ length f
+  fits : placeOf w f s q + w ≤ length f
   unfolding startOf fileEnd endOf countIn
   fits =
       let c : List ℕ = headerCounts f in
@@ -43,6 +70,9 @@ module _ (w : ℕ) (f : List ℕ) (s q : ℕ) (x : Spot w f s q) where
       let m : w * (sum (take (s - 1) c) + (q - 1) + 1) ≤ w * sum c = mul-le-mul-left w
       (omega (arith, sum-take c (s - 1), x .first, x .last)) in
       omega (arith, facts .fits, mul-add w (sum (take (s - 1) c) + (q - 1)) 1, mul-add w (sum (take (s - 1) c)) (q - 1), mul-one w)
+
+  pub place-size : length f < 2 ^ 64 → w * (q - 1) < 2 ^ 64
+  place-size h = omega (arith, fits)
 
   -- every byte of the op
   pub op-is : opAt (logOf w f) s q ≡ take w (drop (placeOf w f s q) f)
@@ -59,34 +89,30 @@ module _ (w : ℕ) (f : List ℕ) (s q : ℕ) (x : Spot w f s q) where
       (let e : 32 + (w * sum (take (s - 1) (headerCounts f)) + w * (q - 1)) ≡ 32 + w * sum (take (s - 1) (headerCounts f)) + w * (q - 1) =
       omega arith in ap (λ (i : ℕ). take w (drop i f)) e)
 
-  pub byte-is : (i : ℕ) → i < 14 → byte (opAt (logOf w f) s q) i ≡ byte f (placeOf w f s q + i)
-  byte-is i h = let h′ : i < w = omega (arith, x .wide) in rw (op-is, getD-take, getD-drop)
+  -- the fields of the op, where it starts
+  pub fields-at : (at : ℕ) → at ≡ placeOf w f s q → SameFields (opAt (logOf w f) s q) (drop at f)
+  fields-at at e = rw (op-is, e) (same-front w (drop (placeOf w f s q) f) (x .wide))
 
   pub kind-is : kindOf (opAt (logOf w f) s q) ≡ getD f (placeOf w f s q) 0
-  unfolding kindOf
-  kind-is = byte-is 0 (omega arith) ∙ rw add-zero
-
-  pub replica-is : replicaOf (opAt (logOf w f) s q) ≡ getD f (placeOf w f s q + 1) 0
-  unfolding replicaOf
-  replica-is = byte-is 1 (omega arith)
+  kind-is = fields-at _ refl .kind ∙ sym (kind-there f _)
 
   pub node-is : nodeOf (opAt (logOf w f) s q) ≡ wordAt f (placeOf w f s q + 2)
-  unfolding nodeOf wordAt
-  node-is = rw (byte-is 2 (omega arith), byte-is 3 (omega arith)) (let e : placeOf w f s q + 3 ≡ placeOf w f s q + 2 + 1 = omega arith in
-      rw e)
+  node-is = fields-at _ refl .node ∙ sym (node-there f _ _ refl)
 
   pub parent-is : parentOf (opAt (logOf w f) s q) ≡ wordAt f (placeOf w f s q + 4)
-  unfolding parentOf wordAt
-  parent-is = rw (byte-is 4 (omega arith), byte-is 5 (omega arith)) (let e : placeOf w f s q + 5 ≡ placeOf w f s q + 4 + 1 = omega arith in
-      rw e)
+  parent-is = fields-at _ refl .parent ∙ sym (parent-there f _ _ refl)
 
-  pub vector-is : vectorOf (opAt (logOf w f) s q) ≡ take 8 (drop (placeOf w f s q + 6) f)
-  unfolding vectorOf
-  vector-is =
-      let e : w ≡ 6 + (w - 6) = omega (arith, x .wide) in
-      ap (λ r. take 8 (drop 6 r)) op-is
-      ∙ ap (λ (n : ℕ). take 8 (drop 6 (take n (drop (placeOf w f s q) f)))) e
-      ∙ rw (drop-take 6 (w - 6), take-take 8 (w - 6) _ (omega (arith, x .wide)), drop-drop)
+  ---- the place as the code works it out; m is the start that was read
+
+  module _ (m : ℕ) (e : m ≡ startAt f s) where
+    pub place-is : m + w * (q - 1) ≡ placeOf w f s q
+    place-is = rw (e, start-is)
+
+    pub place-fits : m + w * (q - 1) + w ≤ length f
+    place-fits = rw place-is fits
+
+    pub place-sum : length f < 2 ^ 64 → m + w * (q - 1) < 2 ^ 64
+    place-sum h = omega (arith, place-fits)
 
 -- a spot that a counted vector counts
 pub spot-of : (w : ℕ) (f : List ℕ) (v : Vector) → Counted w f v → (s q : ℕ) → 1 ≤ s → s ≤ 8 → 1 ≤ q → q ≤ countIn v s → Spot w f s q
@@ -106,3 +132,51 @@ counted-of w f v h e c = record {
   is-laid = e;
   each = λ s l u. omega (arith, within-le v (headerCounts f) c s l u, counts-at f s l u);
 }
+
+---- comparing bytes
+
+-- the first i bytes of an op are those of the file from a place on
+pub record Compared (f : List ℕ) (at : ℕ) (op : List ℕ) (end i : ℕ) : Type 0 where
+  pub whole : end ≡ length op
+  pub fits : at + length op ≤ length f
+  pub few : i ≤ length op
+  pub left : same op (take (length op) (drop at f)) ≡ sameFrom op (take (length op) (drop at f)) i
+
+module _ (f : List ℕ) (at : ℕ) (op : List ℕ) where
+  abbrev part : List ℕ
+  part = take (length op) (drop at f)
+
+  part-long : at + length op ≤ length f → length part ≡ length op
+  part-long h = simp (length-take, length-drop) (omega arith)
+
+  pub same-first : at + length op ≤ length f → Compared f at op (length op) 0
+  same-first h = record { whole = refl; fits = h; few = omega arith; left = same-all op part }
+
+  module _ (end i : ℕ) (t : Compared f at op end i) where
+    same-next-byte : i < length op → same op part ≡ (eqb (getD op i 0) (getD f (at + i) 0) && sameFrom op part (i + 1))
+    same-next-byte h =
+        let e : getD part i 0 ≡ getD f (at + i) 0 = rw (getD-take, getD-drop) in
+        t .left ∙ same-turn op part i h (omega (arith, part-long (t .fits))) ∙ rw e
+
+    module _ (h : i < end) where
+      here : i < length op
+      here = omega (arith, t .whole)
+
+      pub same-differs : (getD op i 0 ≡ getD f (at + i) 0 → ⊥) → false ≡ same op (take (length op) (drop at f))
+      same-differs e = sym (same-next-byte here ∙ rw (ne-eqb _ _ e))
+
+      pub same-next : getD op i 0 ≡ getD f (at + i) 0 → Compared f at op end (i + 1)
+      same-next e = record {
+        whole = t .whole;
+        fits = t .fits;
+        few = omega (arith, here);
+        left = same-next-byte here ∙ rw (eq-eqb _ _ e);
+      }
+
+    pub same-last : end ≤ i → true ≡ same op (take (length op) (drop at f))
+    same-last h = sym (t .left ∙ same-end op part i (omega (arith, t .whole)) (omega (arith, t .whole, part-long (t .fits))))
+
+---- what the code of places needs: search placing
+pub ruleset comparing = (same-first, same-differs, same-next, same-last)
+
+pub ruleset placing = (needs, header-fits, place-size, place-sum, place-is, place-fits, comparing)

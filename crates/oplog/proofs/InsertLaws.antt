@@ -1,25 +1,23 @@
 -- Laws of putting an op into a buffer: bytes moved up, the op in front of them, the header anew. Assumes nothing.
-use lib.ListN.{length-take, length-drop, length-append, List·getD-append, length, take, drop, getD, set}
-use lib.Seq.{take-all, take-suc, drop-cons, append-snoc, set-at, length-take-le, getD-take, slice, slice-cons, slice-empty, take-take, drop-drop, take-add, take-at, drop-at, drop-append-add, sets-eq}
-use mathlib.Core.List.{append-nil, List, [], _∷_, _++_, map, append-assoc, map-append}
+use lib.ListN.{length-take, length-drop, length-append, length-set, List·getD-append, length, take, drop, getD, set}
+use lib.Seq.{take-all, take-length, take-suc, drop-cons, append-snoc, set-at, length-take-le, getD-take, slice, slice-cons, slice-empty, take-take, drop-drop, take-add, drop-at}
+use mathlib.Core.List.{append-nil, List, [], _∷_, _++_, map, append-assoc}
 use mathlib.Core.Path.{_≡_, refl, sym, ap, _∙_}
 use mathlib.Core.Bool.{true}
-use Prim.Native.Nat.{ℕ, zero, suc, _+_, _*_, _-_, _/_, _%_, _≤_, _<_}
+use Prim.Native.Nat.{ℕ, zero, suc, _+_, _*_, _-_, _^_, _≤_, _<_}
 use native.Mathlib.Omega.{arith}
 use native.Mathlib.Numerals.{add-one}
-use native.Mathlib.Nat.{mul-add}
-use Rattle.rules.specs.File.{endOf, headerEntry, headerCounts, fileEnd, startOf, opsOf, Log, headerOf, countsOf, logOf, append, appended}
-use Rattle.rules.specs.Log.{laid}
+use native.Mathlib.Nat.{mul-add, zero-add}
+use borrow.Author.Needs.{needs}
+use Rattle.rules.specs.File.{endOf, headerCounts, fileEnd, startOf, opsOf, Log, headerOf, countsOf, logOf, append, appended}
+use Rattle.rules.specs.Log.{laid, soundHeader}
 use Rattle.rules.specs.Op.{countIn, Op, Vector, replicaOf}
-use Rattle.lists.specs.Lists.{upFrom, sum, concat}
-use Rattle.rules.specs.Bytes.{word}
+use Rattle.lists.specs.Lists.{sum}
 use Rattle.rules.proofs.InsertLaws.{appended-bytes}
-use Rattle.rules.proofs.FileLaws.{counts-logOf}
+use Rattle.rules.proofs.FileLaws.{counts-at, counts-logOf}
 use Rattle.rules.proofs.StructureLaws.{count-held, laid-reads}
-use Rattle.lists.proofs.ListLaws.{concat-append}
-use Rattle.lists.proofs.RangeLaws.{upFrom-add}
-use Rattle.oplog.specs.Spots.{inserted}
-use Rattle.oplog.proofs.HeaderLaws.{entries-length, entries}
+use Rattle.oplog.specs.Append.{Appendable, headedBy, inserted, shifted}
+use Rattle.oplog.proofs.HeaderLaws.{end-is, laid-header, laid-long, start-within}
 
 ---- moving up
 
@@ -42,6 +40,31 @@ moved-step w m p j k e hk hm =
     ∙ ap (λ (x : ℕ). getD p j 0 ∷ slice x m p) e in
     rw (r, a, append-snoc, set-at (take (j + w) p) _ _ _ (j + w) (length-take-le (j + w) p (omega arith)), s)
 
+-- part is p, whose bytes from k on are moved up by w
+pub record MovedUp (w : ℕ) (p part : List ℕ) (k : ℕ) : Type 0 where
+  pub long : w ≤ length p
+  pub few : k ≤ length p - w
+  pub same : length part ≡ length p
+  pub bytes : part ≡ moved w (length p - w) p k
+
+module _ (w : ℕ) (p : List ℕ) where
+  pub move-first : w ≤ length p → MovedUp w p p (length p - w)
+  move-first h = record { long = h; few = omega arith; same = refl; bytes = moved-none w (length p - w) p (omega arith) }
+
+  module _ (part : List ℕ) (k : ℕ) (t : MovedUp w p part k) where
+    pub move-next : 0 < k → MovedUp w p (set part (k - 1 + w) (getD part (k - 1) 0)) (k - 1)
+    move-next h = record {
+      long = t .long;
+      few = omega (arith, t .few);
+      same = length-set part _ _ ∙ t .same;
+      bytes =
+          ap (λ (x : List ℕ). set x (k - 1 + w) (getD x (k - 1) 0)) (t .bytes)
+          ∙ moved-step w (length p - w) p (k - 1) k (omega arith) (t .few) (omega (arith, t .long));
+    }
+
+    pub move-last : k ≤ 0 → part ≡ take w p ++ take (length p - w) p
+    move-last h = let e : k ≡ 0 = omega arith in rw (e, zero-add) at (t .bytes)
+
 ---- storing in front
 
 -- d with its first j bytes replaced by r's
@@ -52,44 +75,50 @@ pub front-step : (r d : List ℕ) (j : ℕ) → j < length r → length r ≤ le
 front-step r d j h hd =
     rw (drop-cons d j 0 (omega arith), set-at (take j r) _ _ _ j (length-take-le j r (omega arith)), add-one, take-suc r j 0, append-snoc)
 
+-- part is d with its first j bytes replaced by r's
+pub record Fronted (r d part : List ℕ) (end j : ℕ) : Type 0 where
+  pub whole : end ≡ length r
+  pub long : length r ≤ length d
+  pub few : j ≤ length r
+  pub same : length part ≡ length d
+  pub bytes : part ≡ front r d j
+
+module _ (r d : List ℕ) where
+  pub front-first : length r ≤ length d → Fronted r d d (length r) 0
+  front-first h = record { whole = refl; long = h; few = omega arith; same = refl; bytes = refl }
+
+  module _ (part : List ℕ) (end j : ℕ) (t : Fronted r d part end j) where
+    pub front-next : j < end → Fronted r d (set part j (getD r j 0)) end (j + 1)
+    front-next h =
+        let l : j < length r = omega (arith, t .whole) in
+        record {
+          whole = t .whole;
+          long = t .long;
+          few = omega arith;
+          same = length-set part _ _ ∙ t .same;
+          bytes = ap (λ (x : List ℕ). set x j (getD r j 0)) (t .bytes) ∙ front-step r d j l (t .long);
+        }
+
+    pub front-last : end ≤ j → part ≡ r ++ drop (length r) d
+    front-last h = let e : j ≡ length r = omega (arith, t .whole, t .few) in t .bytes ∙ rw (e, take-length)
+
+-- the op in front of the bytes that were moved up
+pub shift-front : (r p a b : List ℕ) → length r ≤ length p → a ≡ take (length r) p ++ take (length p - length r) p
+    → b ≡ r ++ drop (length r) a → b ≡ shifted r p
+unfolding shifted
+shift-front r p a b h e i = i ∙ rw (e, drop-at (take (length r) p) _ (length r) (length-take-le (length r) p h))
+
 -- a part with the op in front of its moved bytes, put back into its buffer
 pub put-back : (r b ys : List ℕ) (place end : ℕ) → place ≤ end → end + length r ≤ length b
-    → ys ≡ r ++ take (length (take (end + length r - place) (drop place b)) - length r) (take (end + length r - place) (drop place b))
+    → ys ≡ shifted r (take (end + length r - place) (drop place b))
     → take place b ++ (ys ++ drop (end + length r - place) (drop place b)) ≡ inserted r b place end (length r)
+unfolding inserted shifted
 put-back r b ys place end h hb e =
     let w : ℕ = length r in
     let n : length (take (end + w - place) (drop place b)) - w ≡ end - place = simp (length-take, length-drop) (omega arith) in
     let q : place + (end + w - place) ≡ end + w = omega arith in
     let t : end - place ≤ end + w - place = omega arith in
     rw (e, n, take-take (end - place) (end + w - place) (drop place b) t, drop-drop, q, append-assoc)
-
----- the header
-
-entries-next : (w : ℕ) (counts : Vector) (i : ℕ) → entries w counts (i + 1) ≡ entries w counts i ++ headerEntry w counts (i + 1)
-unfolding entries upFrom concat
-entries-next w counts i =
-    let e : 1 + i ≡ i + 1 = omega arith in
-    rw (upFrom-add 1 i 1, map-append, concat-append, append-nil, e)
-
--- the two numbers of an entry stored after the entries before it
-pub entry-step : (w : ℕ) (counts b : List ℕ) (i n m : ℕ) → n ≡ countIn counts (i + 1) → m ≡ startOf w counts (i + 1) → 4 * i + 4 ≤ length b
-    → set (set (set (set (entries w counts i ++ drop (4 * i) b) (4 * i) (n / 256)) (4 * i + 1) (n % 256)) (4 * i + 2) (m / 256))
-    (4 * i + 2 + 1) (m % 256) ≡ entries w counts (i + 1) ++ drop (4 * (i + 1)) b
-unfolding headerEntry word
-entry-step w counts b i n m en em h =
-    let p : List ℕ = entries w counts i in
-    let l : List ℕ = p ++ drop (4 * i) b in
-    let vs : List ℕ = n / 256 ∷ n % 256 ∷ m / 256 ∷ m % 256 ∷ [] in
-    let e1 : 4 * i + 1 ≡ suc (4 * i) = omega arith in
-    let e2 : 4 * i + 2 ≡ suc (suc (4 * i)) = omega arith in
-    let e3 : 4 * i + 2 + 1 ≡ suc (suc (suc (4 * i))) = omega arith in
-    let k : length p ≡ 4 * i = entries-length w counts i in
-    let z : 4 * i + 4 ≤ length l = rw (length-append, length-drop, k) (omega arith) in
-    let q : 4 * i + 4 ≡ length p + 4 = omega arith in
-    let r : 4 * i + 4 ≡ 4 * (i + 1) = omega arith in
-    let d : drop (4 * i + 4) l ≡ drop (4 * (i + 1)) b = rw (q, drop-append-add p (drop (4 * i) b) 4, drop-drop 4 (4 * i) b)
-    (ap (λ (x : ℕ). drop x b) r) in
-    rw (e3, e2, e1) (sets-eq vs l (4 * i) z ∙ rw (take-at p (drop (4 * i) b) (4 * i) k, d, entries-next, ← en, ← em))
 
 ---- the whole
 
@@ -99,7 +128,7 @@ map-set (x ∷ log) zero ops = refl
 map-set (x ∷ log) (suc i) ops = ap (_∷_ (length x)) (map-set log i ops)
 
 -- the counts with one op more
-pub counts-append : (w : ℕ) (f : List ℕ) (r : Op) → 1 ≤ replicaOf r
+counts-append : (w : ℕ) (f : List ℕ) (r : Op) → 1 ≤ replicaOf r
     → countsOf (append (logOf w f) r) ≡ set (headerCounts f) (replicaOf r - 1) (getD (headerCounts f) (replicaOf r - 1) 0 + 1)
 unfolding countsOf append countIn
 counts-append w f r l =
@@ -114,10 +143,10 @@ counts-append w f r l =
     count-getD w f s = ap (λ v. getD v (s - 1) 0) (counts-logOf w f)
 
 -- a new header over the inserted op: the buffer with one op more
-pub inserted-appended : (w : ℕ) (f : List ℕ) (r : Op) → laid w f ≡ true → 1 ≤ replicaOf r → replicaOf r ≤ 8
+inserted-appended : (w : ℕ) (f : List ℕ) (r : Op) → laid w f ≡ true → 1 ≤ replicaOf r → replicaOf r ≤ 8
     → headerOf w (countsOf (append (logOf w f) r)) ++ drop 32 (inserted r f (startOf w (headerCounts f) (replicaOf r + 1)) (fileEnd w f) w)
     ≡ appended w f r
-unfolding startOf fileEnd endOf sum
+unfolding startOf fileEnd endOf sum inserted
 inserted-appended w f r good l u =
     let c : List ℕ = headerCounts f in
     let s : ℕ = replicaOf r in
@@ -138,3 +167,65 @@ inserted-appended w f r good l u =
     sum-split [] (suc n) = omega arith
     sum-split (x ∷ c) zero = omega arith
     sum-split (x ∷ c) (suc n) = omega (arith, sum-split c n)
+
+-- and then the header
+pub put-head : (w : ℕ) (v : Vector) (r b x y : List ℕ) (place end : ℕ) → x ≡ inserted r b place end (length r)
+    → y ≡ headerOf w v ++ drop 32 x → y ≡ headedBy w v r b place end
+unfolding headedBy
+put-head w v r b x y place end e i = i ∙ rw e
+
+---- adding an op: v are the held counts
+
+module _ (v : Vector) (s : ℕ) where
+  pub more-fits : countIn v s < 255 → getD v (s - 1) 0 + 1 < 2 ^ 8
+  unfolding countIn
+  more-fits h = omega arith
+
+  pub more-is : set v (s - 1) (getD v (s - 1) 0 + 1) ≡ set v (s - 1) (countIn v s + 1)
+  unfolding countIn
+  more-is = refl
+
+module _ (w : ℕ) (f : List ℕ) (v : Vector) (s : ℕ) (r : Op) (t : Appendable w f v s r) where
+  pub append-long : 32 ≤ length f
+  append-long = laid-long w f (t .is-laid)
+
+  pub append-header : soundHeader w f ≡ true
+  append-header = laid-header w f (t .is-laid)
+
+  pub append-below : countIn v s < 255
+  append-below = rw (t .held, counts-at f s (t .low) (t .high)) (t .below)
+
+  -- where the file ends, and where the replica's ops end
+  module _ (end : ℕ) (ie : end ≡ startOf w (headerCounts f) 9) where
+    end-there : end ≡ fileEnd w f
+    end-there = ie ∙ end-is w f
+
+    pub op-fits : end + length r ≤ length f
+    op-fits = omega (arith, end-there, t .room, t .long)
+
+    pub end-small : length f < 2 ^ 64 → end + w < 2 ^ 64
+    end-small h = omega (arith, end-there, t .room)
+
+    pub end-after : end + w ≡ fileEnd w f + w
+    end-after = rw end-there
+
+    module _ (place : ℕ) (is : place ≡ startOf w (headerCounts f) (s + 1)) where
+      pub place-before : place ≤ end
+      place-before = omega (arith, end-there, start-within w f s)
+
+      pub append-all : (c : Vector) → c ≡ set v (s - 1) (countIn v s + 1) → (b : List ℕ) → b ≡ headedBy w c r f place end
+          → b ≡ appended w f r
+      unfolding countIn headedBy
+      append-all c ic b ib =
+          let l : 1 ≤ replicaOf r = rw (← t .origin) (t .low) in
+          let u : replicaOf r ≤ 8 = rw (← t .origin) (t .high) in
+          let k : c ≡ countsOf (append (logOf w f) r) = ic ∙ rw (t .held, t .origin) (sym (counts-append w f r l)) in
+          let e : startOf w (headerCounts f) (s + 1) ≡ startOf w (headerCounts f) (replicaOf r + 1) = rw (t .origin) in
+          ib ∙ rw (k, is, e, end-there, t .long) (inserted-appended w f r (t .is-laid) l u)
+
+---- what the code of appending needs: search appending
+pub ruleset shifting = (move-first, move-next, move-last, front-first, front-next, front-last, shift-front, put-back, put-head)
+
+pub ruleset adding = (more-fits, more-is, append-long, append-header, append-below, place-before, op-fits, end-small, end-after, append-all)
+
+pub ruleset appending = (needs, shifting, adding)

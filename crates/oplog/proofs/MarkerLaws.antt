@@ -9,23 +9,24 @@ use native.Mathlib.Numerals.{add-one}
 use lib.ListN.{length, getD}
 use lib.Dec.{leb}
 use native.Mathlib.Decide.{decLe, ℕ-discrete}
+use borrow.Author.Needs.{needs}
 use borrow.Author.Tests.{leb-true, le-leb, lt-leb, lt-ltb, le-ltb}
 use Rattle.lists.specs.Lists.{upFrom, concat, all}
-use Rattle.rules.specs.Op.{Op, replicas}
+use Rattle.rules.specs.Op.{Op, Vector, replicas}
 use Rattle.rules.specs.File.{Log, countAt, opsOf, logOf, opAt}
 use Rattle.rules.specs.Log.{laid, soundLog, soundOps, soundOp}
+use Rattle.lists.proofs.BoolLaws.{tested}
 use Rattle.lists.proofs.RangeLaws.{map-getD, map-upFrom}
 use Rattle.rules.proofs.FileLaws.{log-eta}
 use Rattle.rules.proofs.ReplicaLaws.{all-alike, map-replicas}
 use Rattle.rules.proofs.StructureLaws.{count-held, laid-reads}
 use Rattle.oplog.specs.declared.marker.Marker.{Marker}
 use Rattle.oplog.specs.Spots.{Spot, nextOf}
+use Rattle.oplog.specs.Tests.{LaidOut, soundAt, soundHere}
 use Rattle.oplog.proofs.FieldLaws.{counts-in}
+use Rattle.oplog.proofs.HeaderLaws.{laid-long}
 
--- the op passes all tests; every test passes
-abbrev pub soundAt : Log → ℕ → ℕ → Bool
-soundAt log s q = soundOp log s q (opAt log s q)
-
+-- every test passes
 abbrev pub every : List Bool → Bool
 every bs = all (λ b. b) bs
 
@@ -74,6 +75,20 @@ module _ {A : Type 0} (log : Log) (E : ℕ → ℕ → A) where
         let e : length (opsOf log s) + 1 - q ≡ 0 = omega arith in
         rw (← above-next s h, le-leb s 8 h, e)
 
+---- a step of the marker; n is the count that was read
+
+module _ (f : List ℕ) (m : Marker) (n : ℕ) (e : n ≡ countAt f (m .replica)) where
+  pub held-read : leb (m .sequence) n ≡ leb (m .sequence) (countAt f (m .replica))
+  held-read = rw e
+
+  pub next-more : m .sequence < n → record { replica = m .replica; sequence = m .sequence + 1 } ≡ nextOf f m
+  unfolding nextOf
+  next-more h = rw (← e, lt-ltb (m .sequence) n h)
+
+  pub next-replica : n ≤ m .sequence → record { replica = m .replica + 1; sequence = 1 } ≡ nextOf f m
+  unfolding nextOf
+  next-replica h = rw (← e, le-ltb (m .sequence) n h)
+
 ---- a turn of the walk
 
 -- a marker on its way, or past the last op
@@ -107,6 +122,7 @@ module _ (w : ℕ) (f : List ℕ) (good : laid w f ≡ true) (m m′ : Marker) (
   }
 
   pub onward : Onward m m′
+  unfolding nextOf
   onward = rw e (elim (decLe (m .sequence + 1) (countAt f (m .replica))) [
     | yes h ↦
         let k : countAt f (m .replica) ≤ 255 = laid-reads w f good .counts (m .replica) (at .low) u in
@@ -123,6 +139,7 @@ module _ (w : ℕ) (f : List ℕ) (good : laid w f ≡ true) (m m′ : Marker) (
   -- the op at the marker comes first, if it is there
   pub left-next : {A : Type 0} (E : ℕ → ℕ → A) → let rest = left (logOf w f) E (m′ .replica) (m′ .sequence) in
       left (logOf w f) E (m .replica) (m .sequence) ≡ cond isHeld (E (m .replica) (m .sequence) ∷ rest) rest
+  unfolding nextOf
   left-next E =
       let s : ℕ = m .replica in
       let q : ℕ = m .sequence in
@@ -136,14 +153,8 @@ module _ (w : ℕ) (f : List ℕ) (good : laid w f ≡ true) (m m′ : Marker) (
         ])
       ])
 
-  pub tests-next : let log = logOf w f in every (left log (soundAt log) (m .replica) (m .sequence))
-      ≡ (cond isHeld (soundAt log (m .replica) (m .sequence)) true && every (left log (soundAt log) (m′ .replica) (m′ .sequence)))
-  unfolding all
-  tests-next = ap every (left-next (soundAt (logOf w f))) ∙ go isHeld _ _
-    where
-      go : (h b : Bool) (bs : List Bool) → every (cond h (b ∷ bs) bs) ≡ (cond h b true && every bs)
-      go true b bs = refl
-      go false b bs = refl
+---- what the code of the marker needs: search stepping
+pub ruleset stepping = (needs, held-read, next-more, next-replica)
 
 ---- what the walk of a whole log says
 
@@ -196,3 +207,70 @@ left-sound log =
     all-alike _ _ (λ s l u. sound-row log s)
     ∙ sym (every-concat (λ s. row log (soundAt log) s 1) replicas)
     ∙ ap every (left-first log (soundAt log))
+
+---- the tests along the walk
+
+module _ (w : ℕ) (f : List ℕ) (m : Marker) where
+  pub here-none : leb (m .sequence) (countAt f (m .replica)) ≡ false → true ≡ soundHere w f m
+  unfolding soundHere
+  here-none e = rw e
+
+  module _ (e : leb (m .sequence) (countAt f (m .replica)) ≡ true) where
+    pub here-some : (b : Bool) → b ≡ soundAt (logOf w f) (m .replica) (m .sequence) → b ≡ soundHere w f m
+    unfolding soundHere
+    here-some b h = rw e h
+
+    pub here-spot : (counts : Vector) → LaidOut w f counts → 1 ≤ m .replica → m .replica ≤ 8 → 1 ≤ m .sequence
+        → Spot w f (m .replica) (m .sequence)
+    here-spot counts t l u h = record {
+      wide = t .wide;
+      is-laid = t .is-laid;
+      low = l;
+      high = u;
+      first = h;
+      last = leb-true _ _ e;
+    }
+
+-- the ops before the marker are sound
+pub record Walked (w : ℕ) (f : List ℕ) (m : Marker) : Type 0 where
+  pub at : Walk m
+  pub rest : soundLog (logOf w f) ≡ every (left (logOf w f) (soundAt (logOf w f)) (m .replica) (m .sequence))
+
+module _ (w : ℕ) (f : List ℕ) (m : Marker) where
+  pub walk-first : (m .replica ≡ 1) × (m .sequence ≡ 1) → Walked w f m
+  walk-first e = record {
+    at = record { first = omega arith; last = omega arith; low = omega arith; high = omega arith };
+    rest = rw (e .0, e .1) (left-sound (logOf w f));
+  }
+
+  module _ (t : Walked w f m) where
+    pub walk-last : 8 < m .replica → true ≡ soundLog (logOf w f)
+    unfolding all
+    walk-last h = sym (t .rest ∙ ap every (left-end (logOf w f) _ (m .replica) (m .sequence) h))
+
+    module _ (counts : Vector) (g : LaidOut w f counts) (u : m .replica ≤ 8) where
+      turn : (m′ : Marker) → m′ ≡ nextOf f m
+          → soundLog (logOf w f) ≡ (soundHere w f m && every (left (logOf w f) (soundAt (logOf w f)) (m′ .replica) (m′ .sequence)))
+      unfolding all soundHere
+      turn m′ e =
+          let log : Log = logOf w f in
+          let rest : List Bool = left log (soundAt log) (m′ .replica) (m′ .sequence) in
+          t .rest ∙ ap every (left-next w f (g .is-laid) m m′ e (t .at) u (soundAt log))
+          ∙ go (leb (m .sequence) (countAt f (m .replica))) (soundAt log (m .replica) (m .sequence)) rest
+        where
+          go : (h b : Bool) (bs : List Bool) → every (cond h (b ∷ bs) bs) ≡ (cond h b true && every bs)
+          go true b bs = refl
+          go false b bs = refl
+
+      pub walk-fails : soundHere w f m ≡ false → false ≡ soundLog (logOf w f)
+      walk-fails e = sym (turn (nextOf f m) refl ∙ rw e)
+
+      module _ (m′ : Marker) (e : m′ ≡ nextOf f m) where
+        pub walk-less : togo m′ < togo m
+        walk-less = onward w f (g .is-laid) m m′ e (t .at) u .less
+
+        pub walk-next : soundHere w f m ≡ true → Walked w f m′
+        walk-next h = record { at = onward w f (g .is-laid) m m′ e (t .at) u .at; rest = turn m′ e ∙ rw h }
+
+---- what the code of the walk needs: search walking
+pub ruleset walking = (needs, tested, laid-long, here-none, here-some, here-spot, walk-first, walk-fails, walk-less, walk-next, walk-last)

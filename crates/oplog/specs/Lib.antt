@@ -1,1 +1,4 @@
+pub mod Append
+pub mod Header
 pub mod Spots
+pub mod Tests

@@ -1,15 +1,12 @@
-use crate::header::counts_of;
 use crate::header::end_of;
 use crate::header::write_header;
 ghost use mathlib.Core.Path.{_≡_};
-ghost use mathlib.Core.Bool.{true};
 ghost use mathlib.Core.List.{_++_};
 ghost use Prim.Native.Nat.{_+_, _-_, _≤_, _<_};
-ghost use lib.ListN.{length, take, drop};
-ghost use Rattle.rules.specs.Op.{replicaOf};
-ghost use Rattle.rules.specs.File.{countAt, fileEnd, appended};
-ghost use Rattle.rules.specs.Log.{laid};
-ghost use Rattle.oplog.specs.Spots.{inserted};
+ghost use lib.ListN.{length, take, drop, set};
+ghost use Rattle.rules.specs.Op.{countIn};
+ghost use Rattle.rules.specs.File.{fileEnd, appended};
+ghost use Rattle.oplog.specs.Append.{Appendable, headedBy, inserted, shifted};
 
 // Moves the bytes of a part up by the width; what no longer fits is dropped.
 fn move_up(part: &mut [u8], width: usize)
@@ -36,7 +33,7 @@ pub fn put_front(part: &mut [u8], op: &[u8])
 // Moves the bytes of a part up by an op, and stores the op in front.
 fn shift_in(part: &mut [u8], op: &[u8])
     requires { ⌜ length (now op) ≤ length (now part) ⌝ }
-    ensures { λ _. ⌜ now (part .exit) ≡ now (op .entry) ++ take (length (now (part .entry)) - length (now (op .entry))) (now (part .entry)) ⌝ }
+    ensures { λ _. ⌜ now (part .exit) ≡ shifted (now (op .entry)) (now (part .entry)) ⌝ }
 {
     move_up(part, op.len());
     put_front(part, op);
@@ -52,16 +49,35 @@ fn insert(buf: &mut [u8], place: usize, end: usize, op: &[u8])
     shift_in(&mut buf[place..after], op);
 }
 
-// Adds an op to its replica's, and answers the new file end.
-pub fn append_op(buf: &mut [u8], replica: usize, op: &[u8], width: usize) -> usize
-    requires { ⌜ (14 ≤ width) × (width ≤ 16) × (laid width (now buf) ≡ true) × (replica ≡ replicaOf (now op)) × (1 ≤ replica) × (replica ≤ 8) × (countAt (now buf) replica < 255) × (length (now op) ≡ width) × (fileEnd width (now buf) + width ≤ length (now buf)) ⌝ }
-    ensures { λ r. ⌜ (r ≡ fileEnd width (now (buf .entry)) + width) × (now (buf .exit) ≡ appended width (now (buf .entry)) (now (op .entry))) ⌝ }
+// Puts an op at a place, and writes the header of the new counts.
+fn put_op(buf: &mut [u8], place: usize, end: usize, op: &[u8], counts: [u8; 8], width: usize)
+    requires { ⌜ (place ≤ end) × (end + length (now op) ≤ length (now buf)) × (32 ≤ length (now buf)) × (width ≤ 16) ⌝ }
+    ensures { λ _. ⌜ now (buf .exit) ≡ headedBy width counts (now (op .entry)) (now (buf .entry)) place end ⌝ }
 {
-    let mut counts = counts_of(buf, width);
+    insert(buf, place, end, op);
+    write_header(buf, counts, width);
+}
+
+// The counts with one op more of a replica.
+fn one_more(counts: [u8; 8], replica: usize) -> [u8; 8]
+    requires { ⌜ (1 ≤ replica) × (replica ≤ 8) × (countIn counts replica < 255) ⌝ }
+    ensures { λ r. ⌜ r ≡ set counts (replica - 1) (countIn counts replica + 1) ⌝ }
+{
+    let mut more = counts;
+    more[replica - 1] += 1;
+    more
+}
+
+// Adds an op to its replica's, and answers the new file end.
+pub fn append_op(buf: &mut [u8], counts: [u8; 8], replica: usize, op: &[u8], width: usize) -> usize
+    requires { ⌜ Appendable width (now buf) counts replica (now op) ⌝ }
+    ensures { λ r. ⌜
+        (r ≡ fileEnd width (now (buf .entry)) + width) × (now (buf .exit) ≡ appended width (now (buf .entry)) (now (op .entry)))
+        ⌝ }
+{
     let place = end_of(buf, replica, width);
     let end = end_of(buf, 8, width);
-    insert(buf, place, end, op);
-    counts[replica - 1] += 1;
-    write_header(buf, counts, width);
-    end + width
+    let after = end + width;
+    put_op(buf, place, end, op, one_more(counts, replica), width);
+    after
 }

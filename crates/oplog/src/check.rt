@@ -3,24 +3,26 @@ use crate::header::end_of;
 use crate::header::header_right;
 use crate::marker::Marker;
 use crate::spot::place;
+use codec::kind_at;
 use codec::kind_fits;
+use codec::node_at;
+use codec::parent_at;
+use codec::replica_at;
 use codec::vector_at;
 use codec::widen;
 use codec::widen16;
 use codec::within;
-use codec::word_at;
 ghost use mathlib.Core.Path.{_≡_};
-ghost use mathlib.Core.Bool.{true};
 ghost use Prim.Native.Nat.{_≤_};
-ghost use Rattle.rules.specs.File.{logOf, opAt, headerCounts};
-ghost use Rattle.rules.specs.Log.{known, knownParent, closedAt, closed, soundOp, soundLog, laid};
-ghost use Rattle.oplog.specs.Spots.{Spot, Counted, moveNames, namesBy};
+ghost use Rattle.rules.specs.File.{logOf, headerCounts};
+ghost use Rattle.rules.specs.Log.{nodeWithin, known, knownParent, closedAt, closed, soundLog, laid};
+ghost use Rattle.oplog.specs.Spots.{Spot, Counted};
+ghost use Rattle.oplog.specs.Tests.{LaidOut, moveNames, namesBy, ownBy, passesBy, soundAt, soundHere};
 ghost use Rattle.rules.specs.Log as log;
 
-// Whether an add within the vector made the node.
-pub fn known_in(file: &[u8], v: [u8; 8], n: u16, width: usize) -> bool
-    requires { ⌜ Counted width (now file) v ⌝ }
-    ensures { λ r. ⌜ r ≡ known (logOf width (now (file .entry))) v n ⌝ }
+// Whether a vector counts the op of a node's replica and sequence.
+fn node_within(v: [u8; 8], n: u16) -> bool
+    ensures { λ r. ⌜ r ≡ nodeWithin v n ⌝ }
 {
     let s = widen16(n / 256);
     let q = widen16(n % 256);
@@ -33,11 +35,19 @@ pub fn known_in(file: &[u8], v: [u8; 8], n: u16, width: usize) -> bool
     if q < 1 {
         return false;
     }
-    if widen(v[s - 1]) < q {
+    q <= widen(v[s - 1])
+}
+
+// Whether an add within the vector made the node.
+pub fn known_in(file: &[u8], v: [u8; 8], n: u16, width: usize) -> bool
+    requires { ⌜ Counted width (now file) v ⌝ }
+    ensures { λ r. ⌜ r ≡ known (logOf width (now (file .entry))) v n ⌝ }
+{
+    if !node_within(v, n) {
         return false;
     }
-    let at = place(file, s, q, width);
-    file[at] == 1
+    let at = place(file, widen16(n / 256), widen16(n % 256), width);
+    kind_at(file, at) == 1
 }
 
 // The same, or the root.
@@ -107,7 +117,7 @@ fn closed_at(file: &[u8], v: [u8; 8], s: usize, width: usize) -> bool
     if k == 0 {
         return true;
     }
-    let at = place(file, s, k, width) + 6;
+    let at = place(file, s, k, width);
     within(vector_at(file, at), v)
 }
 
@@ -124,22 +134,31 @@ pub fn closed_in(file: &[u8], v: [u8; 8], width: usize) -> bool
     true
 }
 
-// Whether the body number q of replica s is a sound op: its own replica and sequence, and tests 3,
-// 5, 6 and 7.
-fn op_sound(file: &[u8], counts: [u8; 8], s: usize, q: usize, width: usize) -> bool
-    requires { ⌜ Spot width (now file) s q × (counts ≡ headerCounts (now file)) ⌝ }
-    ensures { λ r. ⌜ r ≡ soundOp (logOf width (now (file .entry))) s q (opAt (logOf width (now (file .entry))) s q) ⌝ }
+// Whether an op has the replica s and the sequence q, by its replica and its vector.
+fn is_own(replica: u8, v: [u8; 8], s: usize, q: usize) -> bool
+    requires { ⌜ (1 ≤ s) × (s ≤ 8) × (1 ≤ q) ⌝ }
+    ensures { λ r. ⌜ r ≡ ownBy replica v s q ⌝ }
 {
-    let at = place(file, s, q, width);
-    if widen(file[at + 1]) != s {
+    if widen(replica) != s {
         return false;
     }
-    let v = vector_at(file, at + 6);
-    if widen(v[s - 1]) != q - 1 {
-        return false;
-    }
-    let kind = file[at];
-    let parent = word_at(file, at + 4);
+    widen(v[s - 1]) == q - 1
+}
+
+// Whether an op of a replica passes tests 3, 5, 6 and 7, by its fields.
+fn passes(
+    file: &[u8],
+    counts: [u8; 8],
+    v: [u8; 8],
+    kind: u8,
+    node: u16,
+    parent: u16,
+    own: u16,
+    width: usize,
+) -> bool
+    requires { ⌜ LaidOut width (now file) counts ⌝ }
+    ensures { λ r. ⌜ r ≡ passesBy (logOf width (now (file .entry))) v kind node parent own ⌝ }
+{
     if !kind_fits(kind, parent) {
         return false;
     }
@@ -149,31 +168,65 @@ fn op_sound(file: &[u8], counts: [u8; 8], s: usize, q: usize, width: usize) -> b
     if !closed_in(file, v, width) {
         return false;
     }
-    let node = word_at(file, at + 2);
-    names_known(file, v, kind, node, parent, (256 * s + q) as u16, width)
+    names_known(file, v, kind, node, parent, own, width)
+}
+
+// Whether the body number q of replica s is a sound op: its own replica and sequence, and tests 3,
+// 5, 6 and 7.
+fn op_sound(file: &[u8], counts: [u8; 8], s: usize, q: usize, width: usize) -> bool
+    requires { ⌜ Spot width (now file) s q × (counts ≡ headerCounts (now file)) ⌝ }
+    ensures { λ r. ⌜ r ≡ soundAt (logOf width (now (file .entry))) s q ⌝ }
+{
+    let at = place(file, s, q, width);
+    let v = vector_at(file, at);
+    if !is_own(replica_at(file, at), v, s, q) {
+        return false;
+    }
+    let kind = kind_at(file, at);
+    let node = node_at(file, at);
+    let parent = parent_at(file, at);
+    passes(
+        file,
+        counts,
+        v,
+        kind,
+        node,
+        parent,
+        (256 * s + q) as u16,
+        width,
+    )
+}
+
+// Whether the body at a marker, if there is one, is a sound op.
+fn here_sound(file: &[u8], counts: [u8; 8], m: Marker, width: usize) -> bool
+    requires { ⌜ LaidOut width (now file) counts × (1 ≤ m .replica) × (m .replica ≤ 8) × (1 ≤ m .sequence) ⌝ }
+    ensures { λ r. ⌜ r ≡ soundHere width (now (file .entry)) m ⌝ }
+{
+    if !m.held(file) {
+        return true;
+    }
+    op_sound(file, counts, m.replica, m.sequence, width)
 }
 
 // Whether every body is a sound op, by a marker through the file.
 fn ops_sound(file: &[u8], counts: [u8; 8], width: usize) -> bool
-    requires { ⌜ (14 ≤ width) × (laid width (now file) ≡ true) × (counts ≡ headerCounts (now file)) ⌝ }
+    requires { ⌜ LaidOut width (now file) counts ⌝ }
     ensures { λ r. ⌜ r ≡ soundLog (logOf width (now (file .entry))) ⌝ }
 {
     let mut m = Marker::first();
     while m.replica <= 8 {
-        if m.held(file) {
-            if !op_sound(file, counts, m.replica, m.sequence, width) {
-                return false;
-            }
+        if !here_sound(file, counts, m, width) {
+            return false;
         }
         m = m.next(file);
     }
     true
 }
 
-// Whether a file is structurally sound: its layout, and tests 3, 5, 6 and 7 on every body.
-pub fn structural(file: &[u8], width: usize) -> bool
-    requires { ⌜ (14 ≤ width) × (width ≤ 255) ⌝ }
-    ensures { λ r. ⌜ r ≡ log.structural width (now (file .entry)) ⌝ }
+// Whether a file is laid out: at least 32 bytes, a right header, and it fits.
+fn is_laid(file: &[u8], width: usize) -> bool
+    requires { ⌜ width ≤ 255 ⌝ }
+    ensures { λ r. ⌜ r ≡ laid width (now (file .entry)) ⌝ }
 {
     if file.len() < 32 {
         return false;
@@ -181,9 +234,16 @@ pub fn structural(file: &[u8], width: usize) -> bool
     if !header_right(file, width) {
         return false;
     }
-    if file.len() < end_of(file, 8, width) {
+    end_of(file, 8, width) <= file.len()
+}
+
+// Whether a file is structurally sound: its layout, and tests 3, 5, 6 and 7 on every body.
+pub fn structural(file: &[u8], width: usize) -> bool
+    requires { ⌜ (14 ≤ width) × (width ≤ 255) ⌝ }
+    ensures { λ r. ⌜ r ≡ log.structural width (now (file .entry)) ⌝ }
+{
+    if !is_laid(file, width) {
         return false;
     }
-    let counts = counts_of(file, width);
-    ops_sound(file, counts, width)
+    ops_sound(file, counts_of(file, width), width)
 }

@@ -1,5 +1,4 @@
-use codec::widen16;
-use codec::word_at;
+use crate::header::count_at;
 ghost use mathlib.Core.Path.{_≡_};
 ghost use Prim.Native.Nat.{_+_, _≤_};
 ghost use lib.ListN.{length};
@@ -29,8 +28,7 @@ impl Marker {
         requires { ⌜ (32 ≤ length (now file)) × (1 ≤ self .replica) × (self .replica ≤ 8) ⌝ }
         ensures { λ r. ⌜ r ≡ leb (self .sequence) (countAt (now (file .entry)) (self .replica)) ⌝ }
     {
-        let replica = self.replica;
-        self.sequence <= widen16(word_at(file, 4 * (replica - 1)))
+        self.sequence <= count_at(file, self.replica)
     }
 
     // The next in file order; a replica without ops is passed with sequence 1.
@@ -40,8 +38,7 @@ impl Marker {
     {
         let replica = self.replica;
         let sequence = self.sequence;
-        let count = widen16(word_at(file, 4 * (replica - 1)));
-        if sequence < count {
+        if sequence < count_at(file, replica) {
             Marker {
                 replica,
                 sequence: sequence + 1,

@@ -1,5 +1,4 @@
-use codec::widen16;
-use codec::word_at;
+use crate::header::start_at;
 ghost use mathlib.Core.Path.{_≡_};
 ghost use Prim.Native.Nat.{_+_, _≤_};
 ghost use lib.ListN.{length, take, drop};
@@ -11,7 +10,7 @@ pub fn place(file: &[u8], s: usize, q: usize, width: usize) -> usize
     requires { ⌜ Spot width (now file) s q ⌝ }
     ensures { λ r. ⌜ (r ≡ placeOf width (now (file .entry)) s q) × (r + width ≤ length (now (file .entry))) ⌝ }
 {
-    widen16(word_at(file, 4 * (s - 1) + 2)) + width * (q - 1)
+    start_at(file, s) + width * (q - 1)
 }
 
 // Whether the bytes of the file from a place on are those of an op.

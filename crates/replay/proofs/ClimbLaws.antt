@@ -1,5 +1,5 @@
--- Turns of climbs. Assumes nothing.
-use mathlib.Core.Path.{_≡_, refl, ap}
+-- Slots, climbs to the root and the kind of a move, as the code has them. Assumes nothing.
+use mathlib.Core.Path.{_≡_, refl, sym, ap, _∙_}
 use mathlib.Core.Bool.{Bool, true, false, cond, _||_}
 use mathlib.Core.List.{List, [], _∷_}
 use Prim.Native.Nat.{ℕ, zero, suc, _+_, _-_, _/_, _≤_, _<_}
@@ -7,26 +7,31 @@ use native.Mathlib.Omega.{arith}
 use lib.ListN.{length, getD, List·getD-eq-default}
 use lib.Dec.{eqb, lit≤}
 use native.Mathlib.Decide.{ℕ-discrete}
-use borrow.Author.Tests.{eq-eqb, ne-eqb}
-use Rattle.rules.specs.Tree.{atOrBelow, parentIn, slotOf, climb, depth, path, slot}
+use borrow.Author.Tests.{eq-eqb, ne-eqb, lt-ltb, le-ltb}
+use borrow.Author.Needs.{needs}
+use Rattle.rules.specs.Tree.{atOrBelow, parentIn, slotOf, climb, depth, path, slot, slots, noParent, moveKind}
 use Rattle.lists.specs.Lists.{isIn, any}
+use Rattle.replay.specs.Tables.{moveOrCycle}
 
--- a slot by cases
-pub slot-low : (n : ℕ) → n < 256 → n ≡ slotOf n
+---- the slot of a node, as the code computes it
+
+pub slot-low : (n r : ℕ) → r ≡ n → n < 256 → r ≡ slotOf n
 unfolding slotOf slot
-slot-low n h = elim (ℕ-discrete n 0) [
+slot-low n r e h = e ∙ (elim (ℕ-discrete n 0) [
   | yes z ↦ rw z
   | no nz ↦ rw (ne-eqb n 0 nz) (omega arith)
-]
+])
 
-pub slot-high : (n : ℕ) → 256 ≤ n → n - n / 256 - 255 ≡ slotOf n
+pub slot-high : (n r : ℕ) → r ≡ n - n / 256 → 256 ≤ n → r - 255 ≡ slotOf n
 unfolding slotOf slot
-slot-high n h = rw (ne-eqb n 0 (λ z. omega arith)) (omega arith)
+slot-high n r e h = rw (e, ne-eqb n 0 (λ z. omega arith)) (omega arith)
+
+---- parents
 
 -- a parent as the code reads it
-pub parent-read : (t : List ℕ) (at k : ℕ) → k ≡ slotOf at → length t ≡ 2041 → slotOf at < 2041 → parentIn t at ≡ getD t k 0
+pub parent-read : (t : List ℕ) (at k : ℕ) → k ≡ slotOf at → length t ≡ slots → slotOf at < slots → parentIn t at ≡ getD t k 0
 unfolding parentIn
-parent-read t at k e l h = rw e (getD-any t (slotOf at) 65535 0 (omega arith))
+parent-read t at k e l h = rw e (getD-any t (slotOf at) noParent 0 (omega arith))
   where
     getD-any : (l : List ℕ) (i a b : ℕ) → i < length l → getD l i a ≡ getD l i b
     getD-any [] i a b h = absurd (omega arith)
@@ -34,78 +39,137 @@ parent-read t at k e l h = rw e (getD-any t (slotOf at) 65535 0 (omega arith))
     getD-any (x ∷ l) (suc i) a b h = getD-any l i a b (omega arith)
 
 -- outside of the table there is no parent, and the slot of "no parent" lies outside again
-outside : (t : List ℕ) (at : ℕ) → length t ≡ 2041 → 2041 ≤ slotOf at → parentIn t at ≡ 65535
-unfolding parentIn
-outside t at l o = let s : length t ≤ slotOf at = omega arith in List·getD-eq-default t 65535 s
+module _ (t : List ℕ) (size : length t ≡ slots) where
+  outside : (at : ℕ) → slots ≤ slotOf at → parentIn t at ≡ noParent
+  unfolding parentIn
+  outside at o = let s : length t ≤ slotOf at = omega arith in List·getD-eq-default t noParent s
 
-no-parent : (t : List ℕ) → length t ≡ 2041 → parentIn t 65535 ≡ 65535
-unfolding slotOf slot
-no-parent t l = outside t 65535 l (lit≤ tt)
+  no-parent : parentIn t noParent ≡ noParent
+  unfolding slotOf slot
+  no-parent = outside noParent (lit≤ tt)
 
----- what is left of a climb to a node after i steps
+  -- a climb from there meets no node, and does not end
+  lost : (n k : ℕ) → n < noParent → isIn n (climb k t noParent) ≡ false
+  unfolding climb isIn any
+  lost n zero h = refl
+  lost n (suc k) h = rw (ne-eqb n noParent (λ e. omega arith), no-parent) (lost n k h)
 
-unfoldable pub climbs : List ℕ → ℕ → ℕ → ℕ → Bool
-climbs t i at n = isIn n (climb (2041 - i) t at)
+  endless : (k : ℕ) → length (climb k t noParent) ≡ k
+  unfolding climb
+  endless zero = refl
+  endless (suc k) = rw no-parent (ap suc (endless k))
 
-pub climbs-all : (t : List ℕ) (m n : ℕ) → atOrBelow t m n ≡ climbs t 0 m n
-unfolding climbs atOrBelow path
-climbs-all t m n = refl
+---- a climb from m to n that stands at `at` after i steps: whether n is met is whether it is met from here
 
-pub climbs-turn : (t : List ℕ) (i at n : ℕ) → i < 2041
-    → climbs t i at n ≡ (eqb n at || cond (eqb at 0) false (climbs t (i + 1) (parentIn t at) n))
-unfolding climbs climb isIn any
-climbs-turn t i at n h = let e : 2041 - i ≡ suc (2041 - (i + 1)) = omega arith in rw e (ap (λ (b : Bool). eqb n at || b) (go (eqb at 0)))
-  where
-    go : (b : Bool) → any (eqb n) (cond b [] (climb (2041 - (i + 1)) t (parentIn t at))) ≡ cond b false
-        (any (eqb n) (climb (2041 - (i + 1)) t (parentIn t at)))
-    go true = refl
-    go false = refl
+pub record Climbing (t : List ℕ) (m n i at : ℕ) : Type 0 where
+  pub steps : i ≤ slots
+  pub left : atOrBelow t m n ≡ isIn n (climb (slots - i) t at)
 
-pub climbs-end : (t : List ℕ) (i at n : ℕ) → 2041 ≤ i → climbs t i at n ≡ false
-unfolding climbs climb isIn any
-climbs-end t i at n h = let e : 2041 - i ≡ 0 = omega arith in rw e
+pub climb-starts : (t : List ℕ) (m n : ℕ) → Climbing t m n 0 m
+unfolding atOrBelow path
+climb-starts t m n = record { steps = omega arith; left = refl }
 
-lost : (t : List ℕ) (n k : ℕ) → length t ≡ 2041 → n < 65535 → isIn n (climb k t 65535) ≡ false
-unfolding climb isIn any
-lost t n zero l h = refl
-lost t n (suc k) l h = rw (ne-eqb n 65535 (λ e. omega arith), no-parent t l) (lost t n k l h)
+module _ (t : List ℕ) (m n i at : ℕ) (c : Climbing t m n i at) where
+  pub climb-ends : slots ≤ i → false ≡ atOrBelow t m n
+  unfolding climb isIn any
+  climb-ends h = let e : slots - i ≡ 0 = omega arith in sym (c .left ∙ rw e)
 
-pub climbs-out : (t : List ℕ) (i at n : ℕ) → length t ≡ 2041 → n < 65535 → 2041 ≤ slotOf at → climbs t i (parentIn t at) n ≡ false
-unfolding climbs
-climbs-out t i at n l h o = rw (outside t at l o) (lost t n (2041 - i) l h)
+  module _ (h : i < slots) where
+    turn : atOrBelow t m n ≡ (eqb n at || cond (eqb at 0) false (isIn n (climb (slots - (i + 1)) t (parentIn t at))))
+    unfolding climb isIn any
+    turn = let e : slots - i ≡ suc (slots - (i + 1)) = omega arith in c .left ∙ rw e (ap (λ (b : Bool). eqb n at || b) (go (eqb at 0)))
+      where
+        go : (b : Bool) → any (eqb n) (cond b [] (climb (slots - (i + 1)) t (parentIn t at))) ≡ cond b false
+            (any (eqb n) (climb (slots - (i + 1)) t (parentIn t at)))
+        go true = refl
+        go false = refl
 
----- how many entries a climb has, with i of them passed
+    pub climb-found : at ≡ n → true ≡ atOrBelow t m n
+    climb-found e = sym (turn ∙ rw (eq-eqb n at (sym e)))
 
-unfoldable pub reached : List ℕ → ℕ → ℕ → ℕ
-reached t i at = i + length (climb (2041 - i) t at)
+    module _ (ne : at ≡ n → ⊥) where
+      pub climb-root : at ≡ 0 → false ≡ atOrBelow t m n
+      climb-root z = sym (turn ∙ rw (ne-eqb n at (λ e. ne (sym e)), eq-eqb at 0 z))
 
-pub reached-all : (t : List ℕ) (n : ℕ) → depth t n ≡ reached t 0 n - 1
-unfolding reached depth path
-reached-all t n = let e : 0 + length (climb 2041 t n) ≡ length (climb 2041 t n) = omega arith in rw e
+      module _ (nz : at ≡ 0 → ⊥) (size : length t ≡ slots) (k : ℕ) (is : k ≡ slotOf at) where
+        pub climb-out : n < noParent → slots ≤ k → false ≡ atOrBelow t m n
+        climb-out s o =
+            let e = outside t size at (omega arith) in
+            sym (turn ∙ rw (ne-eqb n at (λ e. ne (sym e)), ne-eqb at 0 nz, e, lost t size n (slots - (i + 1)) s))
 
-pub reached-root : (t : List ℕ) (i at : ℕ) → i < 2041 → at ≡ 0 → reached t i at ≡ i + 1
-unfolding reached climb
-reached-root t i at h z = let e : 2041 - i ≡ suc (2041 - (i + 1)) = omega arith in rw (e, eq-eqb at 0 z)
+        pub climb-on : k < slots → Climbing t m n (i + 1) (getD t k 0)
+        climb-on b =
+            let p = parent-read t at k is size (omega arith) in
+            record { steps = omega arith; left = turn ∙ rw (ne-eqb n at (λ e. ne (sym e)), ne-eqb at 0 nz, p) }
 
-pub reached-turn : (t : List ℕ) (i at : ℕ) → i < 2041 → (at ≡ 0 → ⊥) → reached t i at ≡ reached t (i + 1) (parentIn t at)
-unfolding reached climb
-reached-turn t i at h nz =
-    let e : 2041 - i ≡ suc (2041 - (i + 1)) = omega arith in
-    rw (e, ne-eqb at 0 nz) (omega arith)
+---- a climb from n that stands at `at` after i steps: the depth is the steps, and one less than the entries from here on
 
-pub reached-end : (t : List ℕ) (i at : ℕ) → i ≡ 2040 → reached t i at ≡ 2041
-unfolding reached climb
-reached-end t i at e = rw e (go (eqb at 0))
-  where
-    go : (b : Bool) → 2040 + length (at ∷ cond b [] []) ≡ 2041
-    go true = refl
-    go false = refl
+pub record Rising (t : List ℕ) (n i at : ℕ) : Type 0 where
+  pub steps : i < slots
+  pub left : depth t n ≡ i + length (climb (slots - i) t at) - 1
 
-endless : (t : List ℕ) (k : ℕ) → length t ≡ 2041 → length (climb k t 65535) ≡ k
-unfolding climb
-endless t zero l = refl
-endless t (suc k) l = rw (no-parent t l) (ap suc (endless t k l))
+pub rise-starts : (t : List ℕ) (n : ℕ) → Rising t n 0 n
+unfolding depth path
+rise-starts t n =
+    let e : 0 + length (climb slots t n) ≡ length (climb slots t n) = omega arith in
+    record { steps = omega arith; left = rw e }
 
-pub reached-out : (t : List ℕ) (i at : ℕ) → length t ≡ 2041 → i ≤ 2041 → 2041 ≤ slotOf at → reached t i (parentIn t at) ≡ 2041
-unfolding reached
-reached-out t i at l h o = rw (outside t at l o) (omega (arith, endless t (2041 - i) l))
+module _ (t : List ℕ) (n i at : ℕ) (c : Rising t n i at) where
+  pub rise-root : at ≡ 0 → i ≡ depth t n
+  unfolding climb
+  rise-root z =
+      let e : slots - i ≡ suc (slots - (i + 1)) = omega arith in
+      let one : length (climb (slots - i) t at) ≡ 1 = rw (e, eq-eqb at 0 z) in
+      omega arith
+
+  pub rise-ends : slots - 1 ≤ i → slots - 1 ≡ depth t n
+  unfolding climb
+  rise-ends h =
+      let e : slots - i ≡ 1 = omega arith in
+      let one : length (climb (slots - i) t at) ≡ 1 = rw e (go (eqb at 0)) in
+      omega arith
+    where
+      go : (b : Bool) → length (at ∷ cond b [] []) ≡ 1
+      go true = refl
+      go false = refl
+
+  module _ (nz : at ≡ 0 → ⊥) where
+    onward : length (climb (slots - i) t at) ≡ 1 + length (climb (slots - (i + 1)) t (parentIn t at))
+    unfolding climb
+    onward = let e : slots - i ≡ suc (slots - (i + 1)) = omega arith in rw (e, ne-eqb at 0 nz) (omega arith)
+
+    module _ (size : length t ≡ slots) (k : ℕ) (is : k ≡ slotOf at) where
+      pub rise-out : slots ≤ k → slots - 1 ≡ depth t n
+      rise-out o =
+          let e : length (climb (slots - (i + 1)) t (parentIn t at)) ≡ slots - (i + 1)
+          = rw (outside t size at (omega arith)) (endless t size (slots - (i + 1))) in
+          omega (arith, onward, c .left, c .steps)
+
+      pub rise-on : i < slots - 1 → k < slots → Rising t n (i + 1) (getD t k 0)
+      rise-on h b =
+          let p = parent-read t at k is size (omega arith) in
+          record { steps = omega arith; left = rw (← p) (omega (arith, onward, c .left)) }
+
+---- the kind of a move
+
+module _ (t : List ℕ) (n p : ℕ) (b : Bool) (is : b ≡ atOrBelow t p n) where
+  pub move-cycle : b ≡ true → 0 ≡ moveOrCycle t n p
+  unfolding moveOrCycle
+  move-cycle e = rw (← is, e)
+
+  module _ (e : b ≡ false) (x y : ℕ) (hx : x ≡ depth t p) (hy : y ≡ depth t n) where
+    pub move-up : x < y → 3 ≡ moveOrCycle t n p
+    unfolding moveOrCycle moveKind
+    move-up h = rw (← is, e, ← hx, ← hy, lt-ltb x y h)
+
+    pub move-down : y ≤ x → 4 ≡ moveOrCycle t n p
+    unfolding moveOrCycle moveKind
+    move-down h = rw (← is, e, ← hx, ← hy, le-ltb x y h)
+
+---- what the code of the tree needs: search climbing
+
+pub ruleset climbs = (climb-starts, climb-found, climb-root, climb-out, climb-on, climb-ends)
+
+pub ruleset rises = (rise-starts, rise-root, rise-out, rise-on, rise-ends)
+
+pub ruleset climbing = (needs, slot-low, slot-high, climbs, rises, move-cycle, move-up, move-down)

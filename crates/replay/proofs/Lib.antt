@@ -1,7 +1,7 @@
 pub mod HeldLaws
 pub mod ClimbLaws
-pub mod KindLaws
-pub mod OpLaws
+pub mod EffectLaws
+pub mod ReadyLaws
+pub mod DueLaws
 pub mod TurnLaws
-pub mod TableLaws
-pub mod ReplayLaws
+pub mod CutLaws

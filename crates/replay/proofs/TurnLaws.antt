@@ -1,93 +1,72 @@
--- Turns of the loops over kinds, replicas and levels. Assumes nothing.
-use mathlib.Core.Path.{_≡_, refl, _∙_}
-use mathlib.Core.Bool.{Bool, true, false, cond, not, _&&_}
-use mathlib.Core.List.{List, [], _∷_, map, foldl, foldl-append}
+-- Turns of the loops over replicas, classes and levels, as the code has them. Assumes nothing.
+use mathlib.Core.Path.{_≡_, refl, sym, ap, _∙_}
+use mathlib.Core.Bool.{Bool, true}
+use mathlib.Core.List.{List, [], _++_, map, foldl, foldl-append}
 use Prim.Native.Nat.{ℕ, zero, suc, _+_, _-_, _≤_, _<_}
 use native.Mathlib.Omega.{arith}
-use lib.ListN.{length, getD}
-use lib.Dec.{eqb}
-use borrow.Author.Tests.{lt-ltb, le-ltb, eq-eqb, ne-eqb}
 use native.Mathlib.Numerals.{add-one}
 use native.Mathlib.Decide.{decLt}
 use native.Mathlib.Nat.{le-refl}
-use Rattle.rules.specs.Op.{countIn, kindOf, vectorOf, Vector}
+use lib.ListN.{length, replicate}
+use borrow.Author.Needs.{needs}
+use Rattle.rules.specs.Op.{countIn, Vector}
 use Rattle.rules.specs.Replay.{Stamped, State, step}
-use Rattle.rules.specs.File.{opAt, Log, logOf, within}
+use Rattle.rules.specs.Tree.{slots}
+use Rattle.rules.specs.File.{Log, logOf, within}
 use Rattle.lists.specs.Lists.{upFrom, downFrom, concat}
-use Rattle.order.specs.Levels.{levelKind, advancedAt, nextAt, entry, level, levels, nextOf, ready, nothing, advanced}
-use Rattle.rules.proofs.FileLaws.{vector-eta, count-map}
 use Rattle.lists.proofs.RangeLaws.{concat-nothing, concat-none}
-use Rattle.rules.proofs.ReplicaLaws.{map-replicas}
-use Rattle.lists.proofs.BoolLaws.{and-false}
+use Rattle.order.specs.Levels.{levelKind, advancedAt, readyOp, level, levels, readyOps, nothing, advanced}
 use Rattle.order.proofs.LevelLaws.{count-nothing}
+use Rattle.rules.proofs.FileLaws.{vector-eta}
+use Rattle.rules.proofs.ReplicaLaws.{map-replicas}
 use Rattle.rules.proofs.CausalLaws.{within-le}
-use Rattle.replay.specs.Tables.{stampedAt, Held, InFile, Span, dueAt}
-use Rattle.replay.proofs.HeldLaws.{in-file}
+use Rattle.rules.proofs.StepLaws.{Full, full-run}
+use Rattle.codec.proofs.VectorLaws.{length-eight}
+use Rattle.replay.specs.Tables.{Bottom, Replayable, ReplayableAt, ReplayableIn, Sized, Top, tables}
+use Rattle.replay.proofs.ReadyLaws.{next-counted}
+use Rattle.replay.proofs.DueLaws.{classes, dues, bounds, op-zero}
 
-module _ (log : Log) (cut done : Vector) (s : ℕ) where
-  pub next-none : countIn cut s ≤ countIn done s → nextAt log cut done s ≡ 0
-  unfolding nextAt ready
-  next-none h = rw (le-ltb (countIn done s) (countIn cut s) h)
+---- what a loop has left of the replay of some ops: all of them from the tables st are the rest from the tables as they are now
 
-  pub next-some : countIn done s < countIn cut s → nextAt log cut done s ≡ cond (within (vectorOf (opAt log s (countIn done s + 1))) done)
-      (countIn done s + 1) 0
-  unfolding nextAt ready
-  next-some h = rw (lt-ltb (countIn done s) (countIn cut s) h)
+pub record Left (st : State) (all : List Stamped) (p o l : List ℕ) (rest : List Stamped) : Type 0 where
+  pub sized : Sized p o l
+  pub left : foldl step st all ≡ foldl step (tables p o l) rest
 
-module _ (log : Log) (next : Vector) (k s : ℕ) where
-  pub due-zero : countIn next s ≡ 0 → dueAt log next k s ≡ 0
-  unfolding dueAt
-  due-zero e = rw e (go (eqb (kindOf (opAt log s 0)) k) 0)
-    where
-      go : (b : Bool) (n : ℕ) → cond b n n ≡ n
-      go true n = refl
-      go false n = refl
+-- steps keep the sizes
+sized-on : (p o l : List ℕ) → Sized p o l → (xs : List Stamped) (p′ o′ l′ : List ℕ) → tables p′ o′ l′ ≡ foldl step (tables p o l) xs
+    → Sized p′ o′ l′
+sized-on p o l h xs p′ o′ l′ is =
+    let full : Full (tables p o l) = record { parents-full = h .parents; outcomes-full = h .outcomes; placed-full = h .placed } in
+    let end : Full (tables p′ o′ l′) = rw is (full-run xs (tables p o l) full) in
+    record { parents = end .parents-full; outcomes = end .outcomes-full; placed = end .placed-full }
 
-  pub due-other : (kindOf (opAt log s (countIn next s)) ≡ k → ⊥) → dueAt log next k s ≡ 0
-  unfolding dueAt
-  due-other h = rw (ne-eqb (kindOf (opAt log s (countIn next s))) k h)
+module _ (st : State) (all : List Stamped) (p o l : List ℕ) (rest : List Stamped) (h : Left st all p o l rest) where
+  -- a part of it done
+  left-on : (xs more : List Stamped) → rest ≡ xs ++ more → (p′ o′ l′ : List ℕ) → tables p′ o′ l′ ≡ foldl step (tables p o l) xs
+      → Left st all p′ o′ l′ more
+  left-on xs more e p′ o′ l′ is = record {
+    sized = sized-on p o l (h .sized) xs p′ o′ l′ is;
+    left = h .left ∙ rw (e, foldl-append step (tables p o l) xs more, ← is);
+  }
 
-  pub due-one : kindOf (opAt log s (countIn next s)) ≡ k → dueAt log next k s ≡ countIn next s
-  unfolding dueAt
-  due-one h = rw (eq-eqb (kindOf (opAt log s (countIn next s))) k h)
+  -- nothing left
+  left-none : rest ≡ [] → tables p o l ≡ foldl step st all
+  left-none e = sym (h .left ∙ rw e)
 
-  due-least : dueAt log next k s ≤ countIn next s
-  unfolding dueAt
-  due-least = go (eqb (kindOf (opAt log s (countIn next s))) k) (countIn next s)
-    where
-      go : (b : Bool) (n : ℕ) → cond b n 0 ≤ n
-      go true n = le-refl n
-      go false n = omega arith
+left-all : (log all : List Stamped) (p o l : List ℕ) → Sized p o l → log ≡ all → Left (tables p o l) log p o l all
+left-all log all p o l h e = record { sized = h; left = rw e }
+
+---- the replicas of a class: the i highest are done
 
 module _ (log : Log) (t : ℕ) (next : Vector) (k : ℕ) where
-  module _ (s : ℕ) where
-    entry-zero : countIn next s ≡ 0 → entry log t next k s ≡ []
-    unfolding entry
-    entry-zero e = rw e
-
-    -- an entry is the op that is due
-    pub entry-none : dueAt log next k s ≡ 0 → entry log t next k s ≡ []
-    unfolding entry dueAt
-    entry-none = go (countIn next s) (eqb (kindOf (opAt log s (countIn next s))) k)
-      where
-        go : (n : ℕ) (b : Bool) → cond b n 0 ≡ 0 → cond (not (eqb n 0) && b) (stampedAt t (opAt log s n) ∷ []) [] ≡ []
-        go n true e = rw e
-        go n false e = rw and-false
-
-    pub entry-due : (dueAt log next k s ≡ 0 → ⊥) → entry log t next k s ≡ stampedAt t (opAt log s (dueAt log next k s)) ∷ []
-    unfolding entry dueAt
-    entry-due = go (countIn next s) (eqb (kindOf (opAt log s (countIn next s))) k)
-      where
-        go : (n : ℕ) (b : Bool) → (cond b n 0 ≡ 0 → ⊥)
-            → cond (not (eqb n 0) && b) (stampedAt t (opAt log s n) ∷ []) [] ≡ stampedAt t (opAt log s (cond b n 0)) ∷ []
-        go n true e = rw (ne-eqb n 0 e)
-        go n false e = absurd (e refl)
-
-  -- the entries of the replicas but the i highest
   unfoldable pub kindFrom : ℕ → List Stamped
-  kindFrom i = concat (map (entry log t next k) (downFrom (8 - i)))
+  kindFrom i = concat (map (readyOp log t next k) (downFrom (8 - i)))
 
-  -- replicas above the span have no entry, and none below
+  kind-turn : (i : ℕ) → i < 8 → kindFrom i ≡ readyOp log t next k (8 - i) ++ kindFrom (i + 1)
+  unfolding kindFrom downFrom concat
+  kind-turn i h = let e : 8 - i ≡ suc (8 - (i + 1)) = omega arith in rw e
+
+  -- replicas above the span have no op, and none below
   skip : (F : ℕ → List Stamped) (n m : ℕ) → n ≤ m → ((s : ℕ) → n < s → s ≤ m → F s ≡ [])
       → concat (map F (downFrom m)) ≡ concat (map F (downFrom n))
   unfolding downFrom concat
@@ -97,127 +76,154 @@ module _ (log : Log) (t : ℕ) (next : Vector) (k : ℕ) where
     | no l ↦ let z : n ≡ suc m = omega (arith, l) in rw z
   ]
 
-  module _ (high low : ℕ) (h : Span next high low) where
-    pub kind-all : levelKind log t next k ≡ kindFrom (8 - high)
-    unfolding levelKind kindFrom
-    kind-all =
-        let e : 8 - (8 - high) ≡ high = omega (arith, h .top) in
-        rw e (skip (entry log t next k) high 8 (h .top) (λ s l u. entry-zero s (h .above s l u)))
+  kind-all : (high : ℕ) → Top next high → levelKind log t next k ≡ kindFrom (8 - high)
+  unfolding levelKind kindFrom
+  kind-all high h =
+      let e : 8 - (8 - high) ≡ high = omega (arith, h .most) in
+      rw e (skip (readyOp log t next k) high 8 (h .most) (λ s l u. op-zero log t next k s (h .above s l u)))
 
-    pub kind-end : (st : State) (i : ℕ) → 9 - low ≤ i → foldl step st (kindFrom i) ≡ st
-    unfolding kindFrom
-    kind-end st i u =
-        rw (concat-none (entry log t next k) (8 - i) (λ s l v. entry-zero s (h .below s l (omega (arith, h .bottom, h .end)))))
+  kind-none : (low i : ℕ) → Bottom next low → 9 - low ≤ i → kindFrom i ≡ []
+  unfolding kindFrom
+  kind-none low i h u =
+      concat-none (readyOp log t next k) (8 - i)
+      (λ s l v. op-zero log t next k s (h .below s l (omega (arith, h .least, h .most, v))))
 
-  pub kind-turn : (st : State) (i : ℕ) → i < 8 → foldl step st (kindFrom i) ≡ foldl step (foldl step st (entry log t next k (8 - i)))
-      (kindFrom (i + 1))
-  unfolding kindFrom downFrom concat
-  kind-turn st i h =
-      let e : 8 - i ≡ suc (8 - (i + 1)) = omega arith in
-      rw e (foldl-append step st (entry log t next k (suc (8 - (i + 1)))) (kindFrom (i + 1)))
+module _ (w : ℕ) (f : List ℕ) (next : Vector) (high low : ℕ) (p₀ o₀ l₀ : List ℕ) (x : ReplayableIn w f next high low p₀ o₀ l₀) where
+  pub class-starts : (t k : ℕ) → let log = logOf w f in
+      Left (tables p₀ o₀ l₀) (levelKind log t next k) p₀ o₀ l₀ (kindFrom log t next k (8 - high))
+  class-starts t k = left-all _ _ p₀ o₀ l₀ (x .all .sized) (kind-all (logOf w f) t next k high (x .top))
+
+  pub due-asks : (s : ℕ) → 1 ≤ s → s ≤ 8 → (p o l : List ℕ) → Sized p o l → ReplayableAt w f next s p o l
+  due-asks s a b p o l z = record {
+    source = record {
+      is-structural = x .all .is-structural;
+      at = record { counted = x .all .counted; low = a; high = b };
+    };
+    sized = z;
+  }
+
+  module _ (t k : ℕ) (st : State) (all : List Stamped) (p o l : List ℕ) (i : ℕ)
+      (h : Left st all p o l (kindFrom (logOf w f) t next k i)) where
+    pub class-on : i < 9 - low → (p′ o′ l′ : List ℕ) → tables p′ o′ l′ ≡ foldl step (tables p o l) (readyOp (logOf w f) t next k (8 - i))
+        → Left st all p′ o′ l′ (kindFrom (logOf w f) t next k (i + 1))
+    class-on u =
+        left-on st all p o l _ h (readyOp (logOf w f) t next k (8 - i)) _
+        (kind-turn (logOf w f) t next k i (omega (arith, x .bottom .least)))
+
+    pub class-ends : 9 - low ≤ i → tables p o l ≡ foldl step st all
+    class-ends u = left-none st all p o l _ h (kind-none (logOf w f) t next k low i (x .bottom) u)
+
+---- the classes of a level, from k on
 
 module _ (log : Log) (t : ℕ) (next : Vector) where
-  -- the kinds from k on
   unfoldable pub levelFrom : ℕ → List Stamped
   levelFrom k = concat (map (levelKind log t next) (upFrom k (5 - k)))
 
-  pub level-all : level log t next ≡ levelFrom 1
+  level-turn : (k : ℕ) → k < 5 → levelFrom k ≡ levelKind log t next k ++ levelFrom (k + 1)
+  unfolding levelFrom upFrom concat
+  level-turn k h = let e : 5 - k ≡ suc (5 - (k + 1)) = omega arith in rw (e, ← add-one k)
+
+  level-none : (k : ℕ) → 5 ≤ k → levelFrom k ≡ []
+  unfolding levelFrom upFrom concat
+  level-none k h = let e : 5 - k ≡ 0 = omega arith in rw e
+
+  pub level-starts : (p o l : List ℕ) → Sized p o l → Left (tables p o l) (level log t next) p o l (levelFrom 1)
   unfolding level levelFrom
-  level-all = refl
+  level-starts p o l h = left-all _ _ p o l h refl
 
-  pub level-turn : (st : State) (k : ℕ) → k < 5 → foldl step st (levelFrom k) ≡ foldl step (foldl step st (levelKind log t next k))
-      (levelFrom (k + 1))
-  unfolding levelFrom upFrom concat
-  level-turn st k h =
-      let e : 5 - k ≡ suc (5 - (k + 1)) = omega arith in
-      rw (e, ← add-one k) (foldl-append step st (levelKind log t next k) (levelFrom (k + 1)))
+  module _ (st : State) (all : List Stamped) (p o l : List ℕ) (k : ℕ) (h : Left st all p o l (levelFrom k)) where
+    pub level-on : k < 5 → (p′ o′ l′ : List ℕ) → tables p′ o′ l′ ≡ foldl step (tables p o l) (levelKind log t next k)
+        → Left st all p′ o′ l′ (levelFrom (k + 1))
+    level-on u = left-on st all p o l _ h (levelKind log t next k) _ (level-turn k u)
 
-  pub level-end : (st : State) (k : ℕ) → 5 ≤ k → foldl step st (levelFrom k) ≡ st
-  unfolding levelFrom upFrom concat
-  level-end st k h = let e : 5 - k ≡ 0 = omega arith in rw e
+    pub level-ends : 5 ≤ k → tables p o l ≡ foldl step st all
+    level-ends u = left-none st all p o l _ h (level-none k u)
+
+pub class-asks : (w : ℕ) (f : List ℕ) (next : Vector) (high low : ℕ) (p₀ o₀ l₀ p o l : List ℕ) → Replayable w f next p₀ o₀ l₀
+    → Sized p o l → Top next high → Bottom next low → ReplayableIn w f next high low p o l
+class-asks w f next high low p₀ o₀ l₀ p o l x z a b = record {
+  all = record { is-structural = x .is-structural; counted = x .counted; sized = z };
+  top = a;
+  bottom = b;
+}
+
+---- the levels from time t on, with the ops counted in done behind them
 
 module _ (log : Log) (cut : Vector) where
-  -- the levels from time t on
   unfoldable pub levelsFrom : ℕ → Vector → List Stamped
-  levelsFrom t done = levels (2042 - t) log cut t done
+  levelsFrom t done = levels (slots + 1 - t) log cut t done
 
-  pub levels-all : (done : Vector) → levels 2041 log cut 1 done ≡ levelsFrom 1 done
-  unfolding levelsFrom
-  levels-all done = refl
-
-  pub levels-turn : (st : State) (t : ℕ) (done : Vector) → t < 2042
-      → foldl step st (levelsFrom t done) ≡ foldl step (foldl step st (level log t (nextOf log cut done)))
-      (levelsFrom (t + 1) (advanced done (nextOf log cut done)))
+  levels-turn : (t : ℕ) (done : Vector) → t < slots + 1
+      → levelsFrom t done ≡ level log t (readyOps log cut done) ++ levelsFrom (t + 1) (advanced done (readyOps log cut done))
   unfolding levelsFrom levels
-  levels-turn st t done h =
-      let e : 2042 - t ≡ suc (2042 - (t + 1)) = omega arith in
-      rw (e, ← add-one t) (foldl-append step st (level log t (nextOf log cut done))
-      (levelsFrom (t + 1) (advanced done (nextOf log cut done))))
+  levels-turn t done h = let e : slots + 1 - t ≡ suc (slots + 1 - (t + 1)) = omega arith in rw (e, ← add-one t)
 
-  pub levels-end : (st : State) (t : ℕ) (done : Vector) → 2042 ≤ t → foldl step st (levelsFrom t done) ≡ st
+  levels-none : (t : ℕ) (done : Vector) → slots + 1 ≤ t → levelsFrom t done ≡ []
   unfolding levelsFrom levels
-  levels-end st t done h = let e : 2042 - t ≡ 0 = omega arith in rw e
+  levels-none t done h = let e : slots + 1 - t ≡ 0 = omega arith in rw e
 
----- the span of the replicas that are ready, from above and from below
+  -- where nothing is ready, no level has an op
+  module _ (done : Vector) (eight : length done ≡ 8) (idle : within (readyOps log cut done) nothing ≡ true) where
+    idle-at : (s : ℕ) → 1 ≤ s → s ≤ 8 → countIn (readyOps log cut done) s ≡ 0
+    idle-at s l u = omega (arith, within-le (readyOps log cut done) nothing idle s l u, count-nothing s l u)
 
-pub idle-down : (next : Vector) (i : ℕ) → i < 8 → getD next (7 - i) 0 ≡ 0 → ((s : ℕ) → 8 - i < s → s ≤ 8 → countIn next s ≡ 0) → (s : ℕ)
-    → 8 - (i + 1) < s → s ≤ 8 → countIn next s ≡ 0
-unfolding countIn
-idle-down next i h z inv s l u = elim (decLt (8 - i) s) [
-  | yes a ↦ inv s a u
-  | no a ↦ let e : s - 1 ≡ 7 - i = omega (arith, a) in rw e z
-]
+    idle-level : (t : ℕ) → level log t (readyOps log cut done) ≡ []
+    unfolding level levelKind
+    idle-level t =
+        let next = readyOps log cut done in
+        concat-nothing (levelKind log t next) 4 1
+        (λ k a b. concat-none (readyOp log t next k) 8 (λ s l u. op-zero log t next k s (idle-at s l u)))
 
-pub idle-up : (next : Vector) (i : ℕ) → getD next i 0 ≡ 0 → ((s : ℕ) → 1 ≤ s → s ≤ i → countIn next s ≡ 0) → (s : ℕ) → 1 ≤ s → s ≤ i + 1
-    → countIn next s ≡ 0
-unfolding countIn
-idle-up next i z inv s l u = elim (decLt i s) [
-  | yes a ↦ let e : s - 1 ≡ i = omega arith in rw e z
-  | no a ↦ inv s l (omega (arith, a))
-]
+    idle-done : advanced done (readyOps log cut done) ≡ done
+    unfolding advanced advancedAt
+    idle-done = map-replicas (advancedAt done (readyOps log cut done)) (countIn done) (λ s l u. rw (idle-at s l u)) ∙ vector-eta done eight
 
----- a level where nothing is ready
+    idle-levels : (n t : ℕ) → levels n log cut t done ≡ []
+    unfolding levels
+    idle-levels zero t = refl
+    idle-levels (suc n) t = rw (idle-level t, idle-done) (idle-levels n (suc t))
 
-module _ (log : Log) (cut done : Vector) (eight : length done ≡ 8) (idle : within (nextOf log cut done) nothing ≡ true) where
-  idle-at : (s : ℕ) → 1 ≤ s → s ≤ 8 → countIn (nextOf log cut done) s ≡ 0
-  idle-at s l u = omega (arith, within-le (nextOf log cut done) nothing idle s l u, count-nothing s l u)
+  pub record AtTime (st : State) (all : List Stamped) (p o l : List ℕ) (t : ℕ) (done : Vector) : Type 0 where
+    pub eight : length done ≡ 8
+    pub rest : Left st all p o l (levelsFrom t done)
 
-  idle-level : (t : ℕ) → level log t (nextOf log cut done) ≡ []
-  unfolding level levelKind
-  idle-level t = concat-nothing (levelKind log t (nextOf log cut done)) 4 1 (λ k a b. concat-none (entry log t (nextOf log cut done) k) 8
-      (λ s l u. entry-zero log t (nextOf log cut done) k s (idle-at s l u)))
+  pub levels-start : (p o l : List ℕ) → Sized p o l → AtTime (tables p o l) (levels slots log cut 1 nothing) p o l 1 (replicate 8 0)
+  unfolding levelsFrom nothing
+  levels-start p o l h = record { eight = refl; rest = left-all _ _ p o l h refl }
 
-  idle-done : advanced done (nextOf log cut done) ≡ done
-  unfolding advanced advancedAt
-  idle-done = map-replicas (advancedAt done (nextOf log cut done)) (countIn done) (λ s l u. rw (idle-at s l u)) ∙ vector-eta done eight
+  module _ (st : State) (all : List Stamped) (p o l : List ℕ) (t : ℕ) (done : Vector) (h : AtTime st all p o l t done) where
+    pub levels-end : slots + 1 ≤ t → tables p o l ≡ foldl step st all
+    levels-end u = left-none st all p o l _ (h .rest) (levels-none t done u)
 
-  idle-levels : (n t : ℕ) → levels n log cut t done ≡ []
-  unfolding levels
-  idle-levels zero t = refl
-  idle-levels (suc n) t = rw (idle-level t, idle-done) (idle-levels n (suc t))
+    module _ (next : Vector) (is : next ≡ readyOps log cut done) where
+      pub levels-idle : (b : Bool) → b ≡ within next (replicate 8 0) → b ≡ true → tables p o l ≡ foldl step st all
+      unfolding levelsFrom nothing
+      levels-idle b e z =
+          let idle : within (readyOps log cut done) nothing ≡ true = rw (← is) (sym e ∙ z) in
+          left-none st all p o l _ (h .rest) (idle-levels done (h .eight) idle (slots + 1 - t) t)
 
-  pub levels-idle : (st : State) (t : ℕ) → foldl step st (levelsFrom log cut t done) ≡ st
-  unfolding levelsFrom
-  levels-idle st t = rw (idle-levels (2042 - t) t)
+      pub levels-on : t < slots + 1 → (p′ o′ l′ : List ℕ) → tables p′ o′ l′ ≡ foldl step (tables p o l) (level log t next)
+          → (after : Vector) → after ≡ advanced done next → AtTime st all p′ o′ l′ (t + 1) after
+      unfolding advanced
+      levels-on u p′ o′ l′ e after a = record {
+        eight = ap length a ∙ length-eight (advancedAt done next);
+        rest = rw (a, is)
+            (left-on st all p o l _ (h .rest) (level log t (readyOps log cut done)) _ (levels-turn t done u) p′ o′ l′ (rw is at e));
+      }
 
--- a file that holds what is ready has the op that is due
-pub due-held : (w : ℕ) (f : List ℕ) (next : Vector) → Held w f next → (s : ℕ) → 1 ≤ s → s ≤ 8 → (k q : ℕ) → q ≡ dueAt (logOf w f) next k s
-    → (q ≡ 0 → ⊥) → InFile w f s q
-due-held w f next h s l u k q e z = in-file w f next h s q l u (omega arith) (omega (arith, due-least (logOf w f) next k s))
+pub level-asks : (w : ℕ) (f : List ℕ) (cut done next : Vector) (p₀ o₀ l₀ p o l : List ℕ) → Replayable w f cut p₀ o₀ l₀
+    → next ≡ readyOps (logOf w f) cut done → Sized p o l → Replayable w f next p o l
+level-asks w f cut done next p₀ o₀ l₀ p o l x is z =
+    record { is-structural = x .is-structural; counted = rw is (next-counted w f cut done (x .counted)); sized = z }
 
--- a file that holds a cut holds what is ready
-pub next-held : (w : ℕ) (f : List ℕ) (cut done : Vector) → Held w f cut → Held w f (nextOf (logOf w f) cut done)
-unfolding nextOf
-next-held w f cut done h = record {
-  wide = h .wide;
-  is-structural = h .is-structural;
-  each = λ s l u. rw (count-map (nextAt (logOf w f) cut done) s l u) (elim (decLt (countIn done s) (countIn cut s)) [
-    | yes y ↦ rw (next-some (logOf w f) cut done s y) (go (within (vectorOf (opAt (logOf w f) s (countIn done s + 1))) done)
-        (omega (arith, h .each s l u)))
-    | no n ↦ rw (next-none (logOf w f) cut done s (omega arith)) (omega arith)
-  ]);
-}
-  where
-    go : {a m : ℕ} (b : Bool) → a ≤ m → cond b a 0 ≤ m
-    go true h = h
-    go false h = omega arith
+---- what the code of the levels needs: search levelling
+
+pub ruleset class-turns = (class-starts, class-on, class-ends)
+
+pub ruleset level-turns = (level-starts, level-on, level-ends)
+
+pub ruleset levels-turns = (levels-start, levels-end, levels-idle, levels-on)
+
+pub ruleset asks = (class-asks, level-asks)
+
+pub ruleset levelling = (needs, classes, dues, bounds, class-turns, level-turns, levels-turns, asks)

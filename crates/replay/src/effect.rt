@@ -3,13 +3,11 @@ use crate::tree::slot_of;
 use codec::word_at;
 use oplog::place;
 ghost use mathlib.Core.Path.{_≡_};
-ghost use mathlib.Core.Bool.{cond, _&&_};
 ghost use Prim.Native.Nat.{_<_};
-ghost use lib.ListN.{length, set};
-ghost use lib.Dec.{eqb};
+ghost use lib.ListN.{length};
 ghost use Rattle.rules.specs.File.{logOf, opAt};
 ghost use Rattle.rules.specs.Replay.{step};
-ghost use Rattle.replay.specs.Tables.{tables, stampedAt, Sized, InFile, moves, hangs, outcomeBy};
+ghost use Rattle.replay.specs.Tables.{tables, stampedAt, Slotted, Applicable, outcomeBy, hungBy, notedBy};
 
 // The outcome of an op by its fields.
 fn outcome_of(
@@ -21,7 +19,7 @@ fn outcome_of(
     slot: usize,
     time: u16,
 ) -> u8
-    requires { ⌜ (length (now parents) ≡ 2041) × (node < 65535) × (slot < length (now placed)) ⌝ }
+    requires { ⌜ Slotted (now parents) (now placed) node slot ⌝ }
     ensures { λ r. ⌜ r ≡ outcomeBy (now (parents .entry)) (now (placed .entry)) kind node parent slot time ⌝ }
 {
     match kind {
@@ -46,7 +44,7 @@ fn outcome_of(
 // Hangs the node of an applied add or move.
 fn hang(parents: &mut [u16], kind: u8, outcome: u8, slot: usize, parent: u16)
     requires { ⌜ slot < length (now parents) ⌝ }
-    ensures { λ _. ⌜ now (parents .exit) ≡ cond (eqb outcome 1 && hangs kind) (set (now (parents .entry)) slot parent) (now (parents .entry)) ⌝ }
+    ensures { λ _. ⌜ now (parents .exit) ≡ hungBy (now (parents .entry)) kind outcome slot parent ⌝ }
 {
     if outcome != 1 {
         return;
@@ -68,7 +66,7 @@ fn hang(parents: &mut [u16], kind: u8, outcome: u8, slot: usize, parent: u16)
 // Notes the time of an applied move, so that a second move of this time finds its node placed.
 fn note_time(placed: &mut [u16], kind: u8, outcome: u8, slot: usize, time: u16)
     requires { ⌜ slot < length (now placed) ⌝ }
-    ensures { λ _. ⌜ now (placed .exit) ≡ cond (eqb outcome 1 && moves kind) (set (now (placed .entry)) slot time) (now (placed .entry)) ⌝ }
+    ensures { λ _. ⌜ now (placed .exit) ≡ notedBy (now (placed .entry)) kind outcome slot time ⌝ }
 {
     if outcome != 1 {
         return;
@@ -98,8 +96,10 @@ pub fn apply_op(
     placed: &mut [u16],
     width: usize,
 )
-    requires { ⌜ InFile width (now file) s q × Sized (now parents) (now outcomes) (now placed) ⌝ }
-    ensures { λ _. ⌜ tables (now (parents .exit)) (now (outcomes .exit)) (now (placed .exit)) ≡ step (tables (now (parents .entry)) (now (outcomes .entry)) (now (placed .entry))) (stampedAt time (opAt (logOf width (now (file .entry))) s q)) ⌝ }
+    requires { ⌜ Applicable width (now file) s q (now parents) (now outcomes) (now placed) ⌝ }
+    ensures { λ _. ⌜ tables (now (parents .exit)) (now (outcomes .exit)) (now (placed .exit))
+        ≡ step (tables (now (parents .entry)) (now (outcomes .entry)) (now (placed .entry)))
+        (stampedAt time (opAt (logOf width (now (file .entry))) s q)) ⌝ }
 {
     let at = place(file, s, q, width);
     let kind = file[at];

@@ -1,17 +1,17 @@
 use crate::effect::apply_op;
 use crate::ready::advance;
 use crate::ready::next_ops;
+use crate::tree::SLOTS;
 use codec::widen;
 use codec::within;
 use oplog::place;
 ghost use mathlib.Core.Path.{_≡_};
 ghost use mathlib.Core.List.{foldl};
-ghost use Prim.Native.Nat.{ℕ, _≤_, _<_};
 ghost use Rattle.rules.specs.File.{logOf};
-ghost use Rattle.rules.specs.Op.{countIn};
 ghost use Rattle.rules.specs.Replay.{step};
-ghost use Rattle.order.specs.Levels.{entry, levelKind, level, levels, nothing};
-ghost use Rattle.replay.specs.Tables.{tables, Sized, Held, Span, classOf, dueAt};
+ghost use Rattle.rules.specs.Tree.{slots};
+ghost use Rattle.order.specs.Levels.{readyOp, levelKind, level, levels, nothing};
+ghost use Rattle.replay.specs.Tables.{tables, StructuralAt, ReplayableAt, ReplayableIn, Replayable, Top, Bottom, classOf, dueAt};
 
 // The class of a kind, in the order in which ops of one timestamp are judged: adds, removes,
 // upward moves, downward moves. Any other kind is in none of them.
@@ -39,7 +39,7 @@ fn class_of(kind: u8) -> u8
 
 // The number of the op of a replica that is ready, if it is of this class; else 0.
 fn due(file: &[u8], next: [u8; 8], class: u8, s: usize, width: usize) -> usize
-    requires { ⌜ Held width (now file) next × (1 ≤ s) × (s ≤ 8) ⌝ }
+    requires { ⌜ StructuralAt width (now file) next s ⌝ }
     ensures { λ r. ⌜ r ≡ dueAt (logOf width (now (file .entry))) next class s ⌝ }
 {
     let q = widen(next[s - 1]);
@@ -54,7 +54,7 @@ fn due(file: &[u8], next: [u8; 8], class: u8, s: usize, width: usize) -> usize
 }
 
 // Applies the op of a replica that is ready, if it is of this class.
-fn replay_entry(
+fn replay_due(
     file: &[u8],
     next: [u8; 8],
     time: u16,
@@ -65,8 +65,10 @@ fn replay_entry(
     placed: &mut [u16],
     width: usize,
 )
-    requires { ⌜ Held width (now file) next × (1 ≤ s) × (s ≤ 8) × Sized (now parents) (now outcomes) (now placed) ⌝ }
-    ensures { λ _. ⌜ tables (now (parents .exit)) (now (outcomes .exit)) (now (placed .exit)) ≡ foldl step (tables (now (parents .entry)) (now (outcomes .entry)) (now (placed .entry))) (entry (logOf width (now (file .entry))) time next class s) ⌝ }
+    requires { ⌜ ReplayableAt width (now file) next s (now parents) (now outcomes) (now placed) ⌝ }
+    ensures { λ _. ⌜ tables (now (parents .exit)) (now (outcomes .exit)) (now (placed .exit))
+        ≡ foldl step (tables (now (parents .entry)) (now (outcomes .entry)) (now (placed .entry)))
+        (readyOp (logOf width (now (file .entry))) time next class s) ⌝ }
 {
     let q = due(file, next, class, s, width);
     if q == 0 {
@@ -77,7 +79,7 @@ fn replay_entry(
 
 // The highest replica that is ready, or 0.
 fn highest(next: [u8; 8]) -> usize
-    ensures { λ r. ⌜ (r ≤ 8) × ((s : ℕ) → r < s → s ≤ 8 → countIn next s ≡ 0) ⌝ }
+    ensures { λ r. ⌜ Top next r ⌝ }
 {
     for i in 0..8usize {
         if next[7 - i] != 0 {
@@ -89,7 +91,7 @@ fn highest(next: [u8; 8]) -> usize
 
 // The lowest replica that is ready, or 9.
 fn lowest(next: [u8; 8]) -> usize
-    ensures { λ r. ⌜ (1 ≤ r) × (r ≤ 9) × ((s : ℕ) → 1 ≤ s → s < r → countIn next s ≡ 0) ⌝ }
+    ensures { λ r. ⌜ Bottom next r ⌝ }
 {
     for i in 0..8usize {
         if next[i] != 0 {
@@ -112,14 +114,16 @@ fn replay_class(
     placed: &mut [u16],
     width: usize,
 )
-    requires { ⌜ Held width (now file) next × Sized (now parents) (now outcomes) (now placed) × Span next high low ⌝ }
-    ensures { λ _. ⌜ tables (now (parents .exit)) (now (outcomes .exit)) (now (placed .exit)) ≡ foldl step (tables (now (parents .entry)) (now (outcomes .entry)) (now (placed .entry))) (levelKind (logOf width (now (file .entry))) time next class) ⌝ }
+    requires { ⌜ ReplayableIn width (now file) next high low (now parents) (now outcomes) (now placed) ⌝ }
+    ensures { λ _. ⌜ tables (now (parents .exit)) (now (outcomes .exit)) (now (placed .exit))
+        ≡ foldl step (tables (now (parents .entry)) (now (outcomes .entry)) (now (placed .entry)))
+        (levelKind (logOf width (now (file .entry))) time next class) ⌝ }
 {
     let from = 8 - high;
     let to = 9 - low;
     for i in from..to {
         let s = 8 - i;
-        replay_entry(file, next, time, class, s, parents, outcomes, placed, width);
+        replay_due(file, next, time, class, s, parents, outcomes, placed, width);
     }
 }
 
@@ -133,8 +137,10 @@ fn replay_level(
     placed: &mut [u16],
     width: usize,
 )
-    requires { ⌜ Held width (now file) next × Sized (now parents) (now outcomes) (now placed) ⌝ }
-    ensures { λ _. ⌜ tables (now (parents .exit)) (now (outcomes .exit)) (now (placed .exit)) ≡ foldl step (tables (now (parents .entry)) (now (outcomes .entry)) (now (placed .entry))) (level (logOf width (now (file .entry))) time next) ⌝ }
+    requires { ⌜ Replayable width (now file) next (now parents) (now outcomes) (now placed) ⌝ }
+    ensures { λ _. ⌜ tables (now (parents .exit)) (now (outcomes .exit)) (now (placed .exit))
+        ≡ foldl step (tables (now (parents .entry)) (now (outcomes .entry)) (now (placed .entry)))
+        (level (logOf width (now (file .entry))) time next) ⌝ }
 {
     let high = highest(next);
     let low = lowest(next);
@@ -154,6 +160,9 @@ fn replay_level(
     }
 }
 
+// Timestamps lie below.
+const TIMES: u16 = SLOTS as u16 + 1;
+
 // Level after level, until nothing is ready.
 pub fn replay_levels(
     file: &[u8],
@@ -163,11 +172,13 @@ pub fn replay_levels(
     placed: &mut [u16],
     width: usize,
 )
-    requires { ⌜ Held width (now file) cut × Sized (now parents) (now outcomes) (now placed) ⌝ }
-    ensures { λ _. ⌜ tables (now (parents .exit)) (now (outcomes .exit)) (now (placed .exit)) ≡ foldl step (tables (now (parents .entry)) (now (outcomes .entry)) (now (placed .entry))) (levels 2041 (logOf width (now (file .entry))) cut 1 nothing) ⌝ }
+    requires { ⌜ Replayable width (now file) cut (now parents) (now outcomes) (now placed) ⌝ }
+    ensures { λ _. ⌜ tables (now (parents .exit)) (now (outcomes .exit)) (now (placed .exit))
+        ≡ foldl step (tables (now (parents .entry)) (now (outcomes .entry)) (now (placed .entry)))
+        (levels slots (logOf width (now (file .entry))) cut 1 nothing) ⌝ }
 {
     let mut done = [0u8; 8];
-    for time in 1..2042u16 {
+    for time in 1..TIMES {
         let next = next_ops(file, cut, done, width);
         if within(next, [0u8; 8]) {
             return;

@@ -12,4 +12,5 @@ pub use tree::NO_PARENT;
 pub use tree::SLOTS;
 pub use tree::below;
 pub use tree::depth_of;
+pub use tree::move_kind;
 pub use tree::slot_of;

@@ -3,15 +3,15 @@ use codec::widen;
 use codec::within;
 use oplog::place;
 ghost use mathlib.Core.Path.{_≡_};
-ghost use Prim.Native.Nat.{_≤_};
 ghost use Rattle.rules.specs.File.{logOf};
-ghost use Rattle.order.specs.Levels.{nextAt, nextOf, advanced};
-ghost use Rattle.replay.specs.Tables.{Held, later};
+ghost use Rattle.oplog.specs.Spots.{Counted};
+ghost use Rattle.order.specs.Levels.{nextAt, readyOps, advanced};
+ghost use Rattle.replay.specs.Tables.{CountedAt, later};
 
 // The number of replica s's next op, if it is within the cut and all that it has seen is done;
 // else 0.
 fn next_op(file: &[u8], cut: [u8; 8], done: [u8; 8], s: usize, width: usize) -> u8
-    requires { ⌜ Held width (now file) cut × (1 ≤ s) × (s ≤ 8) ⌝ }
+    requires { ⌜ CountedAt width (now file) cut s ⌝ }
     ensures { λ r. ⌜ r ≡ nextAt (logOf width (now (file .entry))) cut done s ⌝ }
 {
     let held = done[s - 1];
@@ -19,7 +19,7 @@ fn next_op(file: &[u8], cut: [u8; 8], done: [u8; 8], s: usize, width: usize) -> 
         return 0;
     }
     let q = held + 1;
-    let at = place(file, s, widen(q), width) + 6;
+    let at = place(file, s, widen(q), width);
     if within(vector_at(file, at), done) {
         return q;
     }
@@ -28,8 +28,8 @@ fn next_op(file: &[u8], cut: [u8; 8], done: [u8; 8], s: usize, width: usize) -> 
 
 // The number of each replica's op that is ready, or 0.
 pub fn next_ops(file: &[u8], cut: [u8; 8], done: [u8; 8], width: usize) -> [u8; 8]
-    requires { ⌜ Held width (now file) cut ⌝ }
-    ensures { λ r. ⌜ r ≡ nextOf (logOf width (now (file .entry))) cut done ⌝ }
+    requires { ⌜ Counted width (now file) cut ⌝ }
+    ensures { λ r. ⌜ r ≡ readyOps (logOf width (now (file .entry))) cut done ⌝ }
 {
     let mut next = [0u8; 8];
     for i in 0..8 {

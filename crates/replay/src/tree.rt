@@ -2,7 +2,16 @@ use codec::widen16;
 ghost use mathlib.Core.Path.{_≡_};
 ghost use Prim.Native.Nat.{_<_};
 ghost use lib.ListN.{length};
-ghost use Rattle.rules.specs.Tree.{slotOf, depth, atOrBelow};
+ghost use Rattle.rules.specs.Tree.{slots, noParent, slotOf, depth, atOrBelow};
+ghost use Rattle.replay.specs.Tables.{moveOrCycle};
+
+// How many slots a table has, and the parent entry of a slot without an added node.
+pub const SLOTS: usize = 2041;
+
+pub const NO_PARENT: u16 = 65535;
+
+// The depth where no climb ends.
+const DEEPEST: usize = SLOTS - 1;
 
 // How many slots a table has, and the parent entry of a slot without an added node.
 pub const SLOTS: usize = 2041;
@@ -22,11 +31,11 @@ pub fn slot_of(node: u16) -> usize
 // Whether a node lies at or below another. The climb stops at the node, at the root, and where
 // it leaves the table, since there it comes to no node any more.
 pub fn below(parents: &[u16], from: u16, node: u16) -> bool
-    requires { ⌜ (length (now parents) ≡ 2041) × (node < 65535) ⌝ }
+    requires { ⌜ (length (now parents) ≡ slots) × (node < noParent) ⌝ }
     ensures { λ r. ⌜ r ≡ atOrBelow (now (parents .entry)) from node ⌝ }
 {
     let mut above = from;
-    for i in 0..2041usize {
+    for i in 0..SLOTS {
         if above == node {
             return true;
         }
@@ -34,7 +43,7 @@ pub fn below(parents: &[u16], from: u16, node: u16) -> bool
             return false;
         }
         let slot = slot_of(above);
-        if 2041 <= slot {
+        if SLOTS <= slot {
             return false;
         }
         above = parents[slot];
@@ -42,21 +51,35 @@ pub fn below(parents: &[u16], from: u16, node: u16) -> bool
     false
 }
 
-// The number of steps to the root; 2,040 where no climb ends.
+// The number of steps to the root.
 pub fn depth_of(parents: &[u16], node: u16) -> usize
-    requires { ⌜ length (now parents) ≡ 2041 ⌝ }
+    requires { ⌜ length (now parents) ≡ slots ⌝ }
     ensures { λ r. ⌜ r ≡ depth (now (parents .entry)) node ⌝ }
 {
     let mut at = node;
-    for i in 0..2040usize {
+    for i in 0..DEEPEST {
         if at == 0 {
             return i;
         }
         let slot = slot_of(at);
-        if 2041 <= slot {
-            return 2040;
+        if SLOTS <= slot {
+            return DEEPEST;
         }
         at = parents[slot];
     }
-    2040
+    DEEPEST
+}
+
+// The kind of a move in a tree, or 0 where the new parent is the node or lies below it.
+pub fn move_kind(parents: &[u16], node: u16, parent: u16) -> u8
+    requires { ⌜ (length (now parents) ≡ slots) × (node < noParent) ⌝ }
+    ensures { λ r. ⌜ r ≡ moveOrCycle (now (parents .entry)) node parent ⌝ }
+{
+    if below(parents, parent, node) {
+        return 0;
+    }
+    if depth_of(parents, parent) < depth_of(parents, node) {
+        return 3;
+    }
+    4
 }

@@ -7,10 +7,8 @@ use Rattle.rules.specs.File.{countAt, fileEnd, headerCounts, startOf, width}
 use Rattle.oplog.proofs.FieldLaws.{counts-in}
 use Rattle.oplog.proofs.HeaderLaws.{end-is}
 use Rattle.codec.specs.Answers.{isAccepted}
-use Rattle.rules.specs.Log.{laid}
 use Rattle.soundness.proofs.SoundCases.{laid-of}
 use Rattle.rules.proofs.ReplicaLaws.{replica-high, replica-low}
-use Rattle.rules.specs.Op.{replicaOf}
 use Rattle.rules.proofs.DeliverLaws.{required}
 use Rattle.rules.specs.Sound.{sound}
 use Rattle.rules.proofs.SoundLaws.{sound-laid}
@@ -22,6 +20,8 @@ use native.Mathlib.Omega.{arith}
 use borrow.Author.Tests.{le-leb, leb-true, lt-leb}
 use lib.ListN.{length}
 use mathlib.Core.Bool.{true}
+use Rattle.oplog.specs.Append.{Appendable}
+use Rattle.rules.specs.Op.{Vector}
 
 ---- the last test; e is where the file ends
 
@@ -48,15 +48,24 @@ has-room f a is h =
 
 ---- an op that is added
 
-pub append-asks :
-    (f : List ℕ) (s : ℕ) (op : List ℕ) → Acceptable f s op → (r : ℕ) → r ≡ s →
-    (14 ≤ width) × (width ≤ 16) × (laid width f ≡ true) × (r ≡ replicaOf op) × (1 ≤ r) × (r ≤ 8) ×
-    (countAt f r < 255) × (length op ≡ width) × (fileEnd width f + width ≤ length f)
-append-asks f s op a r e =
+pub append-asks : (f : List ℕ) (s : ℕ) (op : List ℕ) → Acceptable f s op → (v : Vector) → v ≡ headerCounts f → (r : ℕ) → r ≡ s
+    → Appendable width f v r op
+append-asks f s op a v held r e =
     let l = replica-low s (a .is-replica) in
     let u = replica-high s (a .is-replica) in
     let n : countAt f s < 255 = rw (← counts-in width f s l u) (a .count) in
-    (omega arith, omega arith, laid-of f (a .is-sound), e ∙ a .origin, omega arith, omega arith, rw e n, a .long, a .room)
+    record {
+      wide = omega arith;
+      narrow = omega arith;
+      is-laid = laid-of f (a .is-sound);
+      held = held;
+      origin = e ∙ a .origin;
+      low = omega arith;
+      high = omega arith;
+      below = rw e n;
+      long = a .long;
+      room = a .room;
+    }
 
 ---- what the code of adding needs: search adding
 pub ruleset adding = (needs, tested, end-small, no-room, room-for)

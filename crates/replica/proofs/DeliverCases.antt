@@ -21,7 +21,8 @@ use Rattle.lists.proofs.BoolLaws.{tested}
 use Rattle.rules.proofs.DeliverLaws.{admitted}
 use Rattle.rules.proofs.FileLaws.{counts-logOf}
 use Rattle.rules.proofs.StructureLaws.{count-held}
-use Rattle.oplog.specs.Spots.{Counted, Spot, namesBy, placeOf}
+use Rattle.oplog.specs.Spots.{Counted, Spot, placeOf}
+use Rattle.oplog.specs.Tests.{namesBy}
 use Rattle.oplog.proofs.FieldLaws.{counted-of, counts-in, op-is}
 use Rattle.codec.specs.Answers.{isAccepted, numberOf}
 use Rattle.codec.specs.Read.{fieldsOf, readOf}
@@ -131,11 +132,7 @@ names-by : (f op : List ℕ) (x : Fields) → fieldsOf op ≡ x → namesKnown (
 unfolding namesKnown namesIn namesBy isAdd isRemove
 names-by f op x e = rw (← e)
 
-module _ (f op : List ℕ) (x : Fields) (u : Vector) (d : Fresh f op x u) (v : Vector) (is : v ≡ take 8 (drop 6 op)) where
-  vector-is : v ≡ vectorOf op
-  unfolding vectorOf
-  vector-is = is
-
+module _ (f op : List ℕ) (x : Fields) (u : Vector) (d : Fresh f op x u) (v : Vector) (vector-is : v ≡ vectorOf op) where
   new-by : deliverAnswer width f op ≡ admitAnswer width f op
   new-by = answer-by f op x (d .reads) ∙ rw (d .is-new)
 

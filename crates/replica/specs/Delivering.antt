@@ -8,7 +8,7 @@ use Rattle.rules.specs.Deliver.{held}
 use Rattle.rules.specs.File.{Log, width, logOf}
 use Rattle.rules.specs.Op.{Vector, nodeNumber, wellFormed}
 use Rattle.rules.specs.Sound.{sound}
-use Rattle.oplog.specs.Spots.{namesBy}
+use Rattle.oplog.specs.Tests.{namesBy}
 use Rattle.codec.specs.Read.{fieldsOf}
 use Rattle.codec.specs.declared.op.Fields.{Fields}
 use Rattle.soundness.specs.Asked.{Tallied}

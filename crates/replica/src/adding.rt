@@ -2,6 +2,7 @@ use codec::Answer;
 use codec::Refusal;
 use codec::widen;
 use oplog::append_op;
+use oplog::counts_of;
 use oplog::end_of;
 use soundness::WIDTH;
 ghost use mathlib.Core.Path.{_≡_};
@@ -28,5 +29,6 @@ pub fn accept(buf: &mut [u8], replica: u8, op: &[u8])
     requires { ⌜ Acceptable (now buf) replica (now op) ⌝ }
     ensures { λ _. ⌜ now (buf .exit) ≡ appended width (now (buf .entry)) (now (op .entry)) ⌝ }
 {
-    append_op(buf, widen(replica), op, WIDTH);
+    let counts = counts_of(buf, WIDTH);
+    append_op(buf, counts, widen(replica), op, WIDTH);
 }

@@ -2,15 +2,15 @@
 use Rattle.rules.specs.File.{Log}
 use Rattle.rules.specs.Op.{Op, Vector, isAdd, isMove, kindOf, nodeOf, parentOf}
 use Rattle.rules.specs.Replay.{Stamped, State, ordered, outcomeOf, outcomeSlot, replay, start, step}
-use Rattle.rules.specs.Tree.{atOrBelow, slotOf, slots}
+use Rattle.rules.specs.Tree.{noParent, atOrBelow, slotOf, slots}
 use mathlib.Core.Bool.{Bool, _&&_, _||_, cond, false, not, or-true, true}
 use mathlib.Core.List.{List, [], _∷_, foldl}
-use mathlib.Core.Path.{_∙_, _≡_, refl}
+use mathlib.Core.Path.{ap, _∙_, _≡_, refl}
 use mathlib.Core.Logic.{_⊎_, inl, inr}
 use borrow.Author.Tests.{eq-eqb, ne-eqb}
 use lib.Dec.{eqb}
 use lib.ListN.{getD, length, length-replicate, length-set, set}
-use Prim.Native.Nat.{ℕ}
+use Prim.Native.Nat.{suc, ℕ}
 
 pub step-add : (st : State) (x : Stamped) → kindOf (x .op) ≡ 1 → step st x .parents ≡ set (st .parents) (slotOf (nodeOf (x .op)))
     (parentOf (x .op))
@@ -41,27 +41,34 @@ step-move st x m a = rw (m, a) (go (eqb (getD (st .placed) (slotOf (nodeOf (x .o
 ---- sizes
 
 pub record Full (st : State) : Type 0 where
+  pub parents-full : length (st .parents) ≡ slots
   pub outcomes-full : length (st .outcomes) ≡ slots
   pub placed-full : length (st .placed) ≡ slots
 
 pub full-step : (st : State) (x : Stamped) → Full st → Full (step st x)
 unfolding step
-full-step st x h = record {
-  outcomes-full = length-set (st .outcomes) _ _ ∙ h .outcomes-full;
-  placed-full = go (eqb (outcomeOf st x) 1 && isMove (x .op));
-}
+full-step st x h =
+    let r = x .op in
+    let n = slotOf (nodeOf r) in
+    let done = eqb (outcomeOf st x) 1 in
+    record {
+      parents-full = go (done && (isAdd r || isMove r)) (st .parents) n (parentOf r) ∙ h .parents-full;
+      outcomes-full = length-set (st .outcomes) (outcomeSlot r) (outcomeOf st x) ∙ h .outcomes-full;
+      placed-full = go (done && isMove r) (st .placed) n (x .time) ∙ h .placed-full;
+    }
   where
-    go : (moved : Bool) → length (cond moved (set (st .placed) (slotOf (nodeOf (x .op))) (x .time)) (st .placed)) ≡ slots
-    go true = length-set (st .placed) _ _ ∙ h .placed-full
-    go false = h .placed-full
+    go : (b : Bool) (t : List ℕ) (i v : ℕ) → length (cond b (set t i v) t) ≡ length t
+    go true t i v = length-set t i v
+    go false t i v = refl
 
-full-run : (xs : List Stamped) (st : State) → Full st → Full (foldl step st xs)
+pub full-run : (xs : List Stamped) (st : State) → Full st → Full (foldl step st xs)
 full-run [] st h = h
 full-run (x ∷ xs) st h = full-run xs (step st x) (full-step st x h)
 
 pub full-first : Full start
 unfolding start
 full-first = record {
+  parents-full = ap suc (length-replicate {A = ℕ} 2040 noParent);
   outcomes-full = length-replicate {A = ℕ} slots 0;
   placed-full = length-replicate {A = ℕ} slots 0;
 }

@@ -1,13 +1,13 @@
--- `codec::vector::vector_at` meets its contract. Assumes nothing.
+-- `codec::vector::read_vector` meets its contract. Assumes nothing.
 use mathlib.Core.Path.{_≡_, refl, sym, _∙_}
 use Prim.Native.Nat.{_-_, _≤_}
 use native.Mathlib.Omega.{arith}
 use lib.ListN.{length, take, drop, length-drop, length-set}
 use denote.Ref.{now}
 use lib.Seq.{take-all, getD-drop}
-use Rattle.codec.proofs.vector.vector_at.Statement.{statement}
+use Rattle.codec.proofs.vector.read_vector.Statement.{statement}
 use Rattle.lists.proofs.ListLaws.{copy-step}
-use Rattle.codec.proofs.vector.vector_at.Tie as tie
+use Rattle.codec.proofs.vector.read_vector.Tie as tie
 
 abbrev Inv-loop : tie.InvT-loop
 Inv-loop bytes at v₀ i₀ v i = (i ≤ 8) × (length v ≡ 8) × (take i v ≡ take i (drop at bytes))
@@ -34,8 +34,8 @@ returns c =
     let e : l .i ≡ 8 = omega arith in
     sym (take-all 8 (l .v) (omega arith)) ∙ rw e at (l .inv .2)
 
-pub vector-at-spec : {M : Type 1} → statement M
-vector-at-spec =
+pub read-vector-spec : {M : Type 1} → statement M
+read-vector-spec =
     tie.close
     (tie.spec
     Inv-loop

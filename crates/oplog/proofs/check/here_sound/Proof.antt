@@ -1,0 +1,13 @@
+-- `oplog::check::here_sound` meets its contract. Assumes nothing.
+use Rattle.oplog.proofs.MarkerLaws.{walking}
+use Rattle.oplog.proofs.check.here_sound.Statement.{statement}
+use Rattle.oplog.proofs.check.here_sound.Tie as tie
+
+pub here-sound-spec : {M : Type 1} → statement M
+here-sound-spec =
+    tie.close
+    (tie.spec
+    (λ c κs. search walking)
+    (λ c. search walking)
+    (λ c κs. search walking)
+    (λ c. search walking))

@@ -1,0 +1,15 @@
+-- `oplog::check::is_laid` meets its contract. Assumes nothing.
+use borrow.Author.Needs.{needs}
+use Rattle.oplog.proofs.TestLaws.{testing}
+use Rattle.oplog.proofs.check.is_laid.Statement.{statement}
+use Rattle.oplog.proofs.check.is_laid.Tie as tie
+
+pub is-laid-spec : {M : Type 1} → statement M
+is-laid-spec =
+    tie.close
+    (tie.spec
+    (λ c. search testing)
+    (λ c κs. search needs)
+    (λ c. search testing)
+    (λ c κs. search testing)
+    (λ c. search testing))

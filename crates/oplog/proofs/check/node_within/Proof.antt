@@ -1,0 +1,18 @@
+-- `oplog::check::node_within` meets its contract. Assumes nothing.
+use borrow.Author.Needs.{needs}
+use Rattle.oplog.proofs.TestLaws.{testing}
+use Rattle.oplog.proofs.check.node_within.Statement.{statement}
+use Rattle.oplog.proofs.check.node_within.Tie as tie
+
+pub node-within-spec : {M : Type 1} → statement M
+node-within-spec =
+    tie.close
+    (tie.spec
+    (λ c κs. search needs)
+    (λ c κs. search needs)
+    (λ c. search testing)
+    (λ c. search testing)
+    (λ c. search testing)
+    (λ c. search needs)
+    (λ c κs. search needs)
+    (λ c. search testing))

@@ -1,0 +1,186 @@
+-- The effect of an op, as the code has it. Assumes nothing.
+use mathlib.Core.Path.{_≡_, sym, ap, _∙_}
+use mathlib.Core.Logic.{inr}
+use mathlib.Core.Bool.{Bool, true, false}
+use mathlib.Core.List.{List}
+use Prim.Native.Nat.{ℕ, _+_, _*_, _-_, _/_, _%_, _≤_, _<_}
+use native.Mathlib.Omega.{arith}
+use native.Mathlib.Decide.{ℕ-discrete}
+use lib.ListN.{length, getD, set}
+use borrow.Author.Tests.{eq-eqb, ne-eqb}
+use borrow.Author.Needs.{needs, fits-under}
+use mir.Syntax.{w64}
+use mir.Val.{Fits}
+use Rattle.rules.specs.Bytes.{wordAt}
+use Rattle.rules.specs.Op.{vectorOf, kindOf, parentOf, nodeNumber, isAdd, nodeOf, isMove, Op}
+use Rattle.rules.specs.Tree.{slotOf, slot, slots, atOrBelow}
+use Rattle.rules.specs.Replay.{outcomeOf, outcomeSlot, step}
+use Rattle.rules.specs.File.{opAt, logOf}
+use Rattle.rules.proofs.SlotLaws.{slot-below}
+use Rattle.rules.proofs.KnownLaws.{names-add, names-node, known-reads}
+use Rattle.oplog.specs.Spots.{placeOf}
+use Rattle.oplog.proofs.FieldLaws.{node-is, kind-is, parent-is, small}
+use Rattle.replay.specs.Tables.{Applicable, Slotted, hungBy, moves, notedBy, outcomeBy, stampedAt, tables}
+use Rattle.replay.proofs.HeldLaws.{held-op}
+
+---- by the kind byte
+
+moves-true : (k : ℕ) → 3 ≤ k → k < 5 → moves k ≡ true
+moves-true k l u = elim (ℕ-discrete k 3) [
+  | yes e ↦ rw (eq-eqb k 3 e)
+  | no ne ↦ rw (ne-eqb k 3 ne, eq-eqb k 4 (omega arith))
+]
+
+moves-low : (k : ℕ) → k < 3 → moves k ≡ false
+moves-low k h = rw (ne-eqb k 3 (λ e. omega arith), ne-eqb k 4 (λ e. omega arith))
+
+moves-high : (k : ℕ) → 5 ≤ k → moves k ≡ false
+moves-high k h = rw (ne-eqb k 3 (λ e. omega arith), ne-eqb k 4 (λ e. omega arith))
+
+module _ (p l : List ℕ) (k n m i t : ℕ) where
+  outcome-plain : moves k ≡ false → 1 ≡ outcomeBy p l k n m i t
+  unfolding outcomeBy
+  outcome-plain e = rw e
+
+  pub outcome-zero : k ≡ 0 → 1 ≡ outcomeBy p l k n m i t
+  outcome-zero z = outcome-plain (moves-low k (omega arith))
+
+  pub outcome-low : k < 3 → 1 ≡ outcomeBy p l k n m i t
+  outcome-low h = outcome-plain (moves-low k h)
+
+  pub outcome-high : 5 ≤ k → 1 ≡ outcomeBy p l k n m i t
+  outcome-high h = outcome-plain (moves-high k h)
+
+  module _ (a : 3 ≤ k) (b : k < 5) where
+    pub outcome-placed : getD l i 0 ≡ t → 2 ≡ outcomeBy p l k n m i t
+    unfolding outcomeBy
+    outcome-placed e = rw (moves-true k a b, eq-eqb (getD l i 0) t e)
+
+    module _ (ne : getD l i 0 ≡ t → ⊥) (r : Bool) (is : r ≡ atOrBelow p m n) where
+      pub outcome-cycle : r ≡ true → 3 ≡ outcomeBy p l k n m i t
+      unfolding outcomeBy
+      outcome-cycle e = rw (moves-true k a b, ne-eqb (getD l i 0) t ne, ← is, e)
+
+      pub outcome-clear : r ≡ false → 1 ≡ outcomeBy p l k n m i t
+      unfolding outcomeBy
+      outcome-clear e = rw (moves-true k a b, ne-eqb (getD l i 0) t ne, ← is, e)
+
+-- hanging a node
+module _ (p : List ℕ) (k o i x : ℕ) where
+  pub hang-not : (o ≡ 1 → ⊥) → p ≡ hungBy p k o i x
+  unfolding hungBy
+  hang-not ne = rw (ne-eqb o 1 ne)
+
+  module _ (e : o ≡ 1) where
+    pub hang-add : k ≡ 1 → set p i x ≡ hungBy p k o i x
+    unfolding hungBy
+    hang-add z = rw (eq-eqb o 1 e, eq-eqb k 1 z)
+
+    pub hang-move : 3 ≤ k → k < 5 → set p i x ≡ hungBy p k o i x
+    unfolding hungBy
+    hang-move a b = rw (eq-eqb o 1 e, ne-eqb k 1 (λ z. omega arith), moves-true k a b)
+
+    hang-plain : (k ≡ 1 → ⊥) → moves k ≡ false → p ≡ hungBy p k o i x
+    unfolding hungBy
+    hang-plain z h = rw (eq-eqb o 1 e, ne-eqb k 1 z, h)
+
+    pub hang-zero : k ≡ 0 → p ≡ hungBy p k o i x
+    hang-zero z = hang-plain (λ y. omega arith) (moves-low k (omega arith))
+
+    pub hang-remove : k ≡ 2 → p ≡ hungBy p k o i x
+    hang-remove z = hang-plain (λ y. omega arith) (moves-low k (omega arith))
+
+    pub hang-high : 5 ≤ k → p ≡ hungBy p k o i x
+    hang-high h = hang-plain (λ y. omega arith) (moves-high k h)
+
+-- noting a time
+module _ (l : List ℕ) (k o i t : ℕ) where
+  pub note-not : (o ≡ 1 → ⊥) → l ≡ notedBy l k o i t
+  unfolding notedBy
+  note-not ne = rw (ne-eqb o 1 ne)
+
+  module _ (e : o ≡ 1) where
+    pub note-move : 3 ≤ k → k < 5 → set l i t ≡ notedBy l k o i t
+    unfolding notedBy
+    note-move a b = rw (eq-eqb o 1 e, moves-true k a b)
+
+    note-plain : moves k ≡ false → l ≡ notedBy l k o i t
+    unfolding notedBy
+    note-plain h = rw (eq-eqb o 1 e, h)
+
+    pub note-zero : k ≡ 0 → l ≡ notedBy l k o i t
+    note-zero z = note-plain (moves-low k (omega arith))
+
+    pub note-low : k < 3 → l ≡ notedBy l k o i t
+    note-low h = note-plain (moves-low k h)
+
+    pub note-high : 5 ≤ k → l ≡ notedBy l k o i t
+    note-high h = note-plain (moves-high k h)
+
+---- what an op of a structurally sound file names has a slot
+
+module _ (w : ℕ) (f : List ℕ) (s q : ℕ) (p o l : List ℕ) (x : Applicable w f s q p o l) where
+  abbrev r : Op
+  r = opAt (logOf w f) s q
+
+  node-range : (1 ≤ nodeOf r / 256) × (nodeOf r / 256 ≤ 8) × (1 ≤ nodeOf r % 256)
+  unfolding nodeNumber
+  node-range = elim (ℕ-discrete (kindOf r) 1) [
+    | yes e ↦
+        let h = held-op w f (x .is-structural) s q (x .spot) in
+        let n : nodeOf r ≡ 256 * s + q = names-add (logOf w f) r (h .names) e .1 ∙ rw (h .origin, h .number) in
+        let b = small w f s q (x .spot) in
+        (omega arith, omega arith, omega arith)
+    | no ne ↦
+        let h = held-op w f (x .is-structural) s q (x .spot) in
+        let k = known-reads (logOf w f) (vectorOf r) (nodeOf r) (names-node (logOf w f) r (h .names) ne) .0 in
+        (k .low, k .high, k .first)
+  ]
+
+  pub own-slot : 255 * (s - 1) + q < length o
+  own-slot = omega (arith, small w f s q (x .spot), x .spot .high, x .sized .outcomes)
+
+  pub own-fits : Fits w64 (255 * (s - 1) + q)
+  own-fits = fits-under w64 (255 * (s - 1) + q) slots (omega (arith, own-slot, x .sized .outcomes)) tt
+
+  -- what the code has read are the op's fields
+  module _ (at : ℕ) (is : at ≡ placeOf w f s q) (n i : ℕ) (hn : n ≡ wordAt f (at + 2)) (hi : i ≡ slotOf n) where
+    node-so : n ≡ nodeOf r
+    node-so = hn ∙ rw (is, node-is w f s q (x .spot))
+
+    slot-so : i < slots
+    slot-so = rw (hi, node-so) (slot-below (nodeOf r) (inr node-range))
+
+    pub node-slotted : Slotted p l n i
+    node-slotted = record {
+      parents = x .sized .parents;
+      small = omega (arith, node-so, node-range .1);
+      placed = omega (arith, slot-so, x .sized .placed);
+    }
+
+    pub hang-slot : i < length p
+    hang-slot = omega (arith, slot-so, x .sized .parents)
+
+    pub note-slot : i < length l
+    note-slot = omega (arith, slot-so, x .sized .placed)
+
+    module _ (m u t : ℕ) (hm : m ≡ wordAt f (at + 4)) (hu : u ≡ outcomeBy p l (getD f at 0) n m i t) where
+      pub applied : (p′ l′ : List ℕ) → p′ ≡ hungBy p (getD f at 0) u i m → l′ ≡ notedBy l (getD f at 0) u i t
+          → tables p′ (set o (255 * (s - 1) + q) u) l′ ≡ step (tables p o l) (stampedAt t r)
+      unfolding step outcomeOf outcomeBy outcomeSlot slot hungBy notedBy isAdd isMove
+      applied p′ l′ hp hl =
+          let h = held-op w f (x .is-structural) s q (x .spot) in
+          let k : getD f at 0 ≡ kindOf r = rw is (sym (kind-is w f s q (x .spot))) in
+          let e : m ≡ parentOf r = hm ∙ rw (is, parent-is w f s q (x .spot)) in
+          let g : i ≡ slotOf (nodeOf r) = hi ∙ ap slotOf node-so in
+          rw (hp, hl, hu, k, e, g, node-so, h .origin, h .number)
+
+---- what the code of the effects needs: search effects
+
+pub ruleset outcomes = (outcome-zero, outcome-low, outcome-high, outcome-placed, outcome-cycle, outcome-clear)
+
+pub ruleset hangings = (hang-not, hang-zero, hang-remove, hang-high)
+
+pub ruleset notings = (note-not, note-move, note-zero, note-low, note-high)
+
+pub ruleset effects = (needs, outcomes, hangings, notings, node-slotted, hang-slot, note-slot, own-slot, own-fits, applied)

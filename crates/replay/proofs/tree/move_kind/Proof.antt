@@ -1,0 +1,15 @@
+-- `replay::tree::move_kind` meets its contract. Assumes nothing.
+use Rattle.replay.proofs.ClimbLaws.{climbing}
+use Rattle.replay.proofs.tree.move_kind.Statement.{statement}
+use Rattle.replay.proofs.tree.move_kind.Tie as tie
+
+pub move-kind-spec : {M : Type 1} → statement M
+move-kind-spec =
+    tie.close
+    (tie.spec
+    (λ c κs. search climbing)
+    (λ c. search climbing)
+    (λ c κs. search climbing)
+    (λ c κs. search climbing)
+    (λ c. search climbing)
+    (λ c. search climbing))
