@@ -34,7 +34,7 @@ use Rattle.codec.specs.declared.op.Read.the-variants.{Op, Refused}
 use Rattle.codec.proofs.AnswerLaws.{accepted-with, if-accepted, if-not-accepted}
 use Rattle.codec.proofs.ReadLaws.{reads}
 use Rattle.replica.specs.Adding.{lastTest, Acceptable}
-use Rattle.replica.specs.Delivering.{namesIn, Readable, Again, Fresh}
+use Rattle.replica.specs.Delivering.{namesIn, Readable, Again, Fresh, Counting}
 use Rattle.soundness.proofs.SoundCases.{laid-of, tallied}
 
 -- what a call hands back
@@ -70,9 +70,13 @@ module _ (f op : List ℕ) (x : Fields) (d : Readable f op x) where
     pub fresh : leb (x .sequence) (countIn u (x .replica)) ≡ false → Fresh f op x u
     fresh is = record { reads = d; tallied = tallied f (d .is-sound) u h; is-new = held-by false is }
 
+    pub counting : Counting f op x u
+    counting = record { reads = d; held = h }
+
   -- it may be added if it is accepted
-  pub acceptable : (a : Answer) → a ≡ deliverAnswer width f op → isAccepted a ≡ true → Acceptable f (x .replica) op
-  acceptable a is h =
+  pub acceptable : (u : Vector) → u ≡ headerCounts f → (a : Answer) → a ≡ deliverAnswer width f op → isAccepted a ≡ true
+      → Acceptable f u (x .replica) op
+  acceptable u held a is h =
       let (n, e) = accepted-with a h in
       let t = admitted width f op n (sym is ∙ e) in
       let m = t .admits in
@@ -80,6 +84,7 @@ module _ (f op : List ℕ) (x : Fields) (d : Readable f op x) where
       let q = seq-next (logOf width f) op (i .0) (i .1) (m .new) (m .is-covered) in
       record {
         is-sound = d .is-sound;
+        held = held;
         is-replica = replica-so;
         count = rw (← replica-is) (omega (arith, i .2, q, count-held (logOf width f) (replicaOf op)));
         origin = sym replica-is;
@@ -205,7 +210,7 @@ module _ (f op : List ℕ) where
         go false w next z = let m : Length ≡ why = cc in rw (← m)
 
 ---- what the code of delivering needs: search delivering
-pub ruleset readings = (replica-so, again, fresh, acceptable, readable, unread)
+pub ruleset readings = (replica-so, counting, again, fresh, acceptable, readable, unread)
 
 pub ruleset answers = (spot, had-it, conflict, early, counted-in, not-closed, unknown, last)
 

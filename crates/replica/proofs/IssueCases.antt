@@ -151,12 +151,13 @@ module _ (f : List ℕ) (v : Vector) (e : v ≡ headerCounts f) (k s n p : ℕ) 
   written : take width o ≡ opBytes k s n p v
   written = rw w (take-at (opBytes k s n p v) t width op-long)
 
-  pub acceptable : (room : ℕ) → Writable f room s → Acceptable f s (take 14 o)
+  pub acceptable : (room : ℕ) → Writable f room s → Acceptable f v s (take 14 o)
   unfolding opBytes replicaOf
   acceptable room r =
       let i = r .ready .lent .issuer in
       record {
         is-sound = i .is-sound;
+        held = e;
         is-replica = i .is-replica;
         count = ltb-true _ _ (r .ready .left);
         origin = rw written;

@@ -24,6 +24,11 @@ pub record Readable (f op : List ℕ) (x : Fields) : Type 0 where
   pub formed : wellFormed op ≡ true
   pub fields : fieldsOf op ≡ x
 
+-- u are the held counts
+pub record Counting (f op : List ℕ) (x : Fields) (u : Vector) : Type 0 where
+  pub reads : Readable f op x
+  pub held : u ≡ headerCounts f
+
 -- and its sequence is held
 pub record Again (f op : List ℕ) (x : Fields) : Type 0 where
   pub reads : Readable f op x
