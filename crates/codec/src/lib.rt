@@ -21,7 +21,6 @@ pub use op::read_op;
 pub use op::write_op;
 pub use vector::within;
 pub use word::put_word;
-pub use word::small;
 pub use word::widen;
 pub use word::widen16;
 pub use word::word_at;

@@ -10,13 +10,6 @@ fn join(high: u8, low: u8) -> u16
 }
 
 pub fn widen(x: u8) -> usize
-    ensures { λ r. ⌜ r ≡ x ⌝ }
-{
-    x as usize
-}
-
-// The same, with its bound.
-pub fn small(x: u8) -> usize
     ensures { λ r. ⌜ (r ≡ x) × (r ≤ 255) ⌝ }
 {
     x as usize

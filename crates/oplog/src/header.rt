@@ -1,5 +1,5 @@
 use codec::put_word;
-use codec::small;
+use codec::widen;
 use codec::widen16;
 use codec::word_at;
 ghost use mathlib.Core.Path.{_≡_};
@@ -92,6 +92,6 @@ pub fn write_header(buf: &mut [u8], counts: [u8; 8], width: usize)
     for i in 0..8usize {
         let count = counts[i];
         put_entry(buf, i, count, start);
-        start += (width * small(count)) as u16;
+        start += (width * widen(count)) as u16;
     }
 }

@@ -6,7 +6,6 @@ use codec::Read;
 use codec::Refusal;
 use codec::is_accepted;
 use codec::read_op;
-use codec::small;
 use codec::vector_at;
 use codec::widen;
 use codec::within;
@@ -53,7 +52,7 @@ fn names(file: &[u8], v: [u8; 8], fields: Fields) -> bool
     requires { ⌜ Counted width (now file) v ⌝ }
     ensures { λ r. ⌜ r ≡ namesIn (logOf width (now (file .entry))) v fields ⌝ }
 {
-    let own = (256 * small(fields.replica) + small(fields.sequence)) as u16;
+    let own = (256 * widen(fields.replica) + widen(fields.sequence)) as u16;
     names_known(file, v, fields.kind, fields.node, fields.parent, own, WIDTH)
 }
 

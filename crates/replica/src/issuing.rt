@@ -6,7 +6,6 @@ use crate::request::Request;
 use codec::Answer;
 use codec::Refusal;
 use codec::is_accepted;
-use codec::small;
 use codec::widen;
 use codec::write_op;
 use oplog::counts_of;
@@ -56,7 +55,7 @@ fn next_node(counts: [u8; 8], replica: u8) -> u16
     ensures { λ r. ⌜ r ≡ nodeNumber replica (countIn counts replica + 1) ⌝ }
 {
     let s = widen(replica);
-    (256 * s + small(counts[s - 1]) + 1) as u16
+    (256 * s + widen(counts[s - 1]) + 1) as u16
 }
 
 // Number 7 of a move: node and parent are known, and are not the same.

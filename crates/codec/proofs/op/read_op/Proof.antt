@@ -16,7 +16,7 @@ use Rattle.codec.proofs.op.read_op.Tie as tie
 -- the own count that was read
 own : (c : tie.After-shared-slice-known4) → let b = now (c .before .before .before .before .before .before .before .before .before .args .bytes) in getD b (5 + c .before .widen .result) 0 ≡ byte b (5 + replicaOf b)
 unfolding replicaOf
-own c = rw (c .before .widen .ensures)
+own c = rw (c .before .widen .ensures .0)
 
 -- the kind test, at the place where it was made
 fits : (c : tie.After-kind-fits) → let b = now (c .before .before .before .before .before .before .before .before .before .before .before .args .bytes) in c .kind-fits .result ≡ kindFits (kindOf b) (parentOf b)

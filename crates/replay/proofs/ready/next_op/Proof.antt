@@ -5,7 +5,7 @@ use Rattle.replay.proofs.ready.next_op.Statement.{statement}
 use Rattle.replay.proofs.ready.next_op.Tie as tie
 
 place-requires : tie.Need-place-requires
-place-requires c κs = next-spot _ _ _ _ (c .before .before .before .pre) _ (c .before .if1 .left) _ (c .widen .ensures)
+place-requires c κs = next-spot _ _ _ _ (c .before .before .before .pre) _ (c .before .if1 .left) _ (c .widen .ensures .0)
 
 vector-at-requires : tie.Need-vector-at-requires
 vector-at-requires c κs =

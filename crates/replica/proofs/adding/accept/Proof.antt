@@ -11,7 +11,7 @@ counts-of-requires c κs = header-of _ (search needs)
 append-op-requires : tie.Need-append-op-requires
 append-op-requires c κs =
     let counted = c .before .before in
-    append-asks _ _ _ (search needs) _ (counted .counts-of .ensures) _ (c .widen .ensures)
+    append-asks _ _ _ (search needs) _ (counted .counts-of .ensures) _ (c .widen .ensures .0)
 
 pub accept-spec : {M : Type 1} → statement M
 accept-spec =

@@ -8,7 +8,7 @@ use Rattle.replica.proofs.delivering.is_held.Tie as tie
 
 returns : tie.Need-returns
 unfolding countIn
-returns c = rw (c .before .widen .ensures)
+returns c = rw (c .before .widen .ensures .0)
 
 pub is-held-spec : {M : Type 1} → statement M
 is-held-spec =

@@ -8,7 +8,7 @@ use Rattle.replica.proofs.delivering.names.Tie as tie
 
 returns : tie.Need-returns
 unfolding namesIn nodeNumber
-returns c = c .names-known .ensures ∙ rw (c .before .before .small .ensures .0, c .before .small2 .ensures .0)
+returns c = c .names-known .ensures ∙ rw (c .before .before .widen .ensures .0, c .before .widen2 .ensures .0)
 
 pub names-spec : {M : Type 1} → statement M
 names-spec =

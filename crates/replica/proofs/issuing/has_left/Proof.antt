@@ -8,7 +8,7 @@ use Rattle.replica.proofs.issuing.has_left.Tie as tie
 
 returns : tie.Need-returns
 unfolding countIn
-returns c = rw (c .widen .ensures)
+returns c = rw (c .widen .ensures .0)
 
 pub has-left-spec : {M : Type 1} → statement M
 has-left-spec =

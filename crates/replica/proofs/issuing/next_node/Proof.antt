@@ -13,8 +13,8 @@ returns : tie.Need-returns
 unfolding countIn nodeNumber
 returns c =
     let a = c .before .before .args in
-    let n : c .small .result ≡ getD (a .t1) (a .replica - 1) 0 = rw (c .small .ensures .0, c .before .widen .ensures) in
-    omega (arith, c .before .widen .ensures)
+    let n : c .widen2 .result ≡ getD (a .t1) (a .replica - 1) 0 = rw (c .widen2 .ensures .0, c .before .widen .ensures .0) in
+    omega (arith, c .before .widen .ensures .0)
 
 pub next-node-spec : {M : Type 1} → statement M
 next-node-spec =
