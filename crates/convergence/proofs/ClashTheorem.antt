@@ -17,9 +17,9 @@ use Rattle.rules.proofs.StepLaws.{passed-over, placed-already, applied, blocked
 use Rattle.convergence.proofs.MoveLaws.{opOf, upward, Asked, asked, Drawn, drawn, slot-in, valid-node, y-blocked, circle-is}
 use Rattle.convergence.specs.Clash.{Move, nextSlot, request, beats, circle, clash, Wins, hang, Issued, putOut, BothAdded, Arrives, Arrivals, ClashDecided, BothArrive, CircleCutsOff}
 use Rattle.convergence.specs.Exchange.{Call, deliver, has}
-use Rattle.order.proofs.LateLaws.{Late, ordered-late, no-entry, late-entry, top}
+use Rattle.order.proofs.LateLaws.{Late, ordered-late, late-empty, late-ready, top}
 use Rattle.order.proofs.PlacedLaws.{placed-by}
-use Rattle.order.specs.Levels.{entry, level, nextOf, levelKind}
+use Rattle.order.specs.Levels.{readyOp, level, readyOps, levelKind}
 use Rattle.rules.proofs.AppendLaws.{extends}
 use Rattle.lists.proofs.BoolLaws.{and-both, never}
 use Rattle.rules.proofs.IssueLaws.{issue-admitted, allowed}
@@ -82,24 +82,24 @@ module _ (log more : Log) (good : GoodLog log) (x y : Move) (ax : Asked log x) (
   -- the two are replayed last, x first
   module _ (wins : beats (parentsOf log) x y ≡ true) where
     abbrev entries : ℕ → ℕ → List Stamped
-    entries = entry more now-time (nextOf more (countsOf more) (countsOf log))
+    entries = readyOp more now-time (readyOps more (countsOf more) (countsOf log))
 
-    x-entry : (k : ℕ) → entries k (x .replica) ≡ cond (eqb (cond (upward log x) 3 4) k) (first ∷ []) []
-    x-entry k =
-        late-entry log more (both .late) good (both .good) k (x .replica) (ax .low) (ax .high) (omega (arith, both .count-x))
+    x-ready : (k : ℕ) → entries k (x .replica) ≡ cond (eqb (cond (upward log x) 3 4) k) (first ∷ []) []
+    x-ready k =
+        late-ready log more (both .late) good (both .good) k (x .replica) (ax .low) (ax .high) (omega (arith, both .count-x))
         ∙ rw (both .op-x, op-x .kind)
 
-    y-entry : (k : ℕ) → entries k (y .replica) ≡ cond (eqb (cond (upward log y) 3 4) k) (second ∷ []) []
-    y-entry k =
-        late-entry log more (both .late) good (both .good) k (y .replica) (ay .low) (ay .high) (omega (arith, both .count-y))
+    y-ready : (k : ℕ) → entries k (y .replica) ≡ cond (eqb (cond (upward log y) 3 4) k) (second ∷ []) []
+    y-ready k =
+        late-ready log more (both .late) good (both .good) k (y .replica) (ay .low) (ay .high) (omega (arith, both .count-y))
         ∙ rw (both .op-y, op-y .kind)
 
-    two-last : level more now-time (nextOf more (countsOf more) (countsOf log)) ≡ first ∷ second ∷ []
+    two-last : level more now-time (readyOps more (countsOf more) (countsOf log)) ≡ first ∷ second ∷ []
     unfolding level levelKind beats moveKind
     two-last =
         winner-first entries (x .replica) (y .replica) (ax .low) (ax .high) (ay .low) (ay .high) first second
-        (λ k s l u p q. no-entry log more (both .late) good (both .good) k s l u (both .rest s l u p q))
-        (upward log x) (upward log y) x-entry y-entry apart wins
+        (λ k s l u p q. late-empty log more (both .late) good (both .good) k s l u (both .rest s l u p q))
+        (upward log x) (upward log y) x-ready y-ready apart wins
 
     replayed : replay more (countsOf more) ≡ step (step before first) second
     unfolding replay

@@ -57,6 +57,10 @@ and-swap true false = refl
 and-swap false true = refl
 and-swap false false = refl
 
+pub and-turn : (h i z : Bool) → (h && (i && z)) ≡ ((h && z) && i)
+and-turn false i z = refl
+and-turn true i z = and-swap i z
+
 pub not-not : (b : Bool) → not (not b) ≡ b
 not-not true = refl
 not-not false = refl

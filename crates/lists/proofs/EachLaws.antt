@@ -1,6 +1,6 @@
 -- A fact of every element of a list.
 use Rattle.lists.specs.Lists.{downFrom, upFrom, any, concat, filter, isIn}
-use mathlib.Core.Bool.{Bool, cond, false, or-true, true}
+use mathlib.Core.Bool.{_&&_, Bool, cond, false, or-true, true}
 use mathlib.Core.List.{List, [], _++_, _∷_, map}
 use mathlib.Core.Path.{_≡_, refl}
 use borrow.Author.Tests.{eq-eqb}
@@ -77,3 +77,17 @@ module _ {A : Type 0} (P : A → Type 0) where
   unfolding downFrom concat
   each-down F zero h = tt
   each-down F (suc n) h = each-append P (F (suc n)) _ (h (suc n)) (each-down F n h)
+
+-- what is kept of each, kept of all
+pub kept-children : (g : ℕ → Bool) (b : Bool) (F G : ℕ → List ℕ) (cs : List ℕ) → Each (λ c. F c ≡ cond (b && g c) (G c) []) cs
+    → concat (map F cs) ≡ cond b (concat (map G (filter g cs))) []
+unfolding concat filter
+kept-children g true F G [] a = refl
+kept-children g false F G [] a = refl
+kept-children g false F G (c ∷ cs) a = rw (a .0) (kept-children g false F G cs (a .1))
+kept-children g true F G (c ∷ cs) a = go (g c) (a .0) (kept-children g true F G cs (a .1))
+  where
+    go : (t : Bool) → F c ≡ cond t (G c) [] → concat (map F cs) ≡ concat (map G (filter g cs))
+        → F c ++ concat (map F cs) ≡ concat (map G (cond t (c ∷ filter g cs) (filter g cs)))
+    go true e ih = rw (e, ih)
+    go false e ih = rw (e, ih)

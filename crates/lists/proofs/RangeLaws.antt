@@ -2,10 +2,11 @@
 use Rattle.lists.specs.Lists.{all, concat, downFrom, upFrom}
 use Rattle.lists.proofs.BoolLaws.{and-left, and-right, never}
 use mathlib.Core.Bool.{Bool, _&&_, false, true}
-use mathlib.Core.List.{List, [], _++_, _∷_, append-nil, map}
-use Prim.Native.Nat.{_+_, _-_, _<_, _≤_, suc, zero, ℕ}
+use mathlib.Core.List.{List, [], _++_, _∷_, append-nil, foldl, map}
+use Prim.Native.Nat.{_*_, _+_, _-_, _<_, _≤_, suc, zero, ℕ}
 use mathlib.Core.Path.{_∙_, _≡_, ap, ap₂, refl, sym}
-use native.Mathlib.Nat.{add-suc, add-zero, le-refl, suc-add, zero-add}
+use native.Mathlib.Nat.{add-suc, add-zero, le-refl, mul-suc, mul-zero, suc-add, zero-add}
+use native.Mathlib.Numerals.{add-one}
 use native.Mathlib.Omega.{arith}
 use lib.ListN.{getD, length}
 use lib.Arith.{lt-of-le-ne}
@@ -96,3 +97,34 @@ module _ {A : Type 0} (F : ℕ → List A) where
         rw (e (suc n) (omega arith) (le-refl _) (λ w. omega arith) (λ w. omega arith))
         (two-down n hi lo l h (omega arith) (λ r a b. e r a (omega arith)))
   ]
+
+---- what is left of a fold over the numbers below n, or from n down, with those before k passed
+
+module _ {A : Type 0} (f : A → ℕ → A) (x : A) (n k : ℕ) where
+  pub up-turn : k < n → foldl f x (upFrom k (n - k)) ≡ foldl f (f x k) (upFrom (k + 1) (n - (k + 1)))
+  unfolding upFrom
+  up-turn h = let e : n - k ≡ suc (n - (k + 1)) = omega arith in rw (e, add-one k)
+
+  pub up-end : n ≤ k → foldl f x (upFrom k (n - k)) ≡ x
+  unfolding upFrom
+  up-end h = let e : n - k ≡ 0 = omega arith in rw e
+
+  pub down-turn : k < n → foldl f x (downFrom (n - k)) ≡ foldl f (f x (n - k)) (downFrom (n - (k + 1)))
+  unfolding downFrom
+  down-turn h =
+      let e : n - k ≡ suc (n - (k + 1)) = omega arith in
+      ap (λ (m : ℕ). foldl f x (downFrom m)) e ∙ rw (← e)
+
+  pub down-end : n ≤ k → foldl f x (downFrom (n - k)) ≡ x
+  unfolding downFrom
+  down-end h = let e : n - k ≡ 0 = omega arith in rw e
+
+-- n blocks of w numbers, block a first, are one row of numbers
+pub blocks : (w n a : ℕ) → 1 ≤ a → concat (map (λ s. upFrom (w * (s - 1) + 1) w) (upFrom a n)) ≡ upFrom (w * (a - 1) + 1) (w * n)
+unfolding concat
+blocks w zero a l = rw (upFrom-none a, mul-zero) (sym (upFrom-none (w * (a - 1) + 1)))
+blocks w (suc n) a l =
+    let s : suc a - 1 ≡ suc (a - 1) = omega arith in
+    let q : w * suc (a - 1) + 1 ≡ w * (a - 1) + 1 + w = rw (mul-suc w (a - 1)) (omega arith) in
+    let e : w * suc n ≡ w + w * n = rw (mul-suc w n) (omega arith) in
+    rw (upFrom-cons a n, blocks w n (suc a) (omega arith), e, s, q) (sym (upFrom-add (w * (a - 1) + 1) w (w * n)))

@@ -9,9 +9,9 @@ use mathlib.Core.Logic.{⊎-elim}
 use mathlib.Core.Path.{ap, _∙_, _≡_, ap₂, sym}
 use native.Mathlib.Decide.{decLe}
 use native.Mathlib.Omega.{arith}
-use Rattle.order.proofs.RunLaws.{entry-ready, entry-none}
+use Rattle.order.proofs.RunLaws.{op-ready, op-none}
 use Rattle.order.proofs.LevelLaws.{AtLevel, time-of, counted-value, Cut, equation, off-time, of-replica, by-time-more, matches, stamped-times, one-level, counted-bound, status}
-use Rattle.order.specs.Levels.{level, nextOf, entry}
+use Rattle.order.specs.Levels.{level, readyOps, readyOp}
 use Rattle.rules.proofs.AppendLaws.{closed-more}
 use Rattle.lists.proofs.RangeLaws.{map-downFrom, map-upFrom, upFrom-add}
 use Rattle.lists.proofs.FilterLaws.{filter-append, filter-none}
@@ -103,7 +103,7 @@ module _ (log more : Log) (x : Late log more) (good : GoodLog log) (goodMore : G
       ap concat (map-downFrom (ofReplica (stamped more all-held) t k) (ofReplica (stamped more held) t k) 8
       (λ s l u. late-none t k s h l u))))
 
-  pub ordered-late : ordered more all-held ≡ ordered log held ++ level more (suc top) (nextOf more all-held held)
+  pub ordered-late : ordered more all-held ≡ ordered log held ++ level more (suc top) (readyOps more all-held held)
   unfolding ordered stamped upFrom concat
   ordered-late =
       by-time-more (stamped more all-held) (top + 1) all-times ∙ rw (upFrom-add 1 top 1, map-append, concat-append, append-nil)
@@ -128,7 +128,7 @@ module _ (log more : Log) (x : Late log more) (good : GoodLog log) (goodMore : G
           ∙ sym (by-time-more (stamped more held) top held-times)
           ∙ ordered-alike log more (good-ops good) held alike
 
-      last : ofTime (stamped more all-held) (1 + top) ≡ level more (suc top) (nextOf more all-held held)
+      last : ofTime (stamped more all-held) (1 + top) ≡ level more (suc top) (readyOps more all-held held)
       last =
           ap (ofTime (stamped more all-held)) (omega arith) ∙ one-level more goodMore all-held whole-cut (suc top) (omega arith) held
           last-level
@@ -139,15 +139,15 @@ module _ (log more : Log) (x : Late log more) (good : GoodLog log) (goodMore : G
     abbrev late-op : Op
     late-op = opAt more s (countIn held s + 1)
 
-    pub late-entry : countIn held s < countIn all-held s → entry more (suc top) (nextOf more all-held held) k s ≡ cond
+    pub late-ready : countIn held s < countIn all-held s → readyOp more (suc top) (readyOps more all-held held) k s ≡ cond
         (eqb (kindOf late-op) k) (record { time = suc top; op = late-op } ∷ []) []
-    late-entry h = ⊎-elim
-        (λ y. entry-ready more goodMore all-held whole-cut (suc top) (omega arith) held last-level k s l u (y .0))
+    late-ready h = ⊎-elim
+        (λ y. op-ready more goodMore all-held whole-cut (suc top) (omega arith) held last-level k s l u (y .0))
         (λ y. absurd (omega (arith, y .1 h, late-time s (countIn held s + 1) l u (omega arith) (omega arith))))
         (status more goodMore all-held whole-cut (suc top) (omega arith) held last-level s l u)
 
-    pub no-entry : countIn all-held s ≡ countIn held s → entry more (suc top) (nextOf more all-held held) k s ≡ []
-    no-entry e = ⊎-elim
+    pub late-empty : countIn all-held s ≡ countIn held s → readyOp more (suc top) (readyOps more all-held held) k s ≡ []
+    late-empty e = ⊎-elim
         (λ y. absurd (omega (arith, y .1)))
-        (λ y. entry-none more goodMore all-held whole-cut (suc top) (omega arith) held last-level k s l u (y .0))
+        (λ y. op-none more goodMore all-held whole-cut (suc top) (omega arith) held last-level k s l u (y .0))
         (status more goodMore all-held whole-cut (suc top) (omega arith) held last-level s l u)

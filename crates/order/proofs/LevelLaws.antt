@@ -26,7 +26,7 @@ use Rattle.lists.proofs.RangeLaws.{map-upFrom, map-downFrom, upFrom-add, concat
 use Rattle.lists.proofs.ListLaws.{concat-append}
 use Rattle.rules.proofs.StructureLaws.{count-held, held-in, GoodLog, good-ops}
 use Rattle.rules.proofs.FileLaws.{count-map}
-use Rattle.order.specs.Levels.{ready, nextAt, nextOf, advancedAt, advanced, entry, levelKind, level, levels, nothing}
+use Rattle.order.specs.Levels.{ready, nextAt, readyOps, advancedAt, advanced, readyOp, levelKind, level, levels, nothing}
 use Rattle.rules.proofs.ClimbLaws.{up}
 
 pub count-nothing : (s : ℕ) → 1 ≤ s → s ≤ 8 → countIn nothing s ≡ 0
@@ -225,16 +225,16 @@ module _ (log : Log) (good : GoodLog log) where
             let g = at .high r (countIn done r + 1) a b (omega arith) (omega arith) in
             omega arith
 
-      pub next-count : (s : ℕ) → 1 ≤ s → s ≤ 8 → countIn (nextOf log cut done) s ≡ nextAt log cut done s
-      unfolding nextOf
+      pub next-count : (s : ℕ) → 1 ≤ s → s ≤ 8 → countIn (readyOps log cut done) s ≡ nextAt log cut done s
+      unfolding readyOps
       next-count s l u = count-map (nextAt log cut done) s l u
 
-      pub done-count : (s : ℕ) → 1 ≤ s → s ≤ 8 → countIn (advanced done (nextOf log cut done)) s ≡ cond (ready log cut done s)
+      pub done-count : (s : ℕ) → 1 ≤ s → s ≤ 8 → countIn (advanced done (readyOps log cut done)) s ≡ cond (ready log cut done s)
           (countIn done s + 1) (countIn done s)
       unfolding advanced advancedAt nextAt
-      done-count s l u = count-map (advancedAt done (nextOf log cut done)) s l u ∙ go (ready log cut done s) refl
+      done-count s l u = count-map (advancedAt done (readyOps log cut done)) s l u ∙ go (ready log cut done s) refl
         where
-          go : (b : Bool) → ready log cut done s ≡ b → advancedAt done (nextOf log cut done) s ≡ cond b (countIn done s + 1)
+          go : (b : Bool) → ready log cut done s ≡ b → advancedAt done (readyOps log cut done) s ≡ cond b (countIn done s + 1)
               (countIn done s)
           go true e = rw (next-count s l u, e, ne-eqb (countIn done s + 1) 0 (λ z. omega arith))
           go false e = rw (next-count s l u, e)
@@ -254,7 +254,7 @@ module _ (log : Log) (good : GoodLog log) where
           go false ea b eb = inr (refl, λ h. absurd (omega (arith, ltb-false (countIn done s) (countIn cut s) ea)))
 
       -- the next level
-      pub next-level : AtLevel (suc t) (advanced done (nextOf log cut done))
+      pub next-level : AtLevel (suc t) (advanced done (readyOps log cut done))
       next-level = record {
         inside = λ s l u. ⊎-elim
             (λ x. rw (done-count s l u, x .0) (omega (arith, x .1)))
@@ -302,9 +302,9 @@ module _ (log : Log) (good : GoodLog log) where
         unfolding opAt
         place = let e : countIn done s + 1 - 1 ≡ countIn done s = omega arith in rw e
 
-        pub one-entry : ofReplica (stamped log cut) t k s ≡ entry log t (nextOf log cut done) k s
-        unfolding entry nextAt stamp
-        one-entry = of-replica t k s l u ∙ ⊎-elim
+        pub one-ready : ofReplica (stamped log cut) t k s ≡ readyOp log t (readyOps log cut done) k s
+        unfolding readyOp nextAt stamp
+        one-ready = of-replica t k s l u ∙ ⊎-elim
             (λ x. filter-one (matches t k s) (stamp log) [] (countIn cut s) (countIn done s) (opsOf log s) (x .1)
             (omega (arith, x .1, held-cut s l u, count-held log s)) (λ i h c ne. off-time t k s i l u h (same-time i h ne))
             ∙ rw (
@@ -326,21 +326,21 @@ module _ (log : Log) (good : GoodLog log) where
             ])) ∙ rw (next-count s l u, x .0))
             (status s l u)
 
-      one-kind : (k : ℕ) → ofKind (stamped log cut) t k ≡ levelKind log t (nextOf log cut done) k
+      one-kind : (k : ℕ) → ofKind (stamped log cut) t k ≡ levelKind log t (readyOps log cut done) k
       unfolding ofKind levelKind
-      one-kind k = ap concat (map-downFrom (ofReplica (stamped log cut) t k) (entry log t (nextOf log cut done) k) 8 (one-entry k))
+      one-kind k = ap concat (map-downFrom (ofReplica (stamped log cut) t k) (readyOp log t (readyOps log cut done) k) 8 (one-ready k))
 
       -- a level is what has time t
-      pub one-level : ofTime (stamped log cut) t ≡ level log t (nextOf log cut done)
+      pub one-level : ofTime (stamped log cut) t ≡ level log t (readyOps log cut done)
       unfolding ofTime level
-      one-level = ap concat (map-upFrom (ofKind (stamped log cut) t) (levelKind log t (nextOf log cut done)) 4 1 (λ k a b. one-kind k))
+      one-level = ap concat (map-upFrom (ofKind (stamped log cut) t) (levelKind log t (readyOps log cut done)) 4 1 (λ k a b. one-kind k))
 
     all-levels : (n t : ℕ) → 1 ≤ t → (done : Vector) → AtLevel t done
         → concat (map (ofTime (stamped log cut)) (upFrom t n)) ≡ levels n log cut t done
     unfolding upFrom concat levels
     all-levels zero t lt done at = refl
     all-levels (suc n) t lt done at =
-        ap₂ _++_ (one-level t lt done at) (all-levels n (suc t) (omega arith) (advanced done (nextOf log cut done))
+        ap₂ _++_ (one-level t lt done at) (all-levels n (suc t) (omega arith) (advanced done (readyOps log cut done))
         (next-level t lt done at))
 
     pub first-level : AtLevel 1 nothing

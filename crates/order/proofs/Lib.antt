@@ -14,3 +14,5 @@ pub mod TourLaws
 pub mod PlacingLaws
 pub mod DecimalLaws
 pub mod ClaimTheorems
+pub mod TombstoneLaws
+pub mod TreePathLaws

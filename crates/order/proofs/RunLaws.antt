@@ -8,7 +8,7 @@ use Rattle.rules.proofs.KnownLaws.{Named, known-later, known-reads, named-valid
 use Rattle.rules.proofs.ClimbLaws.{Reaches, short, up}
 use Rattle.rules.specs.Replay.{Stamped, State, ordered, replay, start, step, timestamp}
 use Rattle.rules.specs.Op.{Vector, countIn, kindOf, replicas, vectorOf}
-use Rattle.order.specs.Levels.{advanced, entry, level, levelKind, levels, nextAt, nextOf, nothing, ready}
+use Rattle.order.specs.Levels.{advanced, readyOp, level, levelKind, levels, nextAt, readyOps, nothing, ready}
 use Rattle.lists.proofs.BoolLaws.{and-right}
 use Rattle.lists.specs.Lists.{concat, downFrom, upFrom}
 use Rattle.rules.proofs.FileLaws.{count-map}
@@ -52,7 +52,7 @@ le-tree log D E st a b x = tree-same log D E st a (known-later log E D b) x
 module _ (log : Log) (good : GoodLog log) (cut : Vector) (is : Cut log cut) (t : ℕ) (lt : 1 ≤ t) (done : Vector)
     (at : AtLevel log good cut is t done) where
   abbrev next : Vector
-  next = nextOf log cut done
+  next = readyOps log cut done
 
   abbrev after : Vector
   after = advanced done next
@@ -104,16 +104,16 @@ module _ (log : Log) (good : GoodLog log) (cut : Vector) (is : Cut log cut) (t :
   held-cut : (s : ℕ) → 1 ≤ s → s ≤ 8 → countIn cut s ≤ countIn (countsOf log) s
   held-cut = held-in log cut (is .is-covered)
 
-  -- an entry where the replica's op is ready, and where none is
-  pub entry-ready : (k s : ℕ) → 1 ≤ s → s ≤ 8 → ready log cut done s ≡ true
-      → entry log t next k s ≡ cond (eqb (kindOf (opAt log s (countIn done s + 1))) k)
+  -- where the replica's op is ready, and where none is
+  pub op-ready : (k s : ℕ) → 1 ≤ s → s ≤ 8 → ready log cut done s ≡ true
+      → readyOp log t next k s ≡ cond (eqb (kindOf (opAt log s (countIn done s + 1))) k)
       (record { time = t; op = opAt log s (countIn done s + 1) } ∷ []) []
-  unfolding entry nextAt
-  entry-ready k s l u e = rw (next-count log good cut is t lt done at s l u, e, ne-eqb (countIn done s + 1) 0 (λ z. omega arith))
+  unfolding readyOp nextAt
+  op-ready k s l u e = rw (next-count log good cut is t lt done at s l u, e, ne-eqb (countIn done s + 1) 0 (λ z. omega arith))
 
-  pub entry-none : (k s : ℕ) → 1 ≤ s → s ≤ 8 → ready log cut done s ≡ false → entry log t next k s ≡ []
-  unfolding entry nextAt
-  entry-none k s l u e = rw (next-count log good cut is t lt done at s l u, e)
+  pub op-none : (k s : ℕ) → 1 ≤ s → s ≤ 8 → ready log cut done s ≡ false → readyOp log t next k s ≡ []
+  unfolding readyOp nextAt
+  op-none k s l u e = rw (next-count log good cut is t lt done at s l u, e)
 
   after-ready : (s : ℕ) → 1 ≤ s → s ≤ 8 → ready log cut done s ≡ true → countIn after s ≡ countIn done s + 1
   after-ready s l u e = done-count log good cut is t lt done at s l u ∙ rw e
@@ -122,7 +122,7 @@ module _ (log : Log) (good : GoodLog log) (cut : Vector) (is : Cut log cut) (t :
   after-none s l u e = done-count log good cut is t lt done at s l u ∙ rw e
 
   -- the adds, one replica
-  add-run : (n : ℕ) → suc n ≤ 8 → (st : State) → Tree log (mix (suc n)) st → Run log (mix n) st (entry log t next 1 (suc n))
+  add-run : (n : ℕ) → suc n ≤ 8 → (st : State) → Tree log (mix (suc n)) st → Run log (mix n) st (readyOp log t next 1 (suc n))
   add-run n b st tree = ⊎-elim
       (λ x.
       let q : ℕ = countIn done (suc n) + 1 in
@@ -136,7 +136,7 @@ module _ (log : Log) (good : GoodLog log) (cut : Vector) (is : Cut log cut) (t :
         done-mix
             (suc n) z a c,
       ) in
-      rw (entry-ready 1 (suc n) l b (x .0)) (elim (ℕ-discrete (kindOf (opAt log (suc n) q)) 1) [
+      rw (op-ready 1 (suc n) l b (x .0)) (elim (ℕ-discrete (kindOf (opAt log (suc n) q)) 1) [
         | yes k ↦ rw (eq-eqb _ 1 k) (record {
           along = (finds log good (suc n) q l b (omega arith) uq t (mix (suc n)) le st tree, tt);
           tree = tree-added log good (suc n) q l b (omega arith) uq t (mix (suc n)) le st tree (mix n) (mix-more n b) (omega arith) there
@@ -150,7 +150,7 @@ module _ (log : Log) (good : GoodLog log) (cut : Vector) (is : Cut log cut) (t :
       ]))
       (λ x.
       let l : 1 ≤ suc n = omega arith in
-      rw (entry-none 1 (suc n) l b (x .0)) (record {
+      rw (op-none 1 (suc n) l b (x .0)) (record {
         along = tt;
         tree = le-tree log (mix (suc n)) (mix n) st (mix-more n b) (λ z a c. elim (ℕ-discrete z (suc n)) [
           | yes e ↦ rw e (omega (arith, mix-high n (suc n) l b (omega arith), after-none (suc n) l b (x .0), done-mix (suc n) (suc n) l b))
@@ -159,36 +159,36 @@ module _ (log : Log) (good : GoodLog log) (cut : Vector) (is : Cut log cut) (t :
       }))
       (status log good cut is t lt done at (suc n) (omega arith) b)
 
-  adds-run : (n : ℕ) → n ≤ 8 → (st : State) → Tree log (mix n) st → Run log (mix 0) st (concat (map (entry log t next 1) (downFrom n)))
+  adds-run : (n : ℕ) → n ≤ 8 → (st : State) → Tree log (mix n) st → Run log (mix 0) st (concat (map (readyOp log t next 1) (downFrom n)))
   unfolding concat downFrom
   adds-run zero b st tree = record { along = tt; tree = tree }
   adds-run (suc n) b st tree =
-      join log (mix n) (mix 0) st (entry log t next 1 (suc n)) (concat (map (entry log t next 1) (downFrom n))) (add-run n b st tree)
+      join log (mix n) (mix 0) st (readyOp log t next 1 (suc n)) (concat (map (readyOp log t next 1) (downFrom n))) (add-run n b st tree)
       (adds-run n (omega arith) _)
 
   -- another kind, one replica
-  other-run : (k : ℕ) → 2 ≤ k → (s : ℕ) → 1 ≤ s → s ≤ 8 → (st : State) → Tree log (mix 0) st → Run log (mix 0) st (entry log t next k s)
+  other-run : (k : ℕ) → 2 ≤ k → (s : ℕ) → 1 ≤ s → s ≤ 8 → (st : State) → Tree log (mix 0) st → Run log (mix 0) st (readyOp log t next k s)
   other-run k lk s l u st tree = ⊎-elim
       (λ x.
       let q : ℕ = countIn done s + 1 in
       let uq : q ≤ countIn (countsOf log) s = omega (arith, x .1, held-cut s l u) in
       let le : Le (vectorOf (opAt log s q)) (mix 0) = λ z a c. omega (arith, ready-le s (x .0) z a c, done-mix 0 z a c) in
-      rw (entry-ready k s l u (x .0)) (elim (ℕ-discrete (kindOf (opAt log s q)) k) [
+      rw (op-ready k s l u (x .0)) (elim (ℕ-discrete (kindOf (opAt log s q)) k) [
         | yes e ↦ rw (eq-eqb _ k e) (record {
           along = (finds log good s q l u (omega arith) uq t (mix 0) le st tree, tt);
           tree = tree-kept log good s q l u (omega arith) uq t (mix 0) le st tree (λ z. omega arith);
         })
         | no ne ↦ rw (ne-eqb _ k ne) (record { along = tt; tree = tree })
       ]))
-      (λ x. rw (entry-none k s l u (x .0)) (record { along = tt; tree = tree }))
+      (λ x. rw (op-none k s l u (x .0)) (record { along = tt; tree = tree }))
       (status log good cut is t lt done at s l u)
 
   others-run : (k : ℕ) → 2 ≤ k → (n : ℕ) → n ≤ 8 → (st : State) → Tree log (mix 0) st
-      → Run log (mix 0) st (concat (map (entry log t next k) (downFrom n)))
+      → Run log (mix 0) st (concat (map (readyOp log t next k) (downFrom n)))
   unfolding concat downFrom
   others-run k lk zero b st tree = record { along = tt; tree = tree }
   others-run k lk (suc n) b st tree =
-      join log (mix 0) (mix 0) st (entry log t next k (suc n)) (concat (map (entry log t next k) (downFrom n)))
+      join log (mix 0) (mix 0) st (readyOp log t next k (suc n)) (concat (map (readyOp log t next k) (downFrom n)))
       (other-run k lk (suc n) (omega arith) b st tree) (others-run k lk n (omega arith) _)
 
   kinds-run : (n k : ℕ) → 2 ≤ k → (st : State) → Tree log (mix 0) st → Run log (mix 0) st (concat (map (levelKind log t next) (upFrom k n)))
@@ -220,9 +220,9 @@ module _ (log : Log) (good : GoodLog log) (cut : Vector) (is : Cut log cut) wher
   levels-run zero t lt done at st tree = (done, rw add-zero at, record { along = tt; tree = tree })
   levels-run (suc n) t lt done at st tree =
       let run = level-run log good cut is t lt done at st tree in
-      let (end, last, rest) = levels-run n (suc t) (omega arith) (advanced done (nextOf log cut done))
+      let (end, last, rest) = levels-run n (suc t) (omega arith) (advanced done (readyOps log cut done))
       (next-level log good cut is t lt done at) _ (run .tree) in
-      (end, rw (add-suc, ← suc-add) last, join log (advanced done (nextOf log cut done)) end st _ _ run (λ x. rest))
+      (end, rw (add-suc, ← suc-add) last, join log (advanced done (readyOps log cut done)) end st _ _ run (λ x. rest))
 
   start-bare : (i : ℕ) → 0 < i → i < 2041 → getD (start .parents) i 0 ≡ noParent
   unfolding start

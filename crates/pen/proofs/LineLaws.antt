@@ -7,12 +7,9 @@ use native.Mathlib.Omega.{arith}
 use lib.ListN.{length, take, drop, set, length-append, length-drop}
 use lib.Seq.{set-split, take-at, drop-append-add, drop-drop, length-take-le, sets-eq}
 use Rattle.rules.specs.Listing.{decimal, lineOf}
+use Rattle.pen.specs.Lines.{Asked, Penned, penned, written}
 use Rattle.pen.specs.declared.line.Pen.{Pen}
 use Rattle.rules.proofs.DecimalLaws.{length-line}
-
--- o with xs at a place
-abbrev pub written : List ℕ → ℕ → List ℕ → List ℕ
-written o at xs = take at o ++ (xs ++ drop (at + length xs) o)
 
 -- a byte stored
 pub written-one : (o : List ℕ) (at x : ℕ) → at < length o → set o at x ≡ written o at (x ∷ [])
@@ -69,11 +66,16 @@ line-written o x y at d n a b m removed h ea ex eb ey em =
     let ez : z ≡ written y b tail = rw (s1, s2) (sets-eq tail y b (omega arith) ∙ append-assoc (take b y) tail (drop (b + 3) y)) in
     then o y z at b ((ds ++ (32 ∷ [])) ++ ns) tail (omega arith) ey′ (omega arith) ez ∙ ap (written o at) whole
 
----- what the line writers require, and what they ensure, of bytes ys and a pen h
+---- the line writers, of bytes ys and a pen h
 
-abbrev pub Asked : List ℕ → Pen → ℕ → ℕ → Bool → Type 0
-Asked ys h d n t = (h .bytes + length (lineOf d n t) ≤ length ys) × (h .lines < 65536)
+pub line-penned : (o x : List ℕ) (h : Pen) (d n b : ℕ) (removed : Bool) → x ≡ written o (h .bytes) (lineOf d n removed)
+    → b ≡ h .bytes + length (lineOf d n removed)
+    → _≡_ {A = Penned} (record { out = x; pen = record { bytes = b; lines = h .lines + 1 } }) (penned o h (lineOf d n removed))
+unfolding penned
+line-penned o x h d n b removed ex eb = rw (ex, eb)
+
+abbrev pub Wants : List ℕ → Pen → ℕ → ℕ → Bool → Type 0
+Wants ys h d n t = Asked ys h (lineOf d n t)
 
 abbrev pub Said : List ℕ → Pen → ℕ → ℕ → Bool → List ℕ → Pen → Type 0
-Said ys h d n t zs r = (zs ≡ take (h .bytes) ys ++ (lineOf d n t ++ drop (h .bytes + length (lineOf d n t)) ys))
-    × (r .bytes ≡ h .bytes + length (lineOf d n t)) × (r .lines ≡ h .lines + 1)
+Said ys h d n t zs r = _≡_ {A = Penned} (record { out = zs; pen = r }) (penned ys h (lineOf d n t))

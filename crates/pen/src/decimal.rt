@@ -1,8 +1,8 @@
 ghost use mathlib.Core.Path.{_≡_};
-ghost use mathlib.Core.List.{_++_};
 ghost use Prim.Native.Nat.{_+_, _%_, _≤_};
-ghost use lib.ListN.{length, take, drop};
+ghost use lib.ListN.{length};
 ghost use Rattle.rules.specs.Listing.{decimal};
+ghost use Rattle.pen.specs.Lines.{written};
 
 // How many decimal digits a two-byte number has.
 pub(crate) fn digit_count(n: u16) -> usize
@@ -33,7 +33,7 @@ fn last_digit(n: u16) -> u8
 // Writes a number in decimal at a place, the last digit first, and answers the place after it.
 pub(crate) fn put_decimal(out: &mut [u8], at: usize, n: u16) -> usize
     requires { ⌜ at + length (decimal n) ≤ length (now out) ⌝ }
-    ensures { λ r. ⌜ (r ≡ at + length (decimal n)) × (now (out .exit) ≡ take at (now (out .entry)) ++ (decimal n ++ drop (at + length (decimal n)) (now (out .entry)))) ⌝ }
+    ensures { λ r. ⌜ (r ≡ at + length (decimal n)) × (now (out .exit) ≡ written (now (out .entry)) at (decimal n)) ⌝ }
 {
     let count = digit_count(n);
     let mut i = count;

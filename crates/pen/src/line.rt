@@ -2,10 +2,10 @@ use crate::decimal::digit_count;
 use crate::decimal::put_decimal;
 ghost use mathlib.Core.Path.{_≡_};
 ghost use mathlib.Core.Bool.{Bool, cond};
-ghost use mathlib.Core.List.{_++_};
-ghost use Prim.Native.Nat.{_+_, _<_, _≤_};
-ghost use lib.ListN.{length, take, drop};
+ghost use Prim.Native.Nat.{_≤_};
+ghost use lib.ListN.{length};
 ghost use Rattle.rules.specs.Listing.{lineOf};
+ghost use Rattle.pen.specs.Lines.{Asked, penned};
 
 // A pen (the paper's): bytes and lines written.
 pub struct Pen {
@@ -31,8 +31,8 @@ fn mark_byte(removed: bool) -> u8
 
 // Writes a line behind what is written, and hands the pen back with the line counted.
 pub fn write_line(out: &mut [u8], pen: Pen, depth: u16, node: u16, removed: bool) -> Pen
-    requires { ⌜ (pen .bytes + length (lineOf depth node removed) ≤ length (now out)) × (pen .lines < 65536) ⌝ }
-    ensures { λ r. ⌜ (now (out .exit) ≡ take (pen .bytes) (now (out .entry)) ++ (lineOf depth node removed ++ drop (pen .bytes + length (lineOf depth node removed)) (now (out .entry)))) × (r .bytes ≡ pen .bytes + length (lineOf depth node removed)) × (r .lines ≡ pen .lines + 1) ⌝ }
+    requires { ⌜ Asked (now out) pen (lineOf depth node removed) ⌝ }
+    ensures { λ r. ⌜ record { out = now (out .exit); pen = r } ≡ penned (now (out .entry)) pen (lineOf depth node removed) ⌝ }
 {
     let at = pen.bytes;
     let space = put_decimal(out, at, depth);
@@ -48,16 +48,17 @@ pub fn write_line(out: &mut [u8], pen: Pen, depth: u16, node: u16, removed: bool
 
 // The thin line writer: the pen is lent, and changed by the line.
 pub fn write_line_with(out: &mut [u8], pen: &mut Pen, depth: u16, node: u16, removed: bool)
-    requires { ⌜ (now pen .bytes + length (lineOf depth node removed) ≤ length (now out)) × (now pen .lines < 65536) ⌝ }
-    ensures { λ _. ⌜ (now (out .exit) ≡ take (now (pen .entry) .bytes) (now (out .entry)) ++ (lineOf depth node removed ++ drop (now (pen .entry) .bytes + length (lineOf depth node removed)) (now (out .entry)))) × (now (pen .exit) .bytes ≡ now (pen .entry) .bytes + length (lineOf depth node removed)) × (now (pen .exit) .lines ≡ now (pen .entry) .lines + 1) ⌝ }
+    requires { ⌜ Asked (now out) (now pen) (lineOf depth node removed) ⌝ }
+    ensures { λ _. ⌜ record { out = now (out .exit); pen = now (pen .exit) }
+        ≡ penned (now (out .entry)) (now (pen .entry)) (lineOf depth node removed) ⌝ }
 {
     *pen = write_line(out, *pen, depth, node, removed);
 }
 
 // A line by a pen that the caller holds by value: the pen is lent to the line, and handed back.
 pub fn lend_line(out: &mut [u8], pen: Pen, depth: u16, node: u16, removed: bool) -> Pen
-    requires { ⌜ (pen .bytes + length (lineOf depth node removed) ≤ length (now out)) × (pen .lines < 65536) ⌝ }
-    ensures { λ r. ⌜ (now (out .exit) ≡ take (pen .bytes) (now (out .entry)) ++ (lineOf depth node removed ++ drop (pen .bytes + length (lineOf depth node removed)) (now (out .entry)))) × (r .bytes ≡ pen .bytes + length (lineOf depth node removed)) × (r .lines ≡ pen .lines + 1) ⌝ }
+    requires { ⌜ Asked (now out) pen (lineOf depth node removed) ⌝ }
+    ensures { λ r. ⌜ record { out = now (out .exit); pen = r } ≡ penned (now (out .entry)) pen (lineOf depth node removed) ⌝ }
 {
     let mut lent = pen;
     write_line_with(out, &mut lent, depth, node, removed);

@@ -13,7 +13,7 @@ use Rattle.lists.proofs.BoolLaws.{and-false}
 use Rattle.rules.specs.Op.{countIn, kindOf, Vector}
 use Rattle.rules.specs.File.{opAt, Log, logOf}
 use Rattle.rules.specs.Replay.{State, step}
-use Rattle.order.specs.Levels.{entry}
+use Rattle.order.specs.Levels.{readyOp}
 use Rattle.rules.proofs.KnownLaws.{kinds}
 use Rattle.oplog.specs.Spots.{Spot, placeOf}
 use Rattle.oplog.proofs.FieldLaws.{kind-is, spot-of}
@@ -50,7 +50,8 @@ due-zero log next k s q is z =
     go true n = refl
     go false n = refl
 
-module _ (w : ℕ) (f : List ℕ) (next : Vector) (s : ℕ) (x : StructuralAt w f next s) (q : ℕ) (is : q ≡ getD next (s - 1) 0) (nz : q ≡ 0 → ⊥) where
+module _ (w : ℕ) (f : List ℕ) (next : Vector) (s : ℕ) (x : StructuralAt w f next s)
+    (q : ℕ) (is : q ≡ getD next (s - 1) 0) (nz : q ≡ 0 → ⊥) where
   pub due-spot : Spot w f s q
   unfolding countIn
   due-spot = let a = x .at in spot-of w f next (a .counted) s q (a .low) (a .high) (omega (arith, nz)) (omega arith)
@@ -71,7 +72,7 @@ module _ (w : ℕ) (f : List ℕ) (next : Vector) (s : ℕ) (x : StructuralAt w 
     unfolding dueAt countIn
     due-one h = rw (← is, ← class-so, eq-eqb r k h)
 
----- an entry is the op that is due
+---- the op that is ready in a class is the op that is due
 
 due-least : (log : Log) (next : Vector) (k s : ℕ) → dueAt log next k s ≤ countIn next s
 unfolding dueAt
@@ -82,21 +83,21 @@ due-least log next k s = go (eqb (kindOf (opAt log s (countIn next s))) k) (coun
     go false n = omega arith
 
 module _ (log : Log) (t : ℕ) (next : Vector) (k s : ℕ) where
-  pub entry-zero : countIn next s ≡ 0 → entry log t next k s ≡ []
-  unfolding entry
-  entry-zero e = rw e
+  pub op-zero : countIn next s ≡ 0 → readyOp log t next k s ≡ []
+  unfolding readyOp
+  op-zero e = rw e
 
-  entry-not : dueAt log next k s ≡ 0 → entry log t next k s ≡ []
-  unfolding entry dueAt
-  entry-not = go (countIn next s) (eqb (kindOf (opAt log s (countIn next s))) k)
+  op-not : dueAt log next k s ≡ 0 → readyOp log t next k s ≡ []
+  unfolding readyOp dueAt
+  op-not = go (countIn next s) (eqb (kindOf (opAt log s (countIn next s))) k)
     where
       go : (n : ℕ) (b : Bool) → cond b n 0 ≡ 0 → cond (not (eqb n 0) && b) (stampedAt t (opAt log s n) ∷ []) [] ≡ []
       go n true e = rw e
       go n false e = rw and-false
 
-  entry-due : (dueAt log next k s ≡ 0 → ⊥) → entry log t next k s ≡ stampedAt t (opAt log s (dueAt log next k s)) ∷ []
-  unfolding entry dueAt
-  entry-due = go (countIn next s) (eqb (kindOf (opAt log s (countIn next s))) k)
+  op-due : (dueAt log next k s ≡ 0 → ⊥) → readyOp log t next k s ≡ stampedAt t (opAt log s (dueAt log next k s)) ∷ []
+  unfolding readyOp dueAt
+  op-due = go (countIn next s) (eqb (kindOf (opAt log s (countIn next s))) k)
     where
       go : (n : ℕ) (b : Bool) → (cond b n 0 ≡ 0 → ⊥)
           → cond (not (eqb n 0) && b) (stampedAt t (opAt log s n) ∷ []) [] ≡ stampedAt t (opAt log s (cond b n 0)) ∷ []
@@ -104,12 +105,12 @@ module _ (log : Log) (t : ℕ) (next : Vector) (k s : ℕ) where
       go n false e = absurd (e refl)
 
   module _ (q : ℕ) (is : q ≡ dueAt log next k s) where
-    pub entry-none : (st : State) → q ≡ 0 → st ≡ foldl step st (entry log t next k s)
-    entry-none st z = rw (entry-not (sym is ∙ z))
+    pub op-none : (st : State) → q ≡ 0 → st ≡ foldl step st (readyOp log t next k s)
+    op-none st z = rw (op-not (sym is ∙ z))
 
-    pub entry-some : (st st′ : State) → (q ≡ 0 → ⊥) → st′ ≡ step st (stampedAt t (opAt log s q))
-        → st′ ≡ foldl step st (entry log t next k s)
-    entry-some st st′ nz e = e ∙ rw (entry-due (λ z. nz (is ∙ z)), ← is)
+    pub op-some : (st st′ : State) → (q ≡ 0 → ⊥) → st′ ≡ step st (stampedAt t (opAt log s q))
+        → st′ ≡ foldl step st (readyOp log t next k s)
+    op-some st st′ nz e = e ∙ rw (op-due (λ z. nz (is ∙ z)), ← is)
 
 pub due-applies : (w : ℕ) (f : List ℕ) (next : Vector) (k s : ℕ) (p o l : List ℕ) → ReplayableAt w f next s p o l → (q : ℕ)
     → q ≡ dueAt (logOf w f) next k s → (q ≡ 0 → ⊥) → Applicable w f s q p o l
@@ -158,10 +159,10 @@ module _ (next : Vector) where
   pub bottom-ends : (i : ℕ) → Bottom next (i + 1) → 8 ≤ i → Bottom next 9
   bottom-ends i t h = record { least = omega arith; most = le-refl 9; below = λ s l u. t .below s l (omega (arith, u, t .most)) }
 
----- what the code of an entry needs
+---- what the code of an op that is due needs
 
 pub ruleset classes = (class-at, class-zero, class-high)
 
-pub ruleset dues = (due-zero, due-spot, due-other, due-one, due-applies, entry-none, entry-some)
+pub ruleset dues = (due-zero, due-spot, due-other, due-one, due-applies, op-none, op-some)
 
 pub ruleset bounds = (top-starts, top-on, top-ends, bottom-starts, bottom-on, bottom-ends)

@@ -16,7 +16,7 @@ use Rattle.rules.proofs.FileLaws.{count-map}
 use Rattle.codec.proofs.VectorLaws.{count-of, Built, build-none, build-more, build-all}
 use Rattle.oplog.specs.Spots.{Counted, Spot, placeOf}
 use Rattle.oplog.proofs.FieldLaws.{spot-of, fields-at}
-use Rattle.order.specs.Levels.{advanced, advancedAt, nextAt, nextOf, ready}
+use Rattle.order.specs.Levels.{advanced, advancedAt, nextAt, readyOps, ready}
 use Rattle.replay.specs.Tables.{CountedAt, later}
 use Rattle.replay.proofs.HeldLaws.{count-small}
 
@@ -63,8 +63,8 @@ counted-at w f v i c h = record { counted = c; low = omega arith; high = omega a
 ---- the numbers of all replicas
 
 module _ (log : Log) (cut done v : Vector) where
-  pub nexts-all : (i : ℕ) → Built (nextAt log cut done) v i → 8 ≤ i → v ≡ nextOf log cut done
-  unfolding nextOf
+  pub nexts-all : (i : ℕ) → Built (nextAt log cut done) v i → 8 ≤ i → v ≡ readyOps log cut done
+  unfolding readyOps
   nexts-all i b h = build-all (nextAt log cut done) v i b h
 
 module _ (done next v : Vector) where
@@ -87,8 +87,8 @@ module _ (old new : ℕ) where
   later-new e = rw (ne-eqb new 0 e)
 
 -- a file that holds a cut holds what is ready
-pub next-counted : (w : ℕ) (f : List ℕ) (cut done : Vector) → Counted w f cut → Counted w f (nextOf (logOf w f) cut done)
-unfolding nextOf countIn
+pub next-counted : (w : ℕ) (f : List ℕ) (cut done : Vector) → Counted w f cut → Counted w f (readyOps (logOf w f) cut done)
+unfolding readyOps countIn
 next-counted w f cut done h = record {
   wide = h .wide;
   is-laid = h .is-laid;

@@ -15,7 +15,7 @@ use Rattle.rules.specs.Tree.{slots}
 use Rattle.rules.specs.File.{Log, logOf, within}
 use Rattle.lists.specs.Lists.{upFrom, downFrom, concat}
 use Rattle.lists.proofs.RangeLaws.{concat-nothing, concat-none}
-use Rattle.order.specs.Levels.{levelKind, advancedAt, entry, level, levels, nextOf, nothing, advanced}
+use Rattle.order.specs.Levels.{levelKind, advancedAt, readyOp, level, levels, readyOps, nothing, advanced}
 use Rattle.order.proofs.LevelLaws.{count-nothing}
 use Rattle.rules.proofs.FileLaws.{vector-eta}
 use Rattle.rules.proofs.ReplicaLaws.{map-replicas}
@@ -24,7 +24,7 @@ use Rattle.rules.proofs.StepLaws.{Full, full-run}
 use Rattle.codec.proofs.VectorLaws.{length-eight}
 use Rattle.replay.specs.Tables.{Bottom, Replayable, ReplayableAt, ReplayableIn, Sized, Top, tables}
 use Rattle.replay.proofs.ReadyLaws.{next-counted}
-use Rattle.replay.proofs.DueLaws.{classes, dues, bounds, entry-zero}
+use Rattle.replay.proofs.DueLaws.{classes, dues, bounds, op-zero}
 
 ---- what a loop has left of the replay of some ops: all of them from the tables st are the rest from the tables as they are now
 
@@ -60,13 +60,13 @@ left-all log all p o l h e = record { sized = h; left = rw e }
 
 module _ (log : Log) (t : ℕ) (next : Vector) (k : ℕ) where
   unfoldable pub kindFrom : ℕ → List Stamped
-  kindFrom i = concat (map (entry log t next k) (downFrom (8 - i)))
+  kindFrom i = concat (map (readyOp log t next k) (downFrom (8 - i)))
 
-  kind-turn : (i : ℕ) → i < 8 → kindFrom i ≡ entry log t next k (8 - i) ++ kindFrom (i + 1)
+  kind-turn : (i : ℕ) → i < 8 → kindFrom i ≡ readyOp log t next k (8 - i) ++ kindFrom (i + 1)
   unfolding kindFrom downFrom concat
   kind-turn i h = let e : 8 - i ≡ suc (8 - (i + 1)) = omega arith in rw e
 
-  -- replicas above the span have no entry, and none below
+  -- replicas above the span have no op, and none below
   skip : (F : ℕ → List Stamped) (n m : ℕ) → n ≤ m → ((s : ℕ) → n < s → s ≤ m → F s ≡ [])
       → concat (map F (downFrom m)) ≡ concat (map F (downFrom n))
   unfolding downFrom concat
@@ -80,34 +80,35 @@ module _ (log : Log) (t : ℕ) (next : Vector) (k : ℕ) where
   unfolding levelKind kindFrom
   kind-all high h =
       let e : 8 - (8 - high) ≡ high = omega (arith, h .most) in
-      rw e (skip (entry log t next k) high 8 (h .most) (λ s l u. entry-zero log t next k s (h .above s l u)))
+      rw e (skip (readyOp log t next k) high 8 (h .most) (λ s l u. op-zero log t next k s (h .above s l u)))
 
   kind-none : (low i : ℕ) → Bottom next low → 9 - low ≤ i → kindFrom i ≡ []
   unfolding kindFrom
   kind-none low i h u =
-      concat-none (entry log t next k) (8 - i)
-      (λ s l v. entry-zero log t next k s (h .below s l (omega (arith, h .least, h .most, v))))
+      concat-none (readyOp log t next k) (8 - i)
+      (λ s l v. op-zero log t next k s (h .below s l (omega (arith, h .least, h .most, v))))
 
 module _ (w : ℕ) (f : List ℕ) (next : Vector) (high low : ℕ) (p₀ o₀ l₀ : List ℕ) (x : ReplayableIn w f next high low p₀ o₀ l₀) where
   pub class-starts : (t k : ℕ) → let log = logOf w f in
       Left (tables p₀ o₀ l₀) (levelKind log t next k) p₀ o₀ l₀ (kindFrom log t next k (8 - high))
   class-starts t k = left-all _ _ p₀ o₀ l₀ (x .all .sized) (kind-all (logOf w f) t next k high (x .top))
 
-  pub entry-asks : (i : ℕ) → i < 9 - low → (p o l : List ℕ) → Sized p o l → ReplayableAt w f next (8 - i) p o l
-  entry-asks i h p o l z = record {
+  pub due-asks : (s : ℕ) → 1 ≤ s → s ≤ 8 → (p o l : List ℕ) → Sized p o l → ReplayableAt w f next s p o l
+  due-asks s a b p o l z = record {
     source = record {
       is-structural = x .all .is-structural;
-      at = record { counted = x .all .counted; low = omega (arith, x .bottom .least); high = omega arith };
+      at = record { counted = x .all .counted; low = a; high = b };
     };
     sized = z;
   }
 
   module _ (t k : ℕ) (st : State) (all : List Stamped) (p o l : List ℕ) (i : ℕ)
       (h : Left st all p o l (kindFrom (logOf w f) t next k i)) where
-    pub class-on : i < 9 - low → (p′ o′ l′ : List ℕ) → tables p′ o′ l′ ≡ foldl step (tables p o l) (entry (logOf w f) t next k (8 - i))
+    pub class-on : i < 9 - low → (p′ o′ l′ : List ℕ) → tables p′ o′ l′ ≡ foldl step (tables p o l) (readyOp (logOf w f) t next k (8 - i))
         → Left st all p′ o′ l′ (kindFrom (logOf w f) t next k (i + 1))
     class-on u =
-        left-on st all p o l _ h (entry (logOf w f) t next k (8 - i)) _ (kind-turn (logOf w f) t next k i (omega (arith, x .bottom .least)))
+        left-on st all p o l _ h (readyOp (logOf w f) t next k (8 - i)) _
+        (kind-turn (logOf w f) t next k i (omega (arith, x .bottom .least)))
 
     pub class-ends : 9 - low ≤ i → tables p o l ≡ foldl step st all
     class-ends u = left-none st all p o l _ h (kind-none (logOf w f) t next k low i (x .bottom) u)
@@ -153,7 +154,7 @@ module _ (log : Log) (cut : Vector) where
   levelsFrom t done = levels (slots + 1 - t) log cut t done
 
   levels-turn : (t : ℕ) (done : Vector) → t < slots + 1
-      → levelsFrom t done ≡ level log t (nextOf log cut done) ++ levelsFrom (t + 1) (advanced done (nextOf log cut done))
+      → levelsFrom t done ≡ level log t (readyOps log cut done) ++ levelsFrom (t + 1) (advanced done (readyOps log cut done))
   unfolding levelsFrom levels
   levels-turn t done h = let e : slots + 1 - t ≡ suc (slots + 1 - (t + 1)) = omega arith in rw (e, ← add-one t)
 
@@ -162,18 +163,20 @@ module _ (log : Log) (cut : Vector) where
   levels-none t done h = let e : slots + 1 - t ≡ 0 = omega arith in rw e
 
   -- where nothing is ready, no level has an op
-  module _ (done : Vector) (eight : length done ≡ 8) (idle : within (nextOf log cut done) nothing ≡ true) where
-    idle-at : (s : ℕ) → 1 ≤ s → s ≤ 8 → countIn (nextOf log cut done) s ≡ 0
-    idle-at s l u = omega (arith, within-le (nextOf log cut done) nothing idle s l u, count-nothing s l u)
+  module _ (done : Vector) (eight : length done ≡ 8) (idle : within (readyOps log cut done) nothing ≡ true) where
+    idle-at : (s : ℕ) → 1 ≤ s → s ≤ 8 → countIn (readyOps log cut done) s ≡ 0
+    idle-at s l u = omega (arith, within-le (readyOps log cut done) nothing idle s l u, count-nothing s l u)
 
-    idle-level : (t : ℕ) → level log t (nextOf log cut done) ≡ []
+    idle-level : (t : ℕ) → level log t (readyOps log cut done) ≡ []
     unfolding level levelKind
-    idle-level t = concat-nothing (levelKind log t (nextOf log cut done)) 4 1 (λ k a b. concat-none (entry log t (nextOf log cut done) k) 8
-        (λ s l u. entry-zero log t (nextOf log cut done) k s (idle-at s l u)))
+    idle-level t =
+        let next = readyOps log cut done in
+        concat-nothing (levelKind log t next) 4 1
+        (λ k a b. concat-none (readyOp log t next k) 8 (λ s l u. op-zero log t next k s (idle-at s l u)))
 
-    idle-done : advanced done (nextOf log cut done) ≡ done
+    idle-done : advanced done (readyOps log cut done) ≡ done
     unfolding advanced advancedAt
-    idle-done = map-replicas (advancedAt done (nextOf log cut done)) (countIn done) (λ s l u. rw (idle-at s l u)) ∙ vector-eta done eight
+    idle-done = map-replicas (advancedAt done (readyOps log cut done)) (countIn done) (λ s l u. rw (idle-at s l u)) ∙ vector-eta done eight
 
     idle-levels : (n t : ℕ) → levels n log cut t done ≡ []
     unfolding levels
@@ -192,11 +195,11 @@ module _ (log : Log) (cut : Vector) where
     pub levels-end : slots + 1 ≤ t → tables p o l ≡ foldl step st all
     levels-end u = left-none st all p o l _ (h .rest) (levels-none t done u)
 
-    module _ (next : Vector) (is : next ≡ nextOf log cut done) where
+    module _ (next : Vector) (is : next ≡ readyOps log cut done) where
       pub levels-idle : (b : Bool) → b ≡ within next (replicate 8 0) → b ≡ true → tables p o l ≡ foldl step st all
       unfolding levelsFrom nothing
       levels-idle b e z =
-          let idle : within (nextOf log cut done) nothing ≡ true = rw (← is) (sym e ∙ z) in
+          let idle : within (readyOps log cut done) nothing ≡ true = rw (← is) (sym e ∙ z) in
           left-none st all p o l _ (h .rest) (idle-levels done (h .eight) idle (slots + 1 - t) t)
 
       pub levels-on : t < slots + 1 → (p′ o′ l′ : List ℕ) → tables p′ o′ l′ ≡ foldl step (tables p o l) (level log t next)
@@ -205,11 +208,11 @@ module _ (log : Log) (cut : Vector) where
       levels-on u p′ o′ l′ e after a = record {
         eight = ap length a ∙ length-eight (advancedAt done next);
         rest = rw (a, is)
-            (left-on st all p o l _ (h .rest) (level log t (nextOf log cut done)) _ (levels-turn t done u) p′ o′ l′ (rw is at e));
+            (left-on st all p o l _ (h .rest) (level log t (readyOps log cut done)) _ (levels-turn t done u) p′ o′ l′ (rw is at e));
       }
 
 pub level-asks : (w : ℕ) (f : List ℕ) (cut done next : Vector) (p₀ o₀ l₀ p o l : List ℕ) → Replayable w f cut p₀ o₀ l₀
-    → next ≡ nextOf (logOf w f) cut done → Sized p o l → Replayable w f next p o l
+    → next ≡ readyOps (logOf w f) cut done → Sized p o l → Replayable w f next p o l
 level-asks w f cut done next p₀ o₀ l₀ p o l x is z =
     record { is-structural = x .is-structural; counted = rw is (next-counted w f cut done (x .counted)); sized = z }
 
@@ -221,6 +224,6 @@ pub ruleset level-turns = (level-starts, level-on, level-ends)
 
 pub ruleset levels-turns = (levels-start, levels-end, levels-idle, levels-on)
 
-pub ruleset asks = (entry-asks, class-asks, level-asks)
+pub ruleset asks = (class-asks, level-asks)
 
 pub ruleset levelling = (needs, classes, dues, bounds, class-turns, level-turns, levels-turns, asks)

@@ -10,7 +10,7 @@ ghost use mathlib.Core.List.{foldl};
 ghost use Rattle.rules.specs.File.{logOf};
 ghost use Rattle.rules.specs.Replay.{step};
 ghost use Rattle.rules.specs.Tree.{slots};
-ghost use Rattle.order.specs.Levels.{entry, levelKind, level, levels, nothing};
+ghost use Rattle.order.specs.Levels.{readyOp, levelKind, level, levels, nothing};
 ghost use Rattle.replay.specs.Tables.{tables, StructuralAt, ReplayableAt, ReplayableIn, Replayable, Top, Bottom, classOf, dueAt};
 
 // The class of a kind, in the order in which ops of one timestamp are judged: adds, removes,
@@ -54,7 +54,7 @@ fn due(file: &[u8], next: [u8; 8], class: u8, s: usize, width: usize) -> usize
 }
 
 // Applies the op of a replica that is ready, if it is of this class.
-fn replay_entry(
+fn replay_due(
     file: &[u8],
     next: [u8; 8],
     time: u16,
@@ -68,7 +68,7 @@ fn replay_entry(
     requires { ⌜ ReplayableAt width (now file) next s (now parents) (now outcomes) (now placed) ⌝ }
     ensures { λ _. ⌜ tables (now (parents .exit)) (now (outcomes .exit)) (now (placed .exit))
         ≡ foldl step (tables (now (parents .entry)) (now (outcomes .entry)) (now (placed .entry)))
-        (entry (logOf width (now (file .entry))) time next class s) ⌝ }
+        (readyOp (logOf width (now (file .entry))) time next class s) ⌝ }
 {
     let q = due(file, next, class, s, width);
     if q == 0 {
@@ -123,7 +123,7 @@ fn replay_class(
     let to = 9 - low;
     for i in from..to {
         let s = 8 - i;
-        replay_entry(file, next, time, class, s, parents, outcomes, placed, width);
+        replay_due(file, next, time, class, s, parents, outcomes, placed, width);
     }
 }
 

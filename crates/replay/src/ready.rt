@@ -5,7 +5,7 @@ use oplog::place;
 ghost use mathlib.Core.Path.{_≡_};
 ghost use Rattle.rules.specs.File.{logOf};
 ghost use Rattle.oplog.specs.Spots.{Counted};
-ghost use Rattle.order.specs.Levels.{nextAt, nextOf, advanced};
+ghost use Rattle.order.specs.Levels.{nextAt, readyOps, advanced};
 ghost use Rattle.replay.specs.Tables.{CountedAt, later};
 
 // The number of replica s's next op, if it is within the cut and all that it has seen is done;
@@ -29,7 +29,7 @@ fn next_op(file: &[u8], cut: [u8; 8], done: [u8; 8], s: usize, width: usize) -> 
 // The number of each replica's op that is ready, or 0.
 pub fn next_ops(file: &[u8], cut: [u8; 8], done: [u8; 8], width: usize) -> [u8; 8]
     requires { ⌜ Counted width (now file) cut ⌝ }
-    ensures { λ r. ⌜ r ≡ nextOf (logOf width (now (file .entry))) cut done ⌝ }
+    ensures { λ r. ⌜ r ≡ readyOps (logOf width (now (file .entry))) cut done ⌝ }
 {
     let mut next = [0u8; 8];
     for i in 0..8 {

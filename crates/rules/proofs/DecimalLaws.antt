@@ -1,13 +1,15 @@
 -- Laws of decimal numbers and of a line: how many digits, and that five are enough and read back. Assumes nothing.
-use mathlib.Core.Path.{_≡_}
+use lib.ListN.{drop, set, take, length, length-append, length-set, take-append-drop}
+use mathlib.Core.Path.{ap, refl, _≡_, _∙_}
+use mathlib.Core.List.{List, [], _∷_, _++_, append-assoc}
 use mathlib.Core.Bool.{Bool}
-use mathlib.Core.List.{[], _∷_, _++_}
-use Prim.Native.Nat.{ℕ, suc, _+_, _/_, _%_, _≤_, _<_}
+use Prim.Native.Nat.{ℕ, zero, suc, _+_, _/_, _%_, _≤_, _<_}
 use native.Mathlib.Omega.{arith}
 use native.Mathlib.Decide.{decLe}
-use lib.ListN.{length, length-append}
 use borrow.Author.Tests.{lt-ltb, le-ltb}
 use Rattle.rules.specs.Listing.{digits, decimal, lineOf}
+use native.Mathlib.Numerals.{add-one}
+use lib.Seq.{drop-cons, drop-set-lt, getD-set-same, take-set-le}
 
 ---- how many digits
 
@@ -91,3 +93,45 @@ decimal-short n h = omega (
 -- four digits each for depth and node
 pub line-short : (d n : ℕ) (removed : Bool) → d < 10000 → n < 10000 → length (lineOf d n removed) ≤ 12
 line-short d n removed a b = omega (arith, length-line d n removed, decimal-short d a, decimal-short n b)
+
+---- digits written from the last to the first
+
+-- the last i digits of a number
+unfoldable pub lastDigits : ℕ → ℕ → List ℕ
+lastDigits zero n = []
+lastDigits (suc i) n = lastDigits i (n / 10) ++ ((48 + n % 10) ∷ [])
+
+digits-from-last : (k n : ℕ) → digits k n ≡ lastDigits (length (digits k n)) n
+unfolding digits lastDigits
+digits-from-last zero n = refl
+digits-from-last (suc k) n =
+    elim (decLe 10 n) [
+      | yes h ↦ rw (digits-high k n h, length-append, add-one) (ap (λ (ds : List ℕ). ds ++ ((48 + n % 10) ∷ []))
+          (digits-from-last k (n / 10)))
+      | no h ↦ rw (digits-low k n (omega arith))
+    ]
+
+-- o as it is once its i bytes from a place on hold the last digits of n
+abbrev pub toWrite : List ℕ → ℕ → ℕ → ℕ → List ℕ
+toWrite o at i n = take at o ++ (lastDigits i n ++ drop (at + i) o)
+
+pub write-all : (o : List ℕ) (at n : ℕ) → take at o ++ (decimal n ++ drop (at + length (decimal n)) o) ≡ toWrite o at (length (decimal n)) n
+unfolding decimal
+write-all o at n = ap (λ (ds : List ℕ). take at o ++ (ds ++ drop (at + length (digits 5 n)) o)) (digits-from-last 5 n)
+
+pub write-turn : (o : List ℕ) (at i j n : ℕ) → i ≡ suc j → at + i ≤ length o
+    → toWrite o at i n ≡ toWrite (set o (at + j) (48 + n % 10)) at j (n / 10)
+unfolding lastDigits
+write-turn o at i j n e h =
+    let d : ℕ = 48 + n % 10 in
+    let x : List ℕ = set o (at + j) d in
+    let t : take at x ≡ take at o = take-set-le at o (at + j) d (omega arith) in
+    let k : at + suc j ≡ suc (at + j) = omega arith in
+    let u : at + j < length x = rw length-set (omega arith) in
+    let b : drop (at + j) x ≡ d ∷ drop (suc (at + j)) o = drop-cons x (at + j) 0 u
+    ∙ rw (getD-set-same o (at + j) d 0 (omega arith), drop-set-lt (suc (at + j)) o (at + j) d (omega arith)) in
+    rw (e, t, b, k, append-assoc)
+
+pub write-end : (o : List ℕ) (at n : ℕ) → toWrite o at 0 n ≡ o
+unfolding lastDigits
+write-end o at n = let e : at + 0 ≡ at = omega arith in rw e (take-append-drop at o)

@@ -1,5 +1,3 @@
-pub mod TreePathLaws
-pub mod TombstoneLaws
 pub mod ViewLaws
 pub mod ViewTheorems
 pub mod PathLaws
@@ -14,7 +12,11 @@ pub mod PruneLaws
 pub mod PutCases
 pub mod RevealLaws
 pub mod ListingLaws
-pub mod TurnLaws
-pub mod LineLaws
+pub mod SlotCases
+pub mod MarkingCases
+pub mod HidingCases
+pub mod LinkingCases
+pub mod TouringCases
+pub mod LineCases
 pub mod ListingCases
 pub mod OutlineCases

@@ -15,13 +15,13 @@ use Rattle.rules.proofs.SlotLaws.{Valid, slot-injective}
 use Rattle.lists.specs.Lists.{downFrom, filter, upFrom}
 use Rattle.rules.specs.Tree.{noParent, slots}
 use Rattle.view.proofs.NodesLaws.{valid-parent}
-use Rattle.view.proofs.SlotLaws.{node-nonzero, spot-below, spot-node, spot-valid}
-use Rattle.view.specs.Tables.{Links, entry, linkSlot, links, linksOf, noLinks, nodeAt, spot}
+use Rattle.view.proofs.SlotLaws.{node-nonzero, slot-in-below, slot-in-node, slot-in-valid}
+use Rattle.view.specs.Tables.{Links, atNode, linkSlot, links, linksOf, noLinks, nodeAt, slotIn}
 
 -- from x on, next passes these nodes and ends
 abbrev pub Chain : List ℕ → ℕ → List ℕ → Type 0
 Chain next x [] = x ≡ 0
-Chain next x (y ∷ ys) = (x ≡ y) × (y ≡ 0 → ⊥) × Chain next (entry next y) ys
+Chain next x (y ∷ ys) = (x ≡ y) × (y ≡ 0 → ⊥) × Chain next (atNode next y) ys
 
 module _ (parents hidden : List ℕ) (entries : (k : ℕ) → 0 < k → k < 2041 → (getD parents k 0 ≡ noParent) ⊎ Valid (getD parents k 0)) where
   abbrev under : ℕ → ℕ → Bool
@@ -35,7 +35,7 @@ module _ (parents hidden : List ℕ) (entries : (k : ℕ) → 0 < k → k < 2041
     pub first-size : length (l .first) ≡ 2041
     pub next-size : length (l .next) ≡ 2041
     pub root-last : getD (l .next) 0 0 ≡ 0
-    pub chains : (n : ℕ) → Valid n → Chain (l .next) (entry (l .first) n) (kids i n)
+    pub chains : (n : ℕ) → Valid n → Chain (l .next) (atNode (l .first) n) (kids i n)
 
   -- a slot below those of a chain may change
   chain-kept : (next : List ℕ) (k v : ℕ) (q : ℕ → Bool) (m i x : ℕ) → k < i → i + m ≤ 2041
@@ -44,8 +44,8 @@ module _ (parents hidden : List ℕ) (entries : (k : ℕ) → 0 < k → k < 2041
   chain-kept next k v q zero i x h b c = c
   chain-kept next k v q (suc m) i x h b c = go (q i) x c (λ y. chain-kept next k v q m (suc i) y (omega arith) (omega arith))
     where
-      same : entry (set next k v) (nodeAt i) ≡ entry next (nodeAt i)
-      same = rw (spot-node i (omega arith) (omega arith)) (getD-set-other next k i v 0 (λ e. omega arith))
+      same : atNode (set next k v) (nodeAt i) ≡ atNode next (nodeAt i)
+      same = rw (slot-in-node i (omega arith) (omega arith)) (getD-set-other next k i v 0 (λ e. omega arith))
 
       go : (t : Bool) (x : ℕ) → Chain next x (map nodeAt (cond t (i ∷ filter q (upFrom (suc i) m)) (filter q (upFrom (suc i) m))))
           → ((y : ℕ) → Chain next y (map nodeAt (filter q (upFrom (suc i) m)))
@@ -72,31 +72,31 @@ module _ (parents hidden : List ℕ) (entries : (k : ℕ) → 0 < k → k < 2041
     q = getD parents k 0
 
     abbrev after : Links
-    after = links (set (l .first) (spot q) (nodeAt k)) (set (l .next) k (getD (l .first) (spot q) 0))
+    after = links (set (l .first) (slotIn q) (nodeAt k)) (set (l .next) k (getD (l .first) (slotIn q) 0))
 
-    rest : (n : ℕ) → Valid n → Chain (after .next) (entry (l .first) n) (kids (suc k) n)
-    rest n v = chain-kept (l .next) k (getD (l .first) (spot q) 0) (under n) (2041 - suc k) (suc k) (entry (l .first) n) (omega arith)
+    rest : (n : ℕ) → Valid n → Chain (after .next) (atNode (l .first) n) (kids (suc k) n)
+    rest n v = chain-kept (l .next) k (getD (l .first) (slotIn q) 0) (under n) (2041 - suc k) (suc k) (atNode (l .first) n) (omega arith)
         (omega arith) (d .chains n v)
 
-    linked-here : (n : ℕ) → Valid n → q ≡ n → Chain (after .next) (entry (after .first) n) (kids k n)
+    linked-here : (n : ℕ) → Valid n → q ≡ n → Chain (after .next) (atNode (after .first) n) (kids k n)
     linked-here n v z =
-        let a : entry (after .first) n ≡ nodeAt k = rw (← z) (getD-set-same (l .first) (spot q) (nodeAt k) 0
-        (omega (arith, d .first-size, spot-below q))) in
-        let b : entry (after .next) (nodeAt k) ≡ entry (l .first) n = rw (spot-node k p u, ← z)
-        (getD-set-same (l .next) k (getD (l .first) (spot q) 0) 0 (omega (arith, d .next-size))) in
+        let a : atNode (after .first) n ≡ nodeAt k = rw (← z) (getD-set-same (l .first) (slotIn q) (nodeAt k) 0
+        (omega (arith, d .first-size, slot-in-below q))) in
+        let b : atNode (after .next) (nodeAt k) ≡ atNode (l .first) n = rw (slot-in-node k p u, ← z)
+        (getD-set-same (l .next) k (getD (l .first) (slotIn q) 0) 0 (omega (arith, d .next-size))) in
         rw (kids-turn k n u, eq-eqb q n z, shown) (a, node-nonzero k p, rw b (rest n v))
 
-    linked-else : (n : ℕ) → Valid n → (q ≡ n → ⊥) → Chain (after .next) (entry (after .first) n) (kids k n)
+    linked-else : (n : ℕ) → Valid n → (q ≡ n → ⊥) → Chain (after .next) (atNode (after .first) n) (kids k n)
     linked-else n v nz =
-        let a : entry (after .first) n ≡ entry (l .first) n = getD-set-other (l .first) (spot q) (spot n) (nodeAt k) 0
-        (λ e. nz (sym (slot-injective n q v vp (sym (spot-valid n v) ∙ e ∙ spot-valid q vp)))) in
+        let a : atNode (after .first) n ≡ atNode (l .first) n = getD-set-other (l .first) (slotIn q) (slotIn n) (nodeAt k) 0
+        (λ e. nz (sym (slot-injective n q v vp (sym (slot-in-valid n v) ∙ e ∙ slot-in-valid q vp)))) in
         rw (not-under k n u (rw (ne-eqb q n nz)), a) (rest n v)
 
     linked-after : Linked k after
     linked-after = record {
-      first-size = length-set (l .first) (spot q) (nodeAt k) ∙ d .first-size;
-      next-size = length-set (l .next) k (getD (l .first) (spot q) 0) ∙ d .next-size;
-      root-last = getD-set-other (l .next) k 0 (getD (l .first) (spot q) 0) 0 (λ e. omega arith) ∙ d .root-last;
+      first-size = length-set (l .first) (slotIn q) (nodeAt k) ∙ d .first-size;
+      next-size = length-set (l .next) k (getD (l .first) (slotIn q) 0) ∙ d .next-size;
+      root-last = getD-set-other (l .next) k 0 (getD (l .first) (slotIn q) 0) 0 (λ e. omega arith) ∙ d .root-last;
       chains = λ n v. elim (ℕ-discrete q n) [ yes z ↦ linked-here n v z | no nz ↦ linked-else n v nz ];
     }
 
@@ -116,8 +116,8 @@ module _ (parents hidden : List ℕ) (entries : (k : ℕ) → 0 < k → k < 2041
       bare e = rw (eq-eqb _ _ e) (same (λ n v. rw (e, ne-eqb 65535 n (λ q. valid-parent n v (sym q)))))
 
       go : Valid (getD parents k 0) → (b : Bool) → eqb (getD hidden k 0) 0 ≡ b
-          → Linked k (cond b (links (set (l .first) (spot (getD parents k 0)) (nodeAt k))
-          (set (l .next) k (getD (l .first) (spot (getD parents k 0)) 0))) l)
+          → Linked k (cond b (links (set (l .first) (slotIn (getD parents k 0)) (nodeAt k))
+          (set (l .next) k (getD (l .first) (slotIn (getD parents k 0)) 0))) l)
       go vp false e = same (λ n v. rw (e, and-false (eqb (getD parents k 0) n)))
       go vp true e = linked-after k p u l d vp e
 
@@ -140,5 +140,5 @@ module _ (parents hidden : List ℕ) (entries : (k : ℕ) → 0 < k → k < 2041
         first-size = length-replicate {A = ℕ} slots 0;
         next-size = length-replicate {A = ℕ} slots 0;
         root-last = getD-replicate {A = ℕ} slots 0 0 0 (lit≤ tt);
-        chains = λ n v. rw (no-kids n) (getD-replicate slots (spot n) 0 0 (spot-below n));
+        chains = λ n v. rw (no-kids n) (getD-replicate slots (slotIn n) 0 0 (slot-in-below n));
       })

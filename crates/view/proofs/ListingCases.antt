@@ -1,5 +1,5 @@
 -- The cases of the listing call, as the code meets them. Assumes nothing.
-use Prim.Native.Nat.{_+_, _<_, ℕ, _≤_}
+use Prim.Native.Nat.{_+_, _-_, _<_, ℕ, _≤_}
 use borrow.Author.Needs.{needs}
 use lib.ListN.{drop, length, length-append, length-replicate, replicate, take}
 use lib.Seq.{take-append-seam}
@@ -8,11 +8,12 @@ use mathlib.Core.List.{_++_, List, foldl}
 use mathlib.Core.Path.{ap, refl, sym, _∙_, _≡_}
 use native.Mathlib.Omega.{arith}
 use Rattle.lists.proofs.BoolLaws.{tested}
-use Rattle.rules.proofs.SoundLaws.{sound-good}
+use Rattle.rules.proofs.SoundLaws.{sound-good, sound-structural}
+use Rattle.soundness.proofs.SoundCases.{laid-of}
 use Rattle.rules.specs.Answer.{accepted, refused, require}
 use Rattle.lists.specs.Lists.{concat, downFrom}
 use Rattle.rules.specs.Listing.{listing, listingAnswer, listingOf}
-use Rattle.rules.specs.File.{Log, logOf, width}
+use Rattle.rules.specs.File.{logOf, width}
 use Rattle.rules.specs.Path.{Written}
 use Rattle.rules.specs.Replay.{parentsOf}
 use Rattle.rules.specs.Sound.{sound}
@@ -21,32 +22,56 @@ use Rattle.rules.specs.Views.{View}
 use Rattle.view.proofs.ListingLaws.{listing-is}
 use Rattle.view.proofs.PutCases.{put-all, put-short}
 use Rattle.view.specs.Answers.{putAnswer, putIn}
-use Rattle.view.specs.Tables.{Links, hiddenOf, linesOf, linkSlot, links, linksOf, mark, marksOf, noLinks, noMarks, orderOf, tourOf}
+use Rattle.view.specs.Asked.{Arrangeable, Arranged, Markable, Orderable, Printable, Tourable}
+use Rattle.view.specs.Tables.{hiddenOf, linesOf, linkSlot, links, linksOf, mark, marksOf, noLinks, noMarks, orderBy, orderOf, putFront, tourOf}
 
-pub no-marks : replicate slots 0 ≡ noMarks
+---- the nodes that a view shows
+
+module _ (p m o₀ : List ℕ) (a : Orderable p m o₀) (f n : List ℕ) where
+  pub links-ask : length f ≡ slots → length n ≡ slots → Tourable f n o₀
+  links-ask ef en = record { links-size = record { first-size = ef; next-size = en }; order-size = a .order-size }
+
+  -- o has the tour in its first r entries
+  module _ (o : List ℕ) (same : length o ≡ length o₀) (r : ℕ) (is : r ≡ length (tourOf (links f n)))
+      (e : o ≡ tourOf (links f n) ++ drop r o₀) where
+    pub order-few : r ≤ slots
+    order-few =
+        let l : length o ≡ r + length (drop r o₀) = ap length e ∙ length-append (tourOf (links f n)) (drop r o₀) ∙ rw (← is) in
+        omega (arith, a .order-size)
+
+    pub order-made : (v : View)
+        → links f n ≡ foldl (linkSlot p (hiddenOf p m v)) (links (replicate slots 0) (replicate slots 0)) (downFrom (slots - 1))
+        → take r o ≡ orderBy p m v
+    unfolding orderBy linksOf noLinks
+    order-made v l = rw (e, is) (take-append-seam (tourOf (links f n)) _) ∙ ap tourOf l
+
+---- of a sound buffer
+
+pub fresh-asks : (f : List ℕ) → sound width f ≡ true → Arrangeable f (replicate slots 0) (replicate slots 0)
 unfolding noMarks
-no-marks = refl
+fresh-asks f a = record { is-sound = a; unmarked = refl; order-size = length-replicate {A = ℕ} slots 0 }
 
-pub no-marks-size : (t : List ℕ) → t ≡ noMarks → length t ≡ 2041
-unfolding noMarks
-no-marks-size t e = rw e (length-replicate {A = ℕ} slots 0)
+module _ (f m o : List ℕ) (a : Arrangeable f m o) where
+  no-marks-size : length m ≡ slots
+  unfolding noMarks
+  no-marks-size = rw (a .unmarked) (length-replicate {A = ℕ} slots 0)
 
-pub marks-made : (log : Log) (t : List ℕ) → t ≡ noMarks → foldl mark t (concat log) ≡ marksOf log
-unfolding marksOf
-marks-made log t e = rw e
+  pub marks-ask : Markable f m
+  marks-ask = record { is-laid = laid-of f (a .is-sound); marks-size = no-marks-size }
 
-pub order-made : (log : Log) (view : View) (parents marks : List ℕ) (l : Links) → parents ≡ parentsOf log → marks ≡ marksOf log → l ≡ foldl (linkSlot parents (hiddenOf parents marks view)) noLinks (downFrom 2040) → tourOf l ≡ orderOf log view
-unfolding orderOf linksOf
-order-made log view parents marks l p m e = rw (e, p, m)
+  -- m′ are the marks
+  module _ (m′ : List ℕ) where
+    pub order-asks : (p : List ℕ) → length p ≡ slots → length m′ ≡ length m → Orderable p m′ o
+    order-asks p lp lm = record { parents-size = lp; marks-size = lm ∙ no-marks-size; order-size = a .order-size }
 
-pub links-empty : links (replicate 2041 0) (replicate 2041 0) ≡ noLinks
-unfolding noLinks
-links-empty = refl
+    module _ (em : m′ ≡ foldl mark m (concat (logOf width f))) where
+      pub marks-made : m′ ≡ marksOf (logOf width f)
+      unfolding marksOf
+      marks-made = em ∙ rw (a .unmarked)
 
-pub front-is : (T order rest : List ℕ) (r : ℕ) → r ≡ length T → order ≡ T ++ rest → length order ≡ 2041 → (take r order ≡ T) × (r ≤ 2041)
-front-is T order rest r e q n =
-    let a : length T + length rest ≡ 2041 = sym (length-append T rest) ∙ sym (ap length q) ∙ n in
-    (rw (q, e) (take-append-seam T rest), omega arith)
+      pub order-of : (p : List ℕ) → p ≡ parentsOf (logOf width f) → (v : View) (t : List ℕ) → t ≡ orderBy p m′ v
+          → t ≡ orderBy (parentsOf (logOf width f)) (marksOf (logOf width f)) v
+      order-of p ep v t e = e ∙ rw (ep, marks-made)
 
 ---- the lines of arranged nodes
 
@@ -56,14 +81,14 @@ module _ (marks order : List ℕ) (count size : ℕ) (is : (m : List ℕ) → si
       _≡_ {A = Written} (record { answer = refused 8; out = out }) (putIn (linesOf marks (take count order)) out)
   lines-short h = put-short (linesOf marks (take count order)) out size (is marks) h
 
-  pub lines-fit : size ≤ length out → length (linesOf marks (take count order)) ≤ length out
-  lines-fit h = rw (← is marks) h
+  pub lines-ask : Arranged order count marks → size ≤ length out → Printable order count marks out
+  lines-ask a h = record { arranged = a; room = rw (← is marks) h }
 
   pub lines-put :
       size ≤ length out → (o : List ℕ) →
-      o ≡ linesOf marks (take count order) ++ drop (length (linesOf marks (take count order))) out →
+      o ≡ putFront (linesOf marks (take count order)) out →
       _≡_ {A = Written} (record { answer = accepted size; out = o }) (putIn (linesOf marks (take count order)) out)
-  lines-put h o e = put-all (linesOf marks (take count order)) out size (is marks) h o (e ∙ rw (← is marks))
+  lines-put h o e = put-all (linesOf marks (take count order)) out size (is marks) h o e
 
 ---- the whole
 
@@ -84,4 +109,6 @@ module _ (f out : List ℕ) (view : View) where
         e ∙ rw (m, o, listing-is (logOf width f) (sound-good width f a) view) (sym listing-put)
 
 ---- what the code of listings needs: search listings
-pub ruleset listings = (needs, tested, lines-short, lines-fit, lines-put, listing-unsound, listing-now)
+pub ruleset arranging = (links-ask, order-few, order-made, fresh-asks, marks-ask, order-asks, marks-made, order-of)
+
+pub ruleset listings = (needs, tested, sound-structural, arranging, lines-short, lines-ask, lines-put, listing-unsound, listing-now)

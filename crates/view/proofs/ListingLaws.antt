@@ -31,11 +31,11 @@ use Rattle.view.proofs.PruneLaws.{pruned}
 use Rattle.view.proofs.RevealLaws.{keeping-hidden}
 use Rattle.lists.proofs.ListLaws.{map-concat, map-map}
 use Rattle.lists.proofs.BoolLaws.{not-not, under-and}
-use Rattle.view.proofs.SlotLaws.{spot-node, spot-valid}
+use Rattle.view.proofs.SlotLaws.{slot-in-node, slot-in-valid}
 use Rattle.view.proofs.TourLaws.{pre, tour-root}
-use Rattle.view.proofs.TreePathLaws.{Under, children-under}
+use Rattle.order.proofs.TreePathLaws.{Under, children-under}
 use Rattle.view.proofs.ViewLaws.{keeping-child, root-shown, skipping-child}
-use Rattle.view.specs.Tables.{Links, entry, entryOf, hiddenOf, lineFor, linesOf, linksOf, marksOf, nodeAt, orderOf, tourOf}
+use Rattle.view.specs.Tables.{Links, atNode, entryOf, hiddenOf, lineFor, linesOf, linksOf, marksOf, nodeAt, orderBy, orderOf, tourOf}
 
 pre-turn : (kids : ℕ → List ℕ) (k n : ℕ) → pre kids (suc k) n ≡ n ∷ concat (map (pre kids k) (kids n))
 unfolding pre
@@ -54,12 +54,12 @@ module _ (log : Log) (good : GoodLog log) where
   node-is-valid : (n : ℕ) → Node n → Valid n
   node-is-valid n w = named-valid log (countsOf log) n w
 
-  unmarked-node : (n : ℕ) → Valid n → eqb (entry marks n) 0 ≡ not (tombstone log (countsOf log) n)
-  unmarked-node n v = rw (← mark-tombstone log good n v) (sym (not-not (eqb (entry marks n) 0)))
+  unmarked-node : (n : ℕ) → Valid n → eqb (atNode marks n) 0 ≡ not (tombstone log (countsOf log) n)
+  unmarked-node n v = rw (← mark-tombstone log good n v) (sym (not-not (eqb (atNode marks n) 0)))
 
   -- a node is shown if its parent is and it is not hidden itself
   shown-child : (view : View) (n c : ℕ) → Node n → Under log good n c
-      → shown view log P c ≡ (shown view log P n && eqb (entry (hiddenOf P marks view) c) 0)
+      → shown view log P c ≡ (shown view log P n && eqb (atNode (hiddenOf P marks view) c) 0)
   unfolding hiddenOf
   shown-child keeping n c w u = rw (keeping-hidden log good c (node-is-valid c (u .node)))
       (under-and (shown keeping log P n) (shown keeping log P c) (keeping-child log good n c u))
@@ -70,7 +70,7 @@ module _ (log : Log) (good : GoodLog log) where
     hidden = hiddenOf P marks view
 
     abbrev unhidden : ℕ → Bool
-    unhidden m = eqb (entry hidden m) 0
+    unhidden m = eqb (atNode hidden m) 0
 
     abbrev kidsOf : ℕ → List ℕ
     kidsOf n = filter unhidden (children log P n)
@@ -89,7 +89,7 @@ module _ (log : Log) (good : GoodLog log) where
 
     kids-same : (n : ℕ) → Valid n → kidsOf n ≡ kids P hidden (slot-entry log good) 1 n
     kids-same n v = rw (children-slots log good n v) (filter-map-filter unhidden nodeAt (λ k. eqb (getD P k 0) n) _ 2040 1
-        (λ k a b. rw (spot-node k a (omega arith))))
+        (λ k a b. rw (slot-in-node k a (omega arith))))
 
     kids-under : (n : ℕ) → Each (Under log good n) (kidsOf n)
     kids-under n = each-filter _ unhidden (children log P n) (children-under log good n)
@@ -130,7 +130,7 @@ module _ (log : Log) (good : GoodLog log) where
         let z : suc d ≡ j = depth-unique P (suc d) j c d′ dc in
         record { node = u .node; deep = d′; low = omega arith }) (kids-under n)
 
-    chain : (d n : ℕ) → Good d n → Chain (l .next) (entry (l .first) n) (kidsOf n)
+    chain : (d n : ℕ) → Good d n → Chain (l .next) (atNode (l .first) n) (kidsOf n)
     chain d n g = let v = node-is-valid n (g .node) in rw (kids-same n v) (is-linked .chains n v)
 
     root-good : Good 0 0
@@ -139,7 +139,7 @@ module _ (log : Log) (good : GoodLog log) where
 
     tour-is : tourOf l ≡ map withDepth (pre kidsOf slots 0)
     tour-is = tour-root l kidsOf tree Good chain opens below (λ d n g. omega (arith, g .low)) root-good
-        (rw (spot-valid 0 (inl refl), slot-root 0 refl) (is-linked .root-last)) (rw length-map order-short)
+        (rw (slot-in-valid 0 (inl refl), slot-root 0 refl) (is-linked .root-last)) (rw length-map order-short)
 
     ---- the lines
 
@@ -153,6 +153,6 @@ module _ (log : Log) (good : GoodLog log) where
         rw (x, y, mark-tombstone log good n (node-is-valid n w))
 
     pub listing-is : linesOf marks (orderOf log view) ≡ listingOf view log
-    unfolding orderOf linesOf listingOf listingIn
+    unfolding orderBy linesOf listingOf listingIn
     listing-is = rw (tour-is, shown-order) (ap concat (map-map (lineFor marks) withDepth (pre kidsOf slots 0) ∙ map-each Node
         (λ n. lineFor marks (withDepth n)) (line log P) (pre kidsOf slots 0) line-is order-nodes))

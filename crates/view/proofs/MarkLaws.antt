@@ -17,41 +17,32 @@ use Rattle.rules.proofs.SlotLaws.{Valid, slot-below, slot-injective}
 use Rattle.lists.specs.Lists.{all, any, filter, isIn}
 use Rattle.rules.specs.File.{Log, countsOf}
 use Rattle.rules.specs.Log.{known}
-use Rattle.rules.specs.Op.{Op, isRemove, kindOf, nodeOf}
+use Rattle.rules.specs.Op.{Op, isRemove, nodeOf}
 use Rattle.rules.specs.Replay.{opsWithin, removedIn}
 use Rattle.rules.specs.Tree.{slotOf, slots}
 use Rattle.rules.specs.Marks.{tombstone}
-use Rattle.view.proofs.SlotLaws.{spot-valid}
-use Rattle.view.proofs.TombstoneLaws.{ops-all, removes-known, removesKnown}
-use Rattle.view.specs.Tables.{entry, mark, marksOf, noMarks, spot}
+use Rattle.view.proofs.SlotLaws.{slot-in-valid}
+use Rattle.order.proofs.TombstoneLaws.{ops-all, removes-known, removesKnown}
+use Rattle.view.specs.Tables.{atNode, mark, marksOf, noMarks, slotIn}
 
 mark-size : (t : List ℕ) (r : Op) → length (mark t r) ≡ length t
 unfolding mark
 mark-size t r = go (isRemove r)
   where
-    go : (b : Bool) → length (cond b (set t (spot (nodeOf r)) 1) t) ≡ length t
+    go : (b : Bool) → length (cond b (set t (slotIn (nodeOf r)) 1) t) ≡ length t
     go true = length-set t _ _
     go false = refl
-
--- the effect of an op, by its kind
-pub mark-remove : (t : List ℕ) (r : Op) → kindOf r ≡ 2 → mark t r ≡ set t (spot (nodeOf r)) 1
-unfolding mark isRemove
-mark-remove t r e = rw e
-
-pub mark-other : (t : List ℕ) (r : Op) → (kindOf r ≡ 2 → ⊥) → mark t r ≡ t
-unfolding mark isRemove
-mark-other t r h = rw (ne-eqb (kindOf r) 2 h)
 
 abbrev marked : List ℕ → ℕ → Bool
 marked t n = not (eqb (getD t (slotOf n) 0) 0)
 
 module _ (log : Log) (good : GoodLog log) where
   mark-one : (t : List ℕ) (r : Op) (n : ℕ) → length t ≡ 2041 → Valid n → removesKnown log r ≡ true → isRemove r ≡ true
-      → marked (set t (spot (nodeOf r)) 1) n ≡ (marked t n || eqb n (nodeOf r))
+      → marked (set t (slotIn (nodeOf r)) 1) n ≡ (marked t n || eqb n (nodeOf r))
   mark-one t r n size v f e =
       let w : known log (countsOf log) (nodeOf r) ≡ true = rw e at f in
       let vr : Valid (nodeOf r) = named-valid log (countsOf log) (nodeOf r) (inr w) in
-      rw (spot-valid (nodeOf r) vr) (elim (ℕ-discrete n (nodeOf r)) [
+      rw (slot-in-valid (nodeOf r) vr) (elim (ℕ-discrete n (nodeOf r)) [
         | yes q ↦ rw (
           q,
           getD-set-same t (slotOf (nodeOf r)) 1 0 (omega (arith, slot-below (nodeOf r) vr)),
@@ -77,8 +68,8 @@ module _ (log : Log) (good : GoodLog log) where
       go true e = rw (e, mark-one t r n size v (and-left (removesKnown log r) _ f) e) (or-assoc (marked t n) (eqb n (nodeOf r)) _)
       go false e = rw e
 
-  pub mark-tombstone : (n : ℕ) → Valid n → not (eqb (entry (marksOf log) n) 0) ≡ tombstone log (countsOf log) n
+  pub mark-tombstone : (n : ℕ) → Valid n → not (eqb (atNode (marksOf log) n) 0) ≡ tombstone log (countsOf log) n
   unfolding marksOf noMarks tombstone removedIn
   mark-tombstone n v =
-      rw (spot-valid n v, ← ops-all log (good .eight)) (marks-are (opsWithin log (countsOf log)) (replicate slots 0) n
+      rw (slot-in-valid n v, ← ops-all log (good .eight)) (marks-are (opsWithin log (countsOf log)) (replicate slots 0) n
       (length-replicate {A = ℕ} slots 0) v (removes-known log good) ∙ rw (getD-replicate {A = ℕ} slots (slotOf n) 0 0 (slot-below n v)))

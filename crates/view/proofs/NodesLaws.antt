@@ -1,4 +1,5 @@
 -- The added nodes are those of the slots in rising order; each slot has an added node with a parent, or no parent. Assumes nothing.
+use Rattle.lists.proofs.RangeLaws.{blocks, map-upFrom}
 use Prim.Native.Nat.{_%_, _*_, _+_, _-_, _/_, _<_, suc, zero, ℕ, _≤_}
 use borrow.Author.Tests.{eqb-true, ne-eqb}
 use lib.Dec.{eqb}
@@ -15,7 +16,6 @@ use Rattle.order.proofs.NodeLaws.{added-is}
 use Rattle.order.proofs.TreeTheorem.{is-tree}
 use Rattle.replay.proofs.ClimbLaws.{parent-read}
 use Rattle.lists.proofs.BoolLaws.{both-ways, fails, never}
-use Rattle.lists.proofs.RangeLaws.{map-upFrom, upFrom-add, upFrom-cons, upFrom-none}
 use Rattle.rules.proofs.StructureLaws.{GoodLog, count-held, good-ops}
 use Rattle.rules.proofs.SlotLaws.{Valid}
 use Rattle.lists.specs.Lists.{concat, filter, upFrom}
@@ -28,16 +28,8 @@ use Rattle.rules.specs.Tree.{noParent, parentIn}
 use Rattle.rules.specs.Views.{nodes}
 use Rattle.lists.proofs.FilterLaws.{filter-map-filter, map-filter-concat, none-from}
 use Rattle.view.proofs.SlotLaws.{node-nonzero, node-slot, seat-node, slot-node}
-use Rattle.view.proofs.TreePathLaws.{named-parent, table-size, whole}
+use Rattle.order.proofs.TreePathLaws.{named-parent, table-size, whole}
 use Rattle.view.specs.Tables.{nodeAt}
-
-pub blocks : (n a : ℕ) → 1 ≤ a → concat (map (λ s. upFrom (255 * (s - 1) + 1) 255) (upFrom a n)) ≡ upFrom (255 * (a - 1) + 1) (255 * n)
-unfolding concat
-blocks zero a l = rw (upFrom-none a) (sym (upFrom-none (255 * (a - 1) + 1)))
-blocks (suc n) a l =
-    let e : 255 * suc n ≡ 255 + 255 * n = omega arith in
-    let q : 255 * (suc a - 1) + 1 ≡ 255 * (a - 1) + 1 + 255 = omega arith in
-    rw (upFrom-cons a n, blocks n (suc a) (omega arith), e, q) (sym (upFrom-add (255 * (a - 1) + 1) 255 (255 * n)))
 
 ops-nodes : (p : ℕ → Bool) (g : ℕ → ℕ) (rs : List Op) (n a : ℕ) → length rs ≤ n
     → ((i : ℕ) → i < length rs → (isAdd (getD rs i []) ≡ p (a + i)) × (isAdd (getD rs i []) ≡ true → nodeOf (getD rs i []) ≡ g (a + i)))
@@ -120,7 +112,7 @@ module _ (log : Log) (good : GoodLog log) where
       ∙ ap concat (map-upFrom _ (λ s. map nodeAt (filter held (upFrom (255 * (s - 1) + 1) 255))) 8 1
       (λ s l u. seat-nodes s l (omega arith)))
       ∙ sym (map-filter-concat nodeAt held (λ s. upFrom (255 * (s - 1) + 1) 255) (upFrom 1 8))
-      ∙ ap (λ ks. map nodeAt (filter held ks)) (blocks 8 1 (omega arith))
+      ∙ ap (λ ks. map nodeAt (filter held ks)) (blocks 255 8 1 (omega arith))
 
   -- a slot's parent entry
   pub slot-parent : (k : ℕ) → 0 < k → k < 2041 → parentIn (parentsOf log) (nodeAt k) ≡ getD (parentsOf log) k 0

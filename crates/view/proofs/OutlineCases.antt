@@ -1,35 +1,45 @@
 -- The cases of the program's output, as the code meets them. Assumes nothing.
-use Prim.Native.Nat.{ℕ, _≤_}
+use Prim.Native.Nat.{ℕ, _<_, _≤_}
 use borrow.Author.Needs.{needs}
 use borrow.Author.Tests.{eq-eqb, ne-eqb}
 use lib.ListN.{drop, length}
 use lib.Seq.{sets, sets-eq}
 use mathlib.Core.Bool.{Bool, false, true}
 use mathlib.Core.List.{_++_, List}
-use mathlib.Core.Path.{ap, refl, _∙_, _≡_}
+use mathlib.Core.Path.{ap, refl, sym, _∙_, _≡_}
 use native.Mathlib.Decide.{ℕ-discrete}
 use native.Mathlib.Omega.{arith}
 use Rattle.oplog.proofs.HeaderLaws.{end-is}
 use Rattle.order.proofs.TourLaws.{sound-listing}
 use Rattle.lists.proofs.BoolLaws.{tested}
-use Rattle.rules.specs.Answer.{accepted}
+use Rattle.rules.specs.Answer.{accepted, refused}
 use Rattle.rules.specs.Listing.{listing, listingOf, outline, refusedLine}
 use Rattle.rules.specs.File.{fileEnd, headerCounts, logOf, startOf, width}
 use Rattle.rules.specs.Path.{Written}
 use Rattle.rules.specs.Sound.{sound}
 use Rattle.rules.specs.Views.{keeping}
 use Rattle.view.proofs.ListingCases.{listing-put}
-use Rattle.view.proofs.PutCases.{put-all}
+use Rattle.view.proofs.PutCases.{put-all, put-short}
 use Rattle.view.specs.Answers.{putIn}
+use Rattle.view.specs.Tables.{putFront}
 use Rattle.view.specs.Claims.{OutlineFits}
 
-pub refused-written : (out : List ℕ) → 10 ≤ length out → sets out 0 refusedLine ≡ refusedLine ++ drop 10 out
-unfolding refusedLine
+refused-written : (out : List ℕ) → 10 ≤ length out → sets out 0 refusedLine ≡ putFront refusedLine out
+unfolding refusedLine putFront
 refused-written out h = sets-eq refusedLine out 0 h
 
-pub refused-size : length refusedLine ≡ 10
+refused-size : length refusedLine ≡ 10
 unfolding refusedLine
 refused-size = refl
+
+-- the line of a refused input
+module _ (out : List ℕ) where
+  pub refuse-short : length out < 10 → _≡_ {A = Written} (record { answer = refused 8; out = out }) (putIn refusedLine out)
+  refuse-short h = put-short refusedLine out 10 (sym refused-size) h
+
+  pub refuse-put :
+      10 ≤ length out → _≡_ {A = Written} (record { answer = accepted 10; out = sets out 0 refusedLine }) (putIn refusedLine out)
+  refuse-put h = put-all refusedLine out 10 (sym refused-size) h _ (refused-written out h)
 
 module _ (f : List ℕ) where
   pub outline-unsound : sound width f ≡ false → outline width f ≡ refusedLine
@@ -76,9 +86,11 @@ outline-size f = go (sound width f) refl
 -- lent so many bytes, the call puts the whole output in front
 pub outline-printed :
     (f out : List ℕ) → 24492 ≤ length out →
-    _≡_ {A = Written} (record { answer = accepted (length (outline width f)); out = outline width f ++ drop (length (outline width f)) out })
+    let text = outline width f in
+    _≡_ {A = Written} (record { answer = accepted (length text); out = text ++ drop (length text) out })
     (putIn (outline width f) out)
+unfolding putFront
 outline-printed f out h = let s = outline-size f in put-all (outline width f) out _ refl (omega arith) _ refl
 
 ---- what the code of printing needs: search printing
-pub ruleset printing = (needs, tested, print-unsound, print-long, print-listed)
+pub ruleset printing = (needs, tested, refuse-short, print-unsound, print-long, print-listed)

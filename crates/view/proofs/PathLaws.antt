@@ -14,8 +14,8 @@ use Rattle.rules.proofs.SlotLaws.{slot-below}
 use Rattle.rules.specs.File.{Log, countsOf}
 use Rattle.rules.specs.Replay.{parentsOf}
 use Rattle.rules.specs.Tree.{climb, depth, path, slots}
-use Rattle.view.proofs.TreePathLaws.{climb-at, root-way, table-size, up-none}
-use Rattle.view.specs.Answers.{Way}
+use Rattle.order.proofs.TreePathLaws.{climb-at, root-way, table-size, up-none}
+use Rattle.view.specs.Asked.{Way}
 
 module _ (log : Log) (good : GoodLog log) where
   pub way-of : (n : ℕ) → Named log (countsOf log) n → Way (parentsOf log) n (depth (parentsOf log) n)

@@ -1,27 +1,14 @@
 -- What a view shows of the preorder is the preorder of what it shows. Assumes nothing.
+use Rattle.lists.proofs.EachLaws.{kept-children, Each, each-map}
 use Prim.Native.Nat.{suc, zero, ℕ}
 use mathlib.Core.Bool.{_&&_, Bool, cond, false, true}
-use mathlib.Core.List.{_++_, List, [], map, _∷_}
+use mathlib.Core.List.{List, [], map, _∷_}
 use mathlib.Core.Path.{_≡_, refl, _∙_}
 use Rattle.lists.specs.Lists.{concat, filter}
 use Rattle.rules.specs.Listing.{children, preorder}
 use Rattle.rules.specs.File.{Log}
-use Rattle.lists.proofs.EachLaws.{Each, each-map}
 use Rattle.lists.proofs.FilterLaws.{filter-concat}
 use Rattle.view.proofs.TourLaws.{pre}
-
-kept-children : (g : ℕ → Bool) (b : Bool) (F G : ℕ → List ℕ) (cs : List ℕ) → Each (λ c. F c ≡ cond (b && g c) (G c) []) cs
-    → concat (map F cs) ≡ cond b (concat (map G (filter g cs))) []
-unfolding concat filter
-kept-children g true F G [] a = refl
-kept-children g false F G [] a = refl
-kept-children g false F G (c ∷ cs) a = rw (a .0) (kept-children g false F G cs (a .1))
-kept-children g true F G (c ∷ cs) a = go (g c) (a .0) (kept-children g true F G cs (a .1))
-  where
-    go : (t : Bool) → F c ≡ cond t (G c) [] → concat (map F cs) ≡ concat (map G (filter g cs))
-        → F c ++ concat (map F cs) ≡ concat (map G (cond t (c ∷ filter g cs) (filter g cs)))
-    go true e ih = rw (e, ih)
-    go false e ih = rw (e, ih)
 
 module _ (log : Log) (parents : List ℕ) (shows g : ℕ → Bool) (Node : ℕ → Type 0)
     (by-parent : (n : ℕ) → Node n → Each (λ c. Node c × (shows c ≡ (shows n && g c))) (children log parents n)) where

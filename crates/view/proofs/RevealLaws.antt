@@ -1,5 +1,6 @@
 -- Revealing every unmarked node and what is above it leaves hidden what the keeping view hides. Assumes nothing.
-use Prim.Native.Nat.{_+_, _<_, suc, zero, ℕ, _≤_}
+use Rattle.lists.proofs.BoolLaws.{and-turn, and-both, and-left, and-right, never, or-cases, not-not}
+use Prim.Native.Nat.{_+_, _-_, _<_, suc, zero, ℕ, _≤_}
 use borrow.Author.Tests.{eq-eqb, eqb-true, ne-eqb}
 use lib.Dec.{eqb, lit≤}
 use lib.ListN.{length-set, getD, getD-replicate, length, length-replicate, replicate, set}
@@ -14,7 +15,6 @@ use native.Mathlib.Omega.{arith}
 use Rattle.rules.proofs.ClimbLaws.{Depth, up, up-last}
 use Rattle.rules.proofs.KnownLaws.{Named, named-valid}
 use Rattle.replay.proofs.ClimbLaws.{parent-read}
-use Rattle.lists.proofs.BoolLaws.{and-both, and-left, and-right, never, or-cases, and-swap, not-not}
 use Rattle.rules.proofs.StructureLaws.{GoodLog}
 use Rattle.rules.proofs.SlotLaws.{Valid, slot-below, slot-injective, slot-root}
 use Rattle.lists.specs.Lists.{any, isIn, upFrom}
@@ -27,13 +27,13 @@ use Rattle.rules.specs.Marks.{tombstone}
 use Rattle.view.proofs.MarkLaws.{mark-tombstone}
 use Rattle.view.proofs.NodesLaws.{held-parent, nodes-slots, unheld-parent, valid-parent}
 use Rattle.lists.proofs.FilterLaws.{any-map-filter}
-use Rattle.view.proofs.SlotLaws.{node-valid, slot-positive, spot-below, spot-node, spot-valid}
-use Rattle.view.proofs.TreePathLaws.{depth-parent, no-cycle, path-closed, root-way, table-size}
-use Rattle.view.specs.Tables.{allHidden, entry, hiddenOf, marksOf, nodeAt, reveal, revealSlot, spot}
+use Rattle.view.proofs.SlotLaws.{node-valid, slot-positive, slot-in-below, slot-in-node, slot-in-valid}
+use Rattle.order.proofs.TreePathLaws.{depth-parent, no-cycle, path-closed, root-way, table-size}
+use Rattle.view.specs.Tables.{allHidden, atNode, hiddenOf, marksOf, nodeAt, reveal, revealSlot, slotIn}
 
 module _ (parents : List ℕ) (size : length parents ≡ 2041) where
   abbrev shows : List ℕ → ℕ → Bool
-  shows hidden n = eqb (entry hidden n) 0
+  shows hidden n = eqb (atNode hidden n) 0
 
   -- what is above a shown node of the way is shown
   abbrev Closed : List ℕ → ℕ → ℕ → Type 0
@@ -56,27 +56,27 @@ module _ (parents : List ℕ) (size : length parents ≡ 2041) where
       (or-cases (eqb m n) _ (rw (ne-eqb n 0 nz) at i))
 
   show-one : (hidden : List ℕ) (n m : ℕ) → length hidden ≡ 2041 → Valid n → Valid m
-      → shows (set hidden (spot n) 0) m ≡ (shows hidden m || eqb m n)
+      → shows (set hidden (slotIn n) 0) m ≡ (shows hidden m || eqb m n)
   show-one hidden n m l vn vm = elim (ℕ-discrete m n) [
-    | yes e ↦ rw (e, getD-set-same hidden (spot n) 0 0 (omega (arith, spot-below n)), eq-eqb n n refl) (sym (or-true (shows hidden n)))
+    | yes e ↦ rw (e, getD-set-same hidden (slotIn n) 0 0 (omega (arith, slot-in-below n)), eq-eqb n n refl) (sym (or-true (shows hidden n)))
     | no ne ↦ rw (
-      getD-set-other hidden (spot n) (spot m) 0 0
-          (λ q. ne (slot-injective m n vm vn (sym (spot-valid m vm) ∙ q ∙ spot-valid n vn))),
+      getD-set-other hidden (slotIn n) (slotIn m) 0 0
+          (λ q. ne (slot-injective m n vm vn (sym (slot-in-valid m vm) ∙ q ∙ slot-in-valid n vn))),
       ne-eqb m n ne,
     ) (sym (or-false (shows hidden m)))
   ]
 
-  parent-entry : (n : ℕ) → Valid n → entry parents n ≡ parentIn parents n
-  parent-entry n v = sym (parent-read parents n (spot n) (spot-valid n v) size (slot-below n v))
+  parent-entry : (n : ℕ) → Valid n → atNode parents n ≡ parentIn parents n
+  parent-entry n v = sym (parent-read parents n (slotIn n) (slot-in-valid n v) size (slot-below n v))
 
   reveal-size : (k : ℕ) (hidden : List ℕ) (n : ℕ) → length (reveal k parents hidden n) ≡ length hidden
   unfolding reveal
   reveal-size zero hidden n = refl
-  reveal-size (suc k) hidden n = go (eqb (entry hidden n) 0) (reveal-size k (set hidden (spot n) 0) (entry parents n) ∙ length-set hidden
-      (spot n) 0)
+  reveal-size (suc k) hidden n =
+      go (eqb (atNode hidden n) 0) (reveal-size k (set hidden (slotIn n) 0) (atNode parents n) ∙ length-set hidden (slotIn n) 0)
     where
-      go : (b : Bool) → length (reveal k parents (set hidden (spot n) 0) (entry parents n)) ≡ length hidden
-          → length (cond b hidden (reveal k parents (set hidden (spot n) 0) (entry parents n))) ≡ length hidden
+      go : (b : Bool) → length (reveal k parents (set hidden (slotIn n) 0) (atNode parents n)) ≡ length hidden
+          → length (cond b hidden (reveal k parents (set hidden (slotIn n) 0) (atNode parents n))) ≡ length hidden
       go true e = refl
       go false e = e
 
@@ -87,30 +87,30 @@ module _ (parents : List ℕ) (size : length parents ≡ 2041) where
 
   reveals-above : (k : ℕ) → Reveals k → (j : ℕ) (hidden : List ℕ) (n m : ℕ) → length hidden ≡ 2041 → Depth parents j n
       → ((i : ℕ) → i ≤ j → Valid (up parents i n)) → j < suc k → shows hidden 0 ≡ true → Closed hidden j n → Valid m
-      → shows hidden n ≡ false → shows (reveal k parents (set hidden (spot n) 0) (entry parents n)) m ≡ (shows hidden m
+      → shows hidden n ≡ false → shows (reveal k parents (set hidden (slotIn n) 0) (atNode parents n)) m ≡ (shows hidden m
       || isIn m (climb (suc k) parents n))
   unfolding climb isIn any up
   reveals-above k ih j hidden n m l d v h r c vm e =
       let vn : Valid n = v 0 (omega arith) in
       let nz : n ≡ 0 → ⊥ = λ z. never (sym e ∙ rw z r) in
       let (i, q, d′) = depth-parent parents j n d nz in
-      let closed′ : Closed (set hidden (spot n) 0) i (parentIn parents n) = λ t b s.
+      let closed′ : Closed (set hidden (slotIn n) 0) i (parentIn parents n) = λ t b s.
       rw (
         show-one hidden n (up parents (suc (suc t)) n) l vn (v (suc (suc t)) (omega arith)),
         c (suc t) (omega arith)
             (step t (omega arith) s),
       ) in
-      let r′ : shows (set hidden (spot n) 0) 0 ≡ true = rw (show-one hidden n 0 l vn (inl refl), r) in
+      let r′ : shows (set hidden (slotIn n) 0) 0 ≡ true = rw (show-one hidden n 0 l vn (inl refl), r) in
       rw (
         parent-entry n vn,
-        ih i (set hidden (spot n) 0) (parentIn parents n) m (length-set hidden (spot n) 0 ∙ l) d′
+        ih i (set hidden (slotIn n) 0) (parentIn parents n) m (length-set hidden (slotIn n) 0 ∙ l) d′
             (λ t b. v (suc t) (omega arith)) (omega arith) r′ closed′ vm,
         show-one hidden n m l vn vm,
         ne-eqb n 0 nz,
       )
       (or-assoc (shows hidden m) (eqb m n) (any (eqb m) (climb k parents (parentIn parents n))))
     where
-      step : (t : ℕ) → t < j → shows (set hidden (spot n) 0) (up parents (suc t) n) ≡ true → shows hidden (up parents (suc t) n) ≡ true
+      step : (t : ℕ) → t < j → shows (set hidden (slotIn n) 0) (up parents (suc t) n) ≡ true → shows hidden (up parents (suc t) n) ≡ true
       step t b s =
           let s′ : (shows hidden (up parents (suc t) n) || eqb (up parents (suc t) n) n) ≡ true = sym
           (show-one hidden n (up parents (suc t) n) l (v 0 (omega arith)) (v (suc t) b)) ∙ s in
@@ -130,16 +130,12 @@ module _ (parents : List ℕ) (size : length parents ≡ 2041) where
       absorb false false f = refl
 
       go : (b : Bool) → shows hidden n ≡ b → Reveals k
-          → shows (cond b hidden (reveal k parents (set hidden (spot n) 0) (entry parents n))) m ≡ (shows hidden m
+          → shows (cond b hidden (reveal k parents (set hidden (slotIn n) 0) (atNode parents n))) m ≡ (shows hidden m
           || isIn m (climb (suc k) parents n))
       go true e ih = absorb (shows hidden m) (isIn m (climb (suc k) parents n)) (all-shown hidden m (suc k) j n d h c e)
       go false e ih = reveals-above k ih j hidden n m l d v h r c vm e
 
 ---- all slots
-
-turned : (h i z : Bool) → (h && (i && z)) ≡ ((h && z) && i)
-turned false i z = refl
-turned true i z = and-swap i z
 
 module _ (log : Log) (good : GoodLog log) where
   abbrev P : List ℕ
@@ -155,7 +151,7 @@ module _ (log : Log) (good : GoodLog log) where
   unmarked k = held k && eqb (getD marks k 0) 0
 
   abbrev shows-in : List ℕ → ℕ → Bool
-  shows-in hidden n = eqb (entry hidden n) 0
+  shows-in hidden n = eqb (atNode hidden n) 0
 
   -- a set of nodes with all that is above them
   record Upward (S : ℕ → Bool) : Type 0 where
@@ -228,20 +224,21 @@ module _ (log : Log) (good : GoodLog log) where
   start-hidden : (m : ℕ) → Valid m → shows-in (set (replicate slots 1) 0 0) m ≡ eqb m 0
   start-hidden m (inl e) =
       let t : List ℕ = replicate slots 1 in
-      let z : spot m ≡ 0 = spot-valid m (inl e) ∙ slot-root m e in
+      let z : slotIn m ≡ 0 = slot-in-valid m (inl e) ∙ slot-root m e in
       eq-eqb _ 0 (ap (λ (i : ℕ). getD (set t 0 0) i 0) z ∙ getD-set-same t 0 0 0 (rw (length-replicate {A = ℕ} slots 1) (lit≤ tt)))
       ∙ sym (eq-eqb m 0 e)
   start-hidden m (inr v) =
       let p = slot-positive m v in
       rw (
-        spot-valid m (inr v),
+        slot-in-valid m (inr v),
         getD-set-other {A = ℕ} (replicate slots 1) 0 (slotOf m) 0 0 (λ e. omega arith),
         getD-replicate {A = ℕ} slots
             (slotOf m) 1 0 (slot-below m (inr v)),
       ) (sym (ne-eqb m 0 (λ e. omega arith)))
 
   unmarked-is : (k : ℕ) → 0 < k → k < 2041 → eqb (getD marks k 0) 0 ≡ not (tombstone log (countsOf log) (nodeAt k))
-  unmarked-is k p b = rw (← mark-tombstone log good (nodeAt k) (node-valid k p b), spot-node k p b) (sym (not-not (eqb (getD marks k 0) 0)))
+  unmarked-is k p b =
+      rw (← mark-tombstone log good (nodeAt k) (node-valid k p b), slot-in-node k p b) (sym (not-not (eqb (getD marks k 0) 0)))
 
   pub keeping-hidden : (m : ℕ) → Valid m → shows-in (hiddenOf P marks keeping) m ≡ shown keeping log P m
   unfolding hiddenOf allHidden shown atOrBelow
@@ -249,6 +246,14 @@ module _ (log : Log) (good : GoodLog log) where
       reveal-slots 2040 1 (omega arith) (omega arith) (set (replicate slots 1) 0 0) (λ m. eqb m 0)
       (length-set {A = ℕ} (replicate slots 1) 0 0 ∙ length-replicate {A = ℕ} slots 1) start-hidden
       (record { has-root = refl; upward = λ c w nz e. absurd (nz (eqb-true c 0 e)) }) m vm
-      ∙ ap (λ (b : Bool). eqb m 0 || b) (sym (ap (any (λ x. isIn m (path P x) && not (tombstone log (countsOf log) x))) (nodes-slots log good)
-      ∙ any-map-filter (λ x. isIn m (path P x) && not (tombstone log (countsOf log) x)) nodeAt held (λ k. unmarked k && isIn m (path P (nodeAt k))) 2040 1
-      (λ k l u. rw (unmarked-is k l (omega arith)) (turned (held k) (isIn m (path P (nodeAt k))) (not (tombstone log (countsOf log) (nodeAt k)))))))
+      ∙ ap (λ (b : Bool). eqb m 0 || b) (sym (ap (any below) (nodes-slots log good)
+      ∙ any-map-filter below nodeAt held (λ k. unmarked k && isIn m (path P (nodeAt k))) (slots - 1) 1 slot-is))
+    where
+      -- x lies at or below m, and has no tombstone
+      below : ℕ → Bool
+      below x = isIn m (path P x) && not (tombstone log (countsOf log) x)
+
+      slot-is : (k : ℕ) → 1 ≤ k → k < 1 + (slots - 1) → (held k && below (nodeAt k)) ≡ (unmarked k && isIn m (path P (nodeAt k)))
+      slot-is k l u =
+          rw (unmarked-is k l (omega arith))
+          (and-turn (held k) (isIn m (path P (nodeAt k))) (not (tombstone log (countsOf log) (nodeAt k))))

@@ -8,15 +8,15 @@ use mathlib.Core.Path.{refl, _∙_, _≡_}
 use native.Mathlib.Omega.{arith}
 use Rattle.rules.proofs.SlotLaws.{Valid, slot-below, slot-injective, slot-root}
 use Rattle.rules.specs.Tree.{slot, slotOf, slots}
-use Rattle.view.specs.Tables.{nodeAt, spot}
+use Rattle.view.specs.Tables.{nodeAt, slotIn}
 
-pub spot-valid : (n : ℕ) → Valid n → spot n ≡ slotOf n
-unfolding spot
-spot-valid n v = rw (lt-ltb (slotOf n) slots (slot-below n v))
+pub slot-in-valid : (n : ℕ) → Valid n → slotIn n ≡ slotOf n
+unfolding slotIn
+slot-in-valid n v = rw (lt-ltb (slotOf n) slots (slot-below n v))
 
-pub spot-below : (n : ℕ) → spot n < 2041
-unfolding spot
-spot-below n = go (ltb (slotOf n) slots) refl
+pub slot-in-below : (n : ℕ) → slotIn n < 2041
+unfolding slotIn
+slot-in-below n = go (ltb (slotOf n) slots) refl
   where
     go : (b : Bool) → ltb (slotOf n) slots ≡ b → cond b (slotOf n) 0 < 2041
     go true e = ltb-true _ _ e
@@ -32,8 +32,8 @@ slot-node k l u =
     let z : 256 * ((k - 1) / 255 + 1) + ((k - 1) % 255 + 1) ≡ 0 → ⊥ = λ e. omega arith in
     rw (ne-eqb k 0 (λ e. omega arith), ne-eqb _ 0 z) (omega arith)
 
-pub spot-node : (k : ℕ) → 0 < k → k < 2041 → spot (nodeAt k) ≡ k
-spot-node k l u = spot-valid (nodeAt k) (node-valid k l u) ∙ slot-node k l u
+pub slot-in-node : (k : ℕ) → 0 < k → k < 2041 → slotIn (nodeAt k) ≡ k
+slot-in-node k l u = slot-in-valid (nodeAt k) (node-valid k l u) ∙ slot-node k l u
 
 pub node-nonzero : (k : ℕ) → 0 < k → nodeAt k ≡ 0 → ⊥
 unfolding nodeAt

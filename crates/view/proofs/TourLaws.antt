@@ -10,7 +10,7 @@ use Rattle.lists.specs.Lists.{concat}
 use Rattle.rules.specs.Tree.{slots}
 use Rattle.lists.proofs.EachLaws.{Each}
 use Rattle.view.proofs.LinkLaws.{Chain, kids}
-use Rattle.view.specs.Tables.{Links, entry, entryOf, push, tour, tourOf}
+use Rattle.view.specs.Tables.{Links, atNode, entryOf, push, tour, tourOf, visited}
 
 ---- trees given by their children
 
@@ -30,7 +30,7 @@ record Group : Type 0 where
   members : List ℕ
 
 module _ (l : Links) (kids : ℕ → List ℕ) (T : ℕ → ℕ → List ℕ) (Good : ℕ → ℕ → Type 0)
-    (chain : (d n : ℕ) → Good d n → Chain (l .next) (entry (l .first) n) (kids n))
+    (chain : (d n : ℕ) → Good d n → Chain (l .next) (atNode (l .first) n) (kids n))
     (opens : (d n : ℕ) → Good d n → T d n ≡ entryOf n d ∷ concat (map (T (suc d)) (kids n)))
     (below : (d n : ℕ) → Good d n → Each (Good (suc d)) (kids n))
     (small : (d n : ℕ) → Good d n → d < 65535) where
@@ -44,7 +44,7 @@ module _ (l : Links) (kids : ℕ → List ℕ) (T : ℕ → ℕ → List ℕ) (G
 
   abbrev Fine : ℕ → List ℕ → Type 0
   Fine d [] = Unit {0}
-  Fine d (x ∷ xs) = Good d x × Each (Good d) xs × Chain (l .next) (entry (l .next) x) xs
+  Fine d (x ∷ xs) = Good d x × Each (Good d) xs × Chain (l .next) (atNode (l .next) x) xs
 
   abbrev Right : List Group → Type 0
   Right [] = Unit {0}
@@ -72,16 +72,16 @@ module _ (l : Links) (kids : ℕ → List ℕ) (T : ℕ → ℕ → List ℕ) (G
   Tours k = (gs : List Group) → Right gs → length (flat gs) ≤ k → tour k l (heads gs) ≡ flat gs
 
   module _ (k : ℕ) (ih : Tours k) (gs : List Group) (r : Right gs) (d x : ℕ) (xs : List ℕ) (good : Good d x) (a : Each (Good d) xs)
-      (c : Chain (l .next) (entry (l .next) x) xs) where
+      (c : Chain (l .next) (atNode (l .next) x) xs) where
     abbrev after : List Group
     after = (record { depth = suc d; members = kids x }) ∷ (record { depth = d; members = xs }) ∷ gs
 
     right-after : Right after
     right-after = (fine-of (suc d) _ (kids x) (below d x good) (chain d x good), (fine-of d _ xs a c, r))
 
-    heads-after : heads after ≡ push (entry (l .first) x) (suc d) (push (entry (l .next) x) d (heads gs))
-    heads-after = push-top (suc d) (entry (l .first) x) (kids x) (top d xs (heads gs)) (chain d x good)
-        ∙ ap (push (entry (l .first) x) (suc d)) (push-top d (entry (l .next) x) xs (heads gs) c)
+    heads-after : heads after ≡ push (atNode (l .first) x) (suc d) (push (atNode (l .next) x) d (heads gs))
+    heads-after = push-top (suc d) (atNode (l .first) x) (kids x) (top d xs (heads gs)) (chain d x good)
+        ∙ ap (push (atNode (l .first) x) (suc d)) (push-top d (atNode (l .next) x) xs (heads gs) c)
 
     flat-after : concat (map (T d) (x ∷ xs)) ++ flat gs ≡ entryOf x d ∷ flat after
     unfolding concat
@@ -89,7 +89,7 @@ module _ (l : Links) (kids : ℕ → List ℕ) (T : ℕ → ℕ → List ℕ) (G
         (flat gs)))
 
     tour-step : tour (suc k) l (entryOf x d ∷ heads gs) ≡ entryOf x d ∷ tour k l (heads after)
-    unfolding tour
+    unfolding tour visited
     tour-step = rw (node-back x d (small d x good), depth-back x d (small d x good), depth-next d (small d x good), heads-after)
 
     tour-one : length (concat (map (T d) (x ∷ xs)) ++ flat gs) ≤ suc k
@@ -123,7 +123,7 @@ module _ (l : Links) (kids : ℕ → List ℕ) (T : ℕ → ℕ → List ℕ) (G
   tour-all (suc k) gs r h = tour-suc k (λ gs r h. tour-all k gs r h) gs r h
 
   -- the tour from the root
-  pub tour-root : Good 0 0 → entry (l .next) 0 ≡ 0 → length (T 0 0) ≤ slots → tourOf l ≡ T 0 0
+  pub tour-root : Good 0 0 → atNode (l .next) 0 ≡ 0 → length (T 0 0) ≤ slots → tourOf l ≡ T 0 0
   unfolding tourOf concat
   tour-root good e h =
       let a : (T 0 0 ++ []) ++ [] ≡ T 0 0 = append-nil (T 0 0 ++ []) ∙ append-nil (T 0 0) in

@@ -2,7 +2,7 @@
 use Prim.Native.Nat.{ℕ}
 use borrow.Author.Tests.{ne-eqb}
 use lib.Dec.{eqb}
-use mathlib.Core.Bool.{_&&_, not, or-true, true}
+use mathlib.Core.Bool.{_&&_, Bool, not, or-true, true}
 use mathlib.Core.List.{List}
 use mathlib.Core.Logic.{inl, inr}
 use mathlib.Core.Path.{refl, sym, _∙_, _≡_}
@@ -17,8 +17,8 @@ use Rattle.rules.specs.Tree.{atOrBelow, path}
 use Rattle.rules.specs.Views.{View, keeping, nodes, shown, skipping}
 use Rattle.rules.specs.Marks.{tombstone}
 use Rattle.lists.proofs.MemberLaws.{any-more}
-use Rattle.view.proofs.TombstoneLaws.{root-unmarked}
-use Rattle.view.proofs.TreePathLaws.{Under, known-nonzero, nodes-known, path-child, path-closed, path-root}
+use Rattle.order.proofs.TombstoneLaws.{root-unmarked}
+use Rattle.order.proofs.TreePathLaws.{Under, known-nonzero, nodes-known, path-child, path-closed, path-root}
 
 module _ (log : Log) (good : GoodLog log) where
   abbrev P : List ℕ
@@ -34,17 +34,22 @@ module _ (log : Log) (good : GoodLog log) where
   skipping-path n (inl e) = rw (e, path-root log good, root-unmarked log good)
   skipping-path n (inr e) = rw (ne-eqb n 0 (known-nonzero log good n e))
 
-  pub skipping-child : (n c : ℕ) → Node n → Under log good n c → shown skipping log P c ≡ (shown skipping log P n && not (tombstone log (countsOf log) c))
+  pub skipping-child : (n c : ℕ) → Node n → Under log good n c
+      → shown skipping log P c ≡ (shown skipping log P n && not (tombstone log (countsOf log) c))
   unfolding all
   skipping-child n c w u = skipping-path c (u .node) ∙ rw (path-child log good n c u, skipping-path n w)
       (and-swap (not (tombstone log (countsOf log) c)) (all (λ m. not (tombstone log (countsOf log) m)) (path P n)))
 
   ---- the keeping view
 
+  -- m lies at or below n, and has no tombstone
+  abbrev unmarkedBelow : ℕ → ℕ → Bool
+  unmarkedBelow n m = isIn n (path P m) && not (tombstone log (countsOf log) m)
+
   pub keeping-child : (n c : ℕ) → Under log good n c → shown keeping log P c ≡ true → shown keeping log P n ≡ true
   unfolding shown atOrBelow
   keeping-child n c u e =
-      rw (any-more (λ m. isIn c (path P m) && not (tombstone log (countsOf log) m)) (λ m. isIn n (path P m) && not (tombstone log (countsOf log) m)) (nodes log) (λ m i h.
+      rw (any-more (unmarkedBelow c) (unmarkedBelow n) (nodes log) (λ m i h.
       let k : known log (countsOf log) m ≡ true = sym (nodes-known log good m) ∙ i in
       and-both (rw (u .parent) at (path-closed log good m c (inr k) (and-left (isIn c (path P m)) _ h) (u .below-root)))
       (and-right (isIn c (path P m)) _ h))

@@ -18,7 +18,7 @@ use Rattle.rules.specs.Views.{View, keeping, nodes, shown, skipping}
 use Rattle.rules.specs.Marks.{tombstone}
 use Rattle.lists.proofs.AllLaws.{all-true}
 use Rattle.lists.proofs.MemberLaws.{any-in}
-use Rattle.view.proofs.TreePathLaws.{Under, known-nonzero, named-parent, nodes-known, path-child}
+use Rattle.order.proofs.TreePathLaws.{Under, known-nonzero, named-parent, nodes-known, path-child}
 use Rattle.view.proofs.ViewLaws.{keeping-child, root-shown, skipping-child}
 use Rattle.view.specs.Claims.{AllShown, ParentsShown, SkippingWithin}
 
@@ -51,7 +51,8 @@ module _ (log : Log) (good : GoodLog log) where
   unfolding shown
   all-shown e keeping n (inl z) = rw z
   all-shown e keeping n (inr k) = unmarked-kept n k (nothing-marked e n)
-  all-shown e skipping n w = rw (all-true (λ m. not (tombstone log (countsOf log) m)) (path P n) (λ m. rw (nothing-marked e m))) (or-true (eqb n 0))
+  all-shown e skipping n w =
+      rw (all-true (λ m. not (tombstone log (countsOf log) m)) (path P n) (λ m. rw (nothing-marked e m))) (or-true (eqb n 0))
 
   skipping-kept : (n : ℕ) → Named log (countsOf log) n → shown skipping log P n ≡ true → shown keeping log P n ≡ true
   skipping-kept n (inl z) s = rw z (root-shown log good keeping)

@@ -1,3 +1,4 @@
 pub mod Answers
 pub mod Tables
+pub mod Asked
 pub mod Claims

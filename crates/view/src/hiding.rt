@@ -1,22 +1,24 @@
 use crate::slots::node_at;
-use crate::slots::spot_of;
+use crate::slots::slot_in;
+use replay::NO_PARENT;
+use replay::SLOTS;
 ghost use mathlib.Core.Path.{_≡_};
 ghost use mathlib.Core.List.{foldl};
-ghost use Prim.Native.Nat.{_<_};
-ghost use lib.ListN.{length};
+ghost use Prim.Native.Nat.{_-_};
 ghost use Rattle.lists.specs.Lists.{upFrom};
 ghost use Rattle.rules.specs.Tree.{slots};
+ghost use Rattle.view.specs.Asked.{RevealSized, HidingSized, HidingAt};
 ghost use Rattle.view.specs.Tables as tables;
 
 // Shows a node and what is above it, up to the first that is shown already: what is above that
 // one was shown with it.
 fn reveal(parents: &[u16], hidden: &mut [u8], node: u16)
-    requires { ⌜ (length (now parents) ≡ 2041) × (length (now hidden) ≡ 2041) ⌝ }
+    requires { ⌜ RevealSized (now parents) (now hidden) ⌝ }
     ensures { λ _. ⌜ now (hidden .exit) ≡ tables.reveal slots (now (parents .entry)) (now (hidden .entry)) node ⌝ }
 {
     let mut at = node;
-    for i in 0..2041usize {
-        let slot = spot_of(at);
+    for i in 0..SLOTS {
+        let slot = slot_in(at);
         if hidden[slot] == 0 {
             return;
         }
@@ -27,10 +29,11 @@ fn reveal(parents: &[u16], hidden: &mut [u8], node: u16)
 
 // Shows the node of a slot, if there is one and it is unmarked.
 fn reveal_slot(parents: &[u16], marks: &[u8], hidden: &mut [u8], slot: usize)
-    requires { ⌜ (length (now parents) ≡ 2041) × (length (now marks) ≡ 2041) × (length (now hidden) ≡ 2041) × (slot < 2041) ⌝ }
-    ensures { λ _. ⌜ now (hidden .exit) ≡ tables.revealSlot (now (parents .entry)) (now (marks .entry)) (now (hidden .entry)) slot ⌝ }
+    requires { ⌜ HidingAt (now parents) (now marks) (now hidden) slot ⌝ }
+    ensures { λ _. ⌜ now (hidden .exit)
+        ≡ tables.revealSlot (now (parents .entry)) (now (marks .entry)) (now (hidden .entry)) slot ⌝ }
 {
-    if parents[slot] == 65535 {
+    if parents[slot] == NO_PARENT {
         return;
     }
     if marks[slot] != 0 {
@@ -42,10 +45,11 @@ fn reveal_slot(parents: &[u16], marks: &[u8], hidden: &mut [u8], slot: usize)
 // Shows every unmarked node and what is above it. No node is shown twice, so all climbs together
 // are linear.
 pub(crate) fn reveal_all(parents: &[u16], marks: &[u8], hidden: &mut [u8])
-    requires { ⌜ (length (now parents) ≡ 2041) × (length (now marks) ≡ 2041) × (length (now hidden) ≡ 2041) ⌝ }
-    ensures { λ _. ⌜ now (hidden .exit) ≡ foldl (tables.revealSlot (now (parents .entry)) (now (marks .entry))) (now (hidden .entry)) (upFrom 1 2040) ⌝ }
+    requires { ⌜ HidingSized (now parents) (now marks) (now hidden) ⌝ }
+    ensures { λ _. ⌜ now (hidden .exit)
+        ≡ foldl (tables.revealSlot (now (parents .entry)) (now (marks .entry))) (now (hidden .entry)) (upFrom 1 (slots - 1)) ⌝ }
 {
-    for slot in 1..2041usize {
+    for slot in 1..SLOTS {
         reveal_slot(parents, marks, hidden, slot);
     }
 }

@@ -1,27 +1,35 @@
 use crate::answer::View;
 use crate::hiding::reveal_all;
 use crate::slots::node_at;
-use crate::slots::spot_of;
+use crate::slots::slot_in;
+use replay::NO_PARENT;
+use replay::SLOTS;
 ghost use mathlib.Core.Path.{_≡_};
 ghost use mathlib.Core.List.{foldl};
-ghost use Prim.Native.Nat.{_<_};
+ghost use Prim.Native.Nat.{_-_};
 ghost use Rattle.lists.specs.Lists.{downFrom};
-ghost use Rattle.view.specs.Answers.{viewOf, Sized};
+ghost use Rattle.rules.specs.Tree.{slots};
+ghost use Rattle.view.specs.Answers.{viewOf};
+ghost use Rattle.view.specs.Asked.{TourSized, LinkableAt};
 ghost use Rattle.view.specs.Tables.{links, linkSlot, hiddenOf};
+
+// The last slot of a table.
+const LAST: usize = SLOTS - 1;
 
 // Puts the node of a slot before its siblings, if there is one and it is not hidden.
 fn link_slot(parents: &[u16], hidden: &[u8], slot: usize, first: &mut [u16], next: &mut [u16])
-    requires { ⌜ Sized (now parents) (now hidden) (now first) (now next) × (slot < 2041) ⌝ }
-    ensures { λ _. ⌜ links (now (first .exit)) (now (next .exit)) ≡ linkSlot (now (parents .entry)) (now (hidden .entry)) (links (now (first .entry)) (now (next .entry))) slot ⌝ }
+    requires { ⌜ LinkableAt (now parents) (now hidden) (now first) (now next) slot ⌝ }
+    ensures { λ _. ⌜ links (now (first .exit)) (now (next .exit))
+        ≡ linkSlot (now (parents .entry)) (now (hidden .entry)) (links (now (first .entry)) (now (next .entry))) slot ⌝ }
 {
     let parent = parents[slot];
-    if parent == 65535 {
+    if parent == NO_PARENT {
         return;
     }
     if hidden[slot] != 0 {
         return;
     }
-    let head = spot_of(parent);
+    let head = slot_in(parent);
     next[slot] = first[head];
     first[head] = node_at(slot);
 }
@@ -29,11 +37,13 @@ fn link_slot(parents: &[u16], hidden: &[u8], slot: usize, first: &mut [u16], nex
 // Links each node to its first child and its next sibling. The last slot comes first, so that
 // children rise.
 fn link(parents: &[u16], hidden: &[u8], first: &mut [u16], next: &mut [u16])
-    requires { ⌜ Sized (now parents) (now hidden) (now first) (now next) ⌝ }
-    ensures { λ _. ⌜ links (now (first .exit)) (now (next .exit)) ≡ foldl (linkSlot (now (parents .entry)) (now (hidden .entry))) (links (now (first .entry)) (now (next .entry))) (downFrom 2040) ⌝ }
+    requires { ⌜ TourSized (now parents) (now hidden) (now first) (now next) ⌝ }
+    ensures { λ _. ⌜ links (now (first .exit)) (now (next .exit))
+        ≡ foldl (linkSlot (now (parents .entry)) (now (hidden .entry)))
+        (links (now (first .entry)) (now (next .entry))) (downFrom (slots - 1)) ⌝ }
 {
-    for i in 0..2040usize {
-        link_slot(parents, hidden, 2040 - i, first, next);
+    for i in 0..LAST {
+        link_slot(parents, hidden, LAST - i, first, next);
     }
 }
 
@@ -46,8 +56,10 @@ pub(crate) fn link_view(
     first: &mut [u16],
     next: &mut [u16],
 )
-    requires { ⌜ Sized (now parents) (now marks) (now first) (now next) ⌝ }
-    ensures { λ _. ⌜ links (now (first .exit)) (now (next .exit)) ≡ foldl (linkSlot (now (parents .entry)) (hiddenOf (now (parents .entry)) (now (marks .entry)) (viewOf view))) (links (now (first .entry)) (now (next .entry))) (downFrom 2040) ⌝ }
+    requires { ⌜ TourSized (now parents) (now marks) (now first) (now next) ⌝ }
+    ensures { λ _. ⌜ links (now (first .exit)) (now (next .exit))
+        ≡ foldl (linkSlot (now (parents .entry)) (hiddenOf (now (parents .entry)) (now (marks .entry)) (viewOf view)))
+        (links (now (first .entry)) (now (next .entry))) (downFrom (slots - 1)) ⌝ }
 {
     match view {
         View::Skipping => {
@@ -55,7 +67,7 @@ pub(crate) fn link_view(
             return;
         }
         View::Keeping => {
-            let mut hidden = [1u8; 2041];
+            let mut hidden = [1u8; SLOTS];
             hidden[0] = 0;
             reveal_all(parents, marks, &mut hidden);
             link(parents, &hidden, first, next);

@@ -6,33 +6,43 @@ use crate::marking::mark_ops;
 use crate::touring::tour;
 use codec::Answer;
 use codec::Refusal;
+use replay::SLOTS;
 use replay::replay_all;
 use soundness::WIDTH;
 use soundness::is_sound;
 ghost use mathlib.Core.Path.{_≡_};
-ghost use mathlib.Core.Bool.{true};
 ghost use Prim.Native.Nat.{_≤_};
-ghost use lib.ListN.{length, take};
+ghost use lib.ListN.{take};
 ghost use Rattle.rules.specs.File.{width, logOf};
-ghost use Rattle.rules.specs.Sound.{sound};
+ghost use Rattle.rules.specs.Tree.{slots};
 ghost use Rattle.codec.specs.Answers.{answerOf};
-ghost use Rattle.view.specs.Answers.{viewOf, putIn, Arranged};
-ghost use Rattle.view.specs.Tables.{noMarks, marksOf, orderOf, linesOf};
+ghost use Rattle.view.specs.Answers.{viewOf, putIn};
+ghost use Rattle.view.specs.Asked.{Orderable, Arrangeable, Arranged};
+ghost use Rattle.view.specs.Tables.{marksOf, orderBy, orderOf, linesOf};
 ghost use Rattle.rules.specs.Listing as rules;
 
-// Arranges the nodes that a view shows, and marks those with a tombstone.
-fn arrange(file: &[u8], view: View, marks: &mut [u8], order: &mut [u32]) -> usize
-    requires { ⌜ (sound width (now file) ≡ true) × (length (now order) ≡ 2041) × (now marks ≡ noMarks) ⌝ }
-    ensures { λ r. ⌜ (now (marks .exit) ≡ marksOf (logOf width (now (file .entry)))) × (take r (now (order .exit)) ≡ orderOf (logOf width (now (file .entry))) (viewOf view)) × (r ≤ 2041) ⌝ }
+// Arranges the nodes that a view shows of a tree with marks.
+fn order_view(parents: &[u16], marks: &[u8], view: View, order: &mut [u32]) -> usize
+    requires { ⌜ Orderable (now parents) (now marks) (now order) ⌝ }
+    ensures { λ r. ⌜ (take r (now (order .exit)) ≡ orderBy (now (parents .entry)) (now (marks .entry)) (viewOf view)) × (r ≤ slots) ⌝ }
 {
-    let mut parents = [0u16; 2041];
-    let mut outcomes = [0u8; 2041];
+    let mut first = [0u16; SLOTS];
+    let mut next = [0u16; SLOTS];
+    link_view(parents, marks, view, &mut first, &mut next);
+    tour(&first, &next, order)
+}
+
+// Arranges the nodes that a view shows, and marks those with a tombstone.
+fn arrange_view(file: &[u8], view: View, marks: &mut [u8], order: &mut [u32]) -> usize
+    requires { ⌜ Arrangeable (now file) (now marks) (now order) ⌝ }
+    ensures { λ r. ⌜ (now (marks .exit) ≡ marksOf (logOf width (now (file .entry))))
+        × (take r (now (order .exit)) ≡ orderOf (logOf width (now (file .entry))) (viewOf view)) × (r ≤ slots) ⌝ }
+{
+    let mut parents = [0u16; SLOTS];
+    let mut outcomes = [0u8; SLOTS];
     replay_all(file, &mut parents, &mut outcomes, WIDTH);
     mark_ops(file, marks);
-    let mut first = [0u16; 2041];
-    let mut next = [0u16; 2041];
-    link_view(&parents, marks, view, &mut first, &mut next);
-    tour(&first, &next, order)
+    order_view(&parents, marks, view, order)
 }
 
 // Writes the lines of arranged nodes into lent bytes, if they are enough.
@@ -57,8 +67,8 @@ pub fn listing(file: &[u8], view: View, out: &mut [u8]) -> Answer
     if !is_sound(file) {
         return Answer::Refused(Refusal::Unsound);
     }
-    let mut marks = [0u8; 2041];
-    let mut order = [0u32; 2041];
-    let count = arrange(file, view, &mut marks, &mut order);
+    let mut marks = [0u8; SLOTS];
+    let mut order = [0u32; SLOTS];
+    let count = arrange_view(file, view, &mut marks, &mut order);
     put_lines(&order, count, &marks, out)
 }

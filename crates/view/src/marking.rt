@@ -1,28 +1,25 @@
-use crate::slots::spot_of;
+use crate::slots::slot_in;
 use codec::word_at;
 use oplog::Marker;
 use oplog::place;
 use soundness::WIDTH;
 ghost use mathlib.Core.Path.{_≡_};
-ghost use mathlib.Core.Bool.{true};
 ghost use mathlib.Core.List.{foldl};
-ghost use lib.ListN.{length};
 ghost use Rattle.lists.specs.Lists.{concat};
 ghost use Rattle.rules.specs.File.{width, logOf, opAt};
-ghost use Rattle.rules.specs.Log.{laid};
-ghost use Rattle.oplog.specs.Spots.{Spot};
-ghost use Rattle.view.specs.Tables.{mark};
+ghost use Rattle.view.specs.Asked.{Markable, MarkableAt, MarkableFrom};
+ghost use Rattle.view.specs.Tables.{mark, markAt};
 
 // The effect of an op on the marks: a remove marks its node.
 fn mark_op(file: &[u8], s: usize, q: usize, marks: &mut [u8])
-    requires { ⌜ Spot width (now file) s q × (length (now marks) ≡ 2041) ⌝ }
+    requires { ⌜ MarkableAt (now file) s q (now marks) ⌝ }
     ensures { λ _. ⌜ now (marks .exit) ≡ mark (now (marks .entry)) (opAt (logOf width (now (file .entry))) s q) ⌝ }
 {
     let at = place(file, s, q, WIDTH);
     let kind = file[at];
     match kind {
         2 => {
-            let slot = spot_of(word_at(file, at + 2));
+            let slot = slot_in(word_at(file, at + 2));
             marks[slot] = 1;
             return;
         }
@@ -35,16 +32,25 @@ fn mark_op(file: &[u8], s: usize, q: usize, marks: &mut [u8])
     }
 }
 
+// The effect of the op at a marker, if there is one.
+fn mark_held(file: &[u8], m: Marker, marks: &mut [u8])
+    requires { ⌜ MarkableFrom (now file) m (now marks) ⌝ }
+    ensures { λ _. ⌜ now (marks .exit) ≡ markAt (now (file .entry)) (now (marks .entry)) (m .replica) (m .sequence) ⌝ }
+{
+    if !m.held(file) {
+        return;
+    }
+    mark_op(file, m.replica, m.sequence, marks);
+}
+
 // Marks every node that an op of the file removes, by a marker through the file.
 pub(crate) fn mark_ops(file: &[u8], marks: &mut [u8])
-    requires { ⌜ (laid width (now file) ≡ true) × (length (now marks) ≡ 2041) ⌝ }
+    requires { ⌜ Markable (now file) (now marks) ⌝ }
     ensures { λ _. ⌜ now (marks .exit) ≡ foldl mark (now (marks .entry)) (concat (logOf width (now (file .entry)))) ⌝ }
 {
     let mut m = Marker::first();
     while m.replica <= 8 {
-        if m.held(file) {
-            mark_op(file, m.replica, m.sequence, marks);
-        }
+        mark_held(file, m, marks);
         m = m.next(file);
     }
 }

@@ -2,25 +2,25 @@ use codec::Answer;
 use codec::Refusal;
 use oplog::counts_of;
 use oplog::known_parent;
+use replay::SLOTS;
 use replay::depth_of;
 use replay::replay_all;
 use replay::slot_of;
 use soundness::WIDTH;
 use soundness::is_sound;
 ghost use mathlib.Core.Path.{_≡_};
-ghost use mathlib.Core.List.{_++_};
-ghost use Prim.Native.Nat.{_+_, _<_};
-ghost use lib.ListN.{length, drop};
 ghost use Rattle.rules.specs.File.{width};
 ghost use Rattle.rules.specs.Path.{pathCall};
 ghost use Rattle.codec.specs.Answers.{answerOf};
-ghost use Rattle.view.specs.Answers.{putIn, Way, Present};
+ghost use Rattle.view.specs.Answers.{putIn};
+ghost use Rattle.view.specs.Asked.{Way, WayOut, Present};
+ghost use Rattle.view.specs.Tables.{putFront};
 ghost use Rattle.rules.specs.Tree as tree;
 
 // Writes a node, its parent, and so on to the root.
 fn write_path(parents: &[u16], node: u16, steps: usize, out: &mut [u16])
-    requires { ⌜ Way (now parents) node steps × (steps < length (now out)) ⌝ }
-    ensures { λ _. ⌜ now (out .exit) ≡ tree.path (now (parents .entry)) node ++ drop (steps + 1) (now (out .entry)) ⌝ }
+    requires { ⌜ WayOut (now parents) node steps (now out) ⌝ }
+    ensures { λ _. ⌜ now (out .exit) ≡ putFront (tree.path (now (parents .entry)) node) (now (out .entry)) ⌝ }
 {
     let mut at = node;
     for i in 0..steps {
@@ -51,8 +51,8 @@ fn put_path_now(file: &[u8], node: u16, out: &mut [u16]) -> Answer
     ensures { λ r. ⌜ record { answer = answerOf r; out = now (out .exit) }
         ≡ pathCall width (now (file .entry)) node (now (out .entry)) ⌝ }
 {
-    let mut parents = [0u16; 2041];
-    let mut outcomes = [0u8; 2041];
+    let mut parents = [0u16; SLOTS];
+    let mut outcomes = [0u8; SLOTS];
     replay_all(file, &mut parents, &mut outcomes, WIDTH);
     put_path(&parents, node, out)
 }

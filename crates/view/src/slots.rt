@@ -1,14 +1,16 @@
+use replay::SLOTS;
 use replay::slot_of;
 ghost use mathlib.Core.Path.{_≡_};
 ghost use Prim.Native.Nat.{_<_};
-ghost use Rattle.view.specs.Tables.{spot, nodeAt};
+ghost use Rattle.rules.specs.Tree.{slots};
+ghost use Rattle.view.specs.Tables.{slotIn, nodeAt};
 
 // The slot of a node, and 0 for a number without one: a slot that a table always has.
-pub(crate) fn spot_of(node: u16) -> usize
-    ensures { λ r. ⌜ (r ≡ spot node) × (r < 2041) ⌝ }
+pub(crate) fn slot_in(node: u16) -> usize
+    ensures { λ r. ⌜ (r ≡ slotIn node) × (r < slots) ⌝ }
 {
     let slot = slot_of(node);
-    if slot < 2041 {
+    if slot < SLOTS {
         return slot;
     }
     0
@@ -16,7 +18,7 @@ pub(crate) fn spot_of(node: u16) -> usize
 
 // The node of a slot.
 pub(crate) fn node_at(slot: usize) -> u16
-    requires { ⌜ slot < 2041 ⌝ }
+    requires { ⌜ slot < slots ⌝ }
     ensures { λ r. ⌜ r ≡ nodeAt slot ⌝ }
 {
     if slot == 0 {

@@ -1,11 +1,16 @@
-use crate::slots::spot_of;
+use crate::slots::slot_in;
+use replay::SLOTS;
 use std::num::wrapping_add_u16;
 ghost use mathlib.Core.Path.{_≡_};
 ghost use mathlib.Core.List.{_++_};
-ghost use Prim.Native.Nat.{_+_, _*_, _/_, _%_, _<_, _≤_};
+ghost use Prim.Native.Nat.{_+_, _*_, _/_, _%_, _≤_};
 ghost use lib.ListN.{length, drop};
-ghost use Rattle.view.specs.Tables.{links, tourOf};
+ghost use Rattle.view.specs.Asked.{Pushable, Visitable, Tourable};
+ghost use Rattle.view.specs.Tables.{links, tourOf, visited};
 ghost use Rattle.view.specs.Tables as tables;
+
+// How many entries the stack has: one for each slot, and one that is never used.
+const STACK: usize = SLOTS + 1;
 
 // An entry of a tour: a node with its depth.
 fn entry_of(node: u16, depth: u16) -> u32
@@ -28,8 +33,9 @@ pub(crate) fn depth_in(entry: u32) -> u16
 
 // Puts a node on a stack that grows towards its front.
 fn push(stack: &mut [u32], top: usize, node: u16, depth: u16) -> usize
-    requires { ⌜ (0 < top) × (top ≤ length (now stack)) ⌝ }
-    ensures { λ r. ⌜ (drop r (now (stack .exit)) ≡ tables.push node depth (drop top (now (stack .entry)))) × (r ≤ top) × (top ≤ r + 1) ⌝ }
+    requires { ⌜ Pushable (now stack) top ⌝ }
+    ensures { λ r. ⌜ (drop r (now (stack .exit)) ≡ tables.push node depth (drop top (now (stack .entry))))
+        × (r ≤ top) × (top ≤ r + 1) ⌝ }
 {
     if node == 0 {
         return top;
@@ -39,24 +45,35 @@ fn push(stack: &mut [u32], top: usize, node: u16, depth: u16) -> usize
     place
 }
 
+// Takes the top entry from the stack, and puts its next sibling and then its first child there.
+fn visit(first: &[u16], next: &[u16], entry: u32, stack: &mut [u32], top: usize) -> usize
+    requires { ⌜ Visitable (now first) (now next) (now stack) top ⌝ }
+    ensures { λ r. ⌜ (drop r (now (stack .exit))
+        ≡ visited (links (now (first .entry)) (now (next .entry))) entry (drop (top + 1) (now (stack .entry))))
+        × (r ≤ top + 1) × (top ≤ r + 1) ⌝ }
+{
+    let slot = slot_in(node_in(entry));
+    let depth = depth_in(entry);
+    let rest = push(stack, top + 1, next[slot], depth);
+    push(stack, rest, first[slot], wrapping_add_u16(depth, 1))
+}
+
 // The nodes from the root on in preorder, with their depths; answers how many there are. The
 // stack has the first of the siblings that are left, for each level that the tour is in.
 pub(crate) fn tour(first: &[u16], next: &[u16], order: &mut [u32]) -> usize
-    requires { ⌜ (length (now first) ≡ 2041) × (length (now next) ≡ 2041) × (length (now order) ≡ 2041) ⌝ }
-    ensures { λ r. ⌜ (r ≡ length (tourOf (links (now (first .entry)) (now (next .entry))))) × (now (order .exit) ≡ tourOf (links (now (first .entry)) (now (next .entry))) ++ drop r (now (order .entry))) ⌝ }
+    requires { ⌜ Tourable (now first) (now next) (now order) ⌝ }
+    ensures { λ r. ⌜ (r ≡ length (tourOf (links (now (first .entry)) (now (next .entry)))))
+        × (now (order .exit) ≡ tourOf (links (now (first .entry)) (now (next .entry))) ++ drop r (now (order .entry))) ⌝ }
 {
-    let mut stack = [0u32; 2042];
-    let mut top: usize = 2041;
-    for i in 0..2041usize {
-        if top == 2042 {
+    let mut stack = [0u32; STACK];
+    let mut top: usize = SLOTS;
+    for i in 0..SLOTS {
+        if top == STACK {
             return i;
         }
         let entry = stack[top];
         order[i] = entry;
-        let slot = spot_of(node_in(entry));
-        let depth = depth_in(entry);
-        let rest = push(&mut stack, top + 1, next[slot], depth);
-        top = push(&mut stack, rest, first[slot], wrapping_add_u16(depth, 1));
+        top = visit(first, next, entry, &mut stack, top);
     }
-    2041
+    SLOTS
 }

@@ -5,7 +5,7 @@ use native.Mathlib.Omega.{arith}
 use lib.ListN.{length, length-set}
 use denote.Ref.{now}
 use Rattle.rules.specs.Listing.{decimal}
-use Rattle.pen.proofs.DigitLaws.{toWrite, write-all, write-turn, write-end}
+use Rattle.rules.proofs.DecimalLaws.{toWrite, write-all, write-turn, write-end}
 use Rattle.pen.proofs.decimal.put_decimal.Statement.{statement}
 use Rattle.pen.proofs.decimal.put_decimal.Tie as tie
 

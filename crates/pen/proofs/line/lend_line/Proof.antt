@@ -44,7 +44,7 @@ use denote.Triple.Walked.{says, needs, Stays, stay-none, gave-slice, walkOf, goe
 use denote.Exit.{yes}
 use denote.Signature.{plain}
 use Rattle.pen.specs.declared.line.Pen.{Pen}
-use Rattle.pen.proofs.LineLaws.{Asked, Said}
+use Rattle.pen.proofs.LineLaws.{Wants, Said}
 use Rattle.pen.proofs.line.write_line_with.Symbol.{name as #pen·line·write-line-with}
 use Rattle.pen.proofs.line.lend_line.Key.{name as #pen·line·lend-line}
 use denote.Struct.Laws as LL
@@ -114,7 +114,7 @@ module _ {M : Type 1} (𝓤 : URA M) (H : Heap 𝓤) (A : Atoms 𝓤) (W : Given
   abbrev to-with : ℕ → ℕ → GName → With 𝓤 H A at-mem run .Ghost
   to-with ν l δ = (((κ, (ν ∷ [], tt)), (q, (fullShare, tt)), tt, args l δ, (s ∷ [], (vptr l 0 ∷ [], (vint w16 d ∷ [], (vint w16 n ∷ [], (vbool t ∷ [], tt)))))), tt)
 
-  goes : (ν l : ℕ) (δ : GName) → Asked ys h d n t → ent 𝓤 (sep 𝓤 (sep 𝓤 (A .lft κ q) (sem 𝓤 H A ftrue)) (sep 𝓤 (A .lft (ν ∷ []) fullShare) (sep 𝓤 (sem 𝓤 H A (MutSlice (named 0) κ u8 .own x (s ∷ []))) (sem 𝓤 H A (MutRef (named 1) (ν ∷ []) T.the-row .own (p l δ) (vptr l 0 ∷ [])))))) (With 𝓤 H A at-mem run .pre (to-with ν l δ))
+  goes : (ν l : ℕ) (δ : GName) → Wants ys h d n t → ent 𝓤 (sep 𝓤 (sep 𝓤 (A .lft κ q) (sem 𝓤 H A ftrue)) (sep 𝓤 (A .lft (ν ∷ []) fullShare) (sep 𝓤 (sem 𝓤 H A (MutSlice (named 0) κ u8 .own x (s ∷ []))) (sem 𝓤 H A (MutRef (named 1) (ν ∷ []) T.the-row .own (p l δ) (vptr l 0 ∷ [])))))) (With 𝓤 H A at-mem run .pre (to-with ν l δ))
   goes ν l δ asked =
       qed W ((‵ (flft κ q) ⊛ ‵ ftrue) ∷ ‵ (flft (ν ∷ []) fullShare) ∷ (‵ (MutSlice (named 0) κ u8 .own x (s ∷ [])) ⊛ ‵ (MutRef (named 1) (ν ∷ []) T.the-row .own (p l δ) (vptr l 0 ∷ []))) ∷ []) ∵ says ! asked $
       split ! $ move ! (2 ∷ 1 ∷ []) $ join ! $ move ! (1 ∷ 0 ∷ []) $ join ! $ frame ! $ split ! $
@@ -130,7 +130,7 @@ module _ {M : Type 1} (𝓤 : URA M) (H : Heap 𝓤) (A : Atoms 𝓤) (W : Given
       owned ! T.the-row (Is T.the-row) (LL.makes T.the-type T′.the-plain 𝓤 H A) h _ is-pen $ fjoin ! $ move ! (1 ∷ 0 ∷ []) $ fjoin ! $ done !
 
   module _ (C : Calls 𝓤 H) (Λ : Loops 𝓤 H) (fm : FmC 𝓤 H (W .laws) C) (known : Triple 𝓤 (C #pen·line·write-line-with) (With 𝓤 H A at-mem run)) where
-    walk : Room u8 (length ys) → Asked ys h d n t → ent 𝓤 (onEntry 𝓤 H A f.signature (κ, tt) (q, tt) a vals) (WpFn 𝓤 H C Λ code.function (s ∷ mach h ∷ vint w16 d ∷ vint w16 n ∷ vbool t ∷ []) Post)
+    walk : Room u8 (length ys) → Wants ys h d n t → ent 𝓤 (onEntry 𝓤 H A f.signature (κ, tt) (q, tt) a vals) (WpFn 𝓤 H C Λ code.function (s ∷ mach h ∷ vint w16 d ∷ vint w16 n ∷ vbool t ∷ []) Post)
     walk room asked =
         qed W ((‵ (flft κ q) ⊛ ‵ ftrue) ∷ ‵ (owns (MutSlice (named 0) κ u8 ∷ T.the-row ∷ u16 ∷ u16 ∷ bool ∷ []) a vals) ∷ []) ∵ enter ! C Λ code.function (s ∷ mach h ∷ vint w16 d ∷ vint w16 n ∷ vbool t ∷ []) _ $
         alloc1 ! (λ l₀. alloc1 ! (λ l₁. alloc1 ! (λ l₂. alloc1 ! (λ l₃. alloc1 ! (λ l₄. alloc1 ! (λ l₅. alloc1 ! (λ l₆. alloc1 ! (λ l₇. alloc1 ! (λ l₈. alloc1 ! (λ l₉. alloc1 ! (λ l₁₀. alloc0 ! $ params1 ! $
@@ -168,7 +168,7 @@ module _ {M : Type 1} (𝓤 : URA M) (H : Heap 𝓤) (A : Atoms 𝓤) (W : Given
   lend-line-walks : (C : Calls 𝓤 H) (Λ : Loops 𝓤 H) → FmC 𝓤 H (W .laws) C → Triple 𝓤 (C #pen·line·write-line-with) (With 𝓤 H A mem run) → Walks 𝓤 H A f.ended stayed (WpFn 𝓤 H C Λ code.function) (f.clauses 𝓤 H A mem run)
   lend-line-walks C Λ fm known = walked 𝓤 H A f.ended stayed (f.clauses 𝓤 H A mem run) (WpFn 𝓤 H C Λ code.function)
       (λ κs. (slice-vals, (LL.vals T.the-type T′.the-laws, (uint-vals w16, (uint-vals w16, (bool-vals, tt)))))) (λ κs. (mut-slice-tells (named 0) (κs .0) u8, (LL.tells T.the-type T′.the-laws, (uint-tells w16, (uint-tells w16, (bool-tells, tt))))))
-      (λ κs qs bounds a g are. needs 𝓤 (Asked (a .0 .now) (a .1 .0) (a .1 .1 .0) (a .1 .1 .1 .0) (a .1 .1 .1 .1 .0)) _
+      (λ κs qs bounds a g are. needs 𝓤 (Wants (a .0 .now) (a .1 .0) (a .1 .1 .0) (a .1 .1 .1 .0) (a .1 .1 .1 .1 .0)) _
       (walk 𝓤 H A W mem run (κs .0) (qs .0) (a .0 .ptr .0) (a .0 .ptr .1) (a .0 .name) (a .0 .now) (a .1 .0) (a .1 .1 .0) (a .1 .1 .1 .0) (a .1 .1 .1 .1 .0) (are .1 .0) (are .1 .1 .0 .1) (are .1 .1 .1 .0 .1) C Λ fm known (are .0 .0 .1)))
 
 lend-line-meets : {M : Type 1} (𝓤 : URA M) (H : Heap 𝓤) (A : Atoms 𝓤) → Given 𝓤 H A → (mem : Memory → SProp 𝓤) (run : Routine → Fun 𝓤) (𝓣 : Tables 𝓤 H) → Triple 𝓤 (𝓣 .C #pen·line·write-line-with) (With 𝓤 H A mem run)

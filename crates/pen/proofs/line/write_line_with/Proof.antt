@@ -42,7 +42,7 @@ use denote.Triple.Walked.{says, needs, Stays, stay-ref, stay-none, gave-slice, w
 use denote.Exit.{yes}
 use denote.Signature.{plain}
 use Rattle.pen.specs.declared.line.Pen.{Pen}
-use Rattle.pen.proofs.LineLaws.{Asked, Said}
+use Rattle.pen.proofs.LineLaws.{Wants, Said}
 use Rattle.pen.proofs.line.write_line.Symbol.{name as #pen·line·write-line}
 use Rattle.pen.proofs.line.write_line_with.Key.{name as #pen·line·write-line-with}
 use denote.Struct.Laws as LL
@@ -92,7 +92,7 @@ module _ {M : Type 1} (𝓤 : URA M) (H : Heap 𝓤) (A : Atoms 𝓤) (W : Given
   abbrev to-write : Write 𝓤 H A at-mem run .Ghost
   to-write = (((κ, tt), (q, tt), tt, (x, (h, (d, (n, (t, tt))))), (s ∷ [], (mach h ∷ [], (vint w16 d ∷ [], (vint w16 n ∷ [], (vbool t ∷ [], tt)))))), tt)
 
-  goes : Is T.the-row h (mach h ∷ []) → Asked ys h d n t → ent 𝓤 (sep 𝓤 (A .lft κ q) (sem 𝓤 H A (MutSlice (named 0) κ u8 .own x (s ∷ [])))) (Write 𝓤 H A at-mem run .pre to-write)
+  goes : Is T.the-row h (mach h ∷ []) → Wants ys h d n t → ent 𝓤 (sep 𝓤 (A .lft κ q) (sem 𝓤 H A (MutSlice (named 0) κ u8 .own x (s ∷ [])))) (Write 𝓤 H A at-mem run .pre to-write)
   goes is asked =
       qed W (‵ (flft κ q) ∷ ‵ (MutSlice (named 0) κ u8 .own x (s ∷ [])) ∷ []) ∵ says ! asked $ nothing ! $ move ! (1 ∷ 0 ∷ []) $ join ! $ frame ! $
       nothing ! $ owned ! bool (Is bool) (bool-makes 𝓤 H A W) t _ refl $ fjoin ! $ owned ! u16 (Is u16) (uint-makes 𝓤 H A W w16) n _ (refl, n-fits) $ fjoin ! $ owned ! u16 (Is u16) (uint-makes 𝓤 H A W w16) d _ (refl, d-fits) $ fjoin ! $
@@ -109,7 +109,7 @@ module _ {M : Type 1} (𝓤 : URA M) (H : Heap 𝓤) (A : Atoms 𝓤) (W : Given
       move ! (1 ∷ 0 ∷ []) $ fjoin ! $ move ! (1 ∷ 0 ∷ []) $ fjoin ! $ feqI ! (List Val) (vunit ∷ []) (vunit ∷ []) refl $ move ! (1 ∷ 0 ∷ []) $ done !
 
   module _ (C : Calls 𝓤 H) (Λ : Loops 𝓤 H) (fm : FmC 𝓤 H (W .laws) C) (known : Triple 𝓤 (C #pen·line·write-line) (Write 𝓤 H A at-mem run)) where
-    walk : Room u8 (length ys) → Asked ys h d n t → ent 𝓤 (onEntry 𝓤 H A f.signature (κ, (κ′, tt)) (q, (q′, tt)) a vals) (WpFn 𝓤 H C Λ code.function (s ∷ vptr b′ o′ ∷ vint w16 d ∷ vint w16 n ∷ vbool t ∷ []) Post)
+    walk : Room u8 (length ys) → Wants ys h d n t → ent 𝓤 (onEntry 𝓤 H A f.signature (κ, (κ′, tt)) (q, (q′, tt)) a vals) (WpFn 𝓤 H C Λ code.function (s ∷ vptr b′ o′ ∷ vint w16 d ∷ vint w16 n ∷ vbool t ∷ []) Post)
     walk room asked =
         qed W ((‵ (flft κ q) ⊛ ‵ (flft κ′ q′) ⊛ ‵ ftrue) ∷ ‵ (owns (MutSlice (named 0) κ u8 ∷ MutRef (named 1) κ′ T.the-row ∷ u16 ∷ u16 ∷ bool ∷ []) a vals) ∷ []) ∵ enter ! C Λ code.function (s ∷ vptr b′ o′ ∷ vint w16 d ∷ vint w16 n ∷ vbool t ∷ []) _ $
         alloc1 ! (λ l₀. alloc1 ! (λ l₁. alloc1 ! (λ l₂. alloc1 ! (λ l₃. alloc1 ! (λ l₄. alloc1 ! (λ l₅. alloc1 ! (λ l₆. alloc1 ! (λ l₇. alloc1 ! (λ l₈. alloc1 ! (λ l₉. alloc0 ! $ params1 ! $
@@ -146,7 +146,7 @@ module _ {M : Type 1} (𝓤 : URA M) (H : Heap 𝓤) (A : Atoms 𝓤) (W : Given
   write-line-with-walks : (C : Calls 𝓤 H) (Λ : Loops 𝓤 H) → FmC 𝓤 H (W .laws) C → Triple 𝓤 (C #pen·line·write-line) (Write 𝓤 H A mem run) → Walks 𝓤 H A f.ended stayed (WpFn 𝓤 H C Λ code.function) (f.clauses 𝓤 H A mem run)
   write-line-with-walks C Λ fm known = walked 𝓤 H A f.ended stayed (f.clauses 𝓤 H A mem run) (WpFn 𝓤 H C Λ code.function)
       (λ κs. (slice-vals, (ptr-vals, (uint-vals w16, (uint-vals w16, (bool-vals, tt)))))) (λ κs. (mut-slice-tells (named 0) (κs .0) u8, (mut-tells (named 1) (κs .1 .0) T.the-row, (uint-tells w16, (uint-tells w16, (bool-tells, tt))))))
-      (λ κs qs bounds a g are. needs 𝓤 (Asked (a .0 .now) (a .1 .0 .now) (a .1 .1 .0) (a .1 .1 .1 .0) (a .1 .1 .1 .1 .0)) _
+      (λ κs qs bounds a g are. needs 𝓤 (Wants (a .0 .now) (a .1 .0 .now) (a .1 .1 .0) (a .1 .1 .1 .0) (a .1 .1 .1 .1 .0)) _
       (walk 𝓤 H A W mem run (κs .0) (κs .1 .0) (qs .0) (qs .1 .0) (a .0 .ptr .0) (a .0 .ptr .1) (a .0 .name) (a .0 .now) (a .1 .0 .ptr .0) (a .1 .0 .ptr .1) (a .1 .0 .name) (a .1 .0 .now) (a .1 .1 .0) (a .1 .1 .1 .0) (a .1 .1 .1 .1 .0) (are .1 .1 .0 .1) (are .1 .1 .1 .0 .1) C Λ fm known (are .0 .0 .1)))
 
 write-line-with-meets : {M : Type 1} (𝓤 : URA M) (H : Heap 𝓤) (A : Atoms 𝓤) → Given 𝓤 H A → (mem : Memory → SProp 𝓤) (run : Routine → Fun 𝓤) (𝓣 : Tables 𝓤 H) → Triple 𝓤 (𝓣 .C #pen·line·write-line) (Write 𝓤 H A mem run)

@@ -1,9 +1,11 @@
 -- `replay::level::replay_class` meets its contract. Assumes nothing.
-use Rattle.replay.proofs.TurnLaws.{levelling, Left, kindFrom}
+use Rattle.replay.proofs.TurnLaws.{levelling}
 use Prim.Native.Nat.{_-_}
 use Rattle.rules.specs.File.{logOf}
 use Rattle.replay.specs.Tables.{tables}
+use native.Mathlib.Omega.{arith}
 use Rattle.order.specs.Levels.{levelKind}
+use Rattle.replay.proofs.TurnLaws.{Left, kindFrom, due-asks}
 use Rattle.replay.proofs.level.replay_class.Statement.{statement}
 use Rattle.replay.proofs.level.replay_class.Tie as tie
 
@@ -15,6 +17,14 @@ Inv-loop file next high low time class parents₀ outcomes₀ placed₀ width fr
 abbrev μ-loop : tie.MeasureT-loop
 μ-loop file next high low time class parents₀ outcomes₀ placed₀ width from to i₀ parents outcomes placed i = to - i
 
+replay-due-requires : tie.Need-replay-due-requires Inv-loop μ-loop
+replay-due-requires c κs =
+    let turn = c .before .before .before in
+    let loop = turn .before in
+    let start = loop .before .before .before in
+    let asked = start .before .before .pre in
+    due-asks _ _ _ _ _ _ _ _ asked _ (omega arith) (omega arith) _ _ _ (loop .loop .inv .sized)
+
 pub replay-class-spec : {M : Type 1} → statement M
 replay-class-spec =
     tie.close
@@ -25,7 +35,7 @@ replay-class-spec =
     (λ c. search levelling)
     (λ c. search levelling)
     (λ c. search levelling)
-    (λ c κs. search levelling)
+    replay-due-requires
     (λ c. search levelling)
     (λ c. search levelling)
     (λ c. search levelling)

@@ -1,5 +1,4 @@
 -- `view::paths::put_path` meets its contract. Assumes nothing.
-use borrow.Author.Needs.{needs}
 use Rattle.view.proofs.PathCases.{paths}
 use Rattle.view.proofs.paths.put_path.Statement.{statement}
 use Rattle.view.proofs.paths.put_path.Tie as tie
@@ -8,9 +7,9 @@ pub put-path-spec : {M : Type 1} → statement M
 put-path-spec =
     tie.close
     (tie.spec
-    (λ c κs. search needs)
+    (λ c κs. search paths)
     (λ c. search paths)
     (λ c κs. search paths)
-    (λ c. search needs)
-    (λ c. search needs)
+    (λ c. search paths)
+    (λ c. search paths)
     (λ c. search paths))

@@ -1,10 +1,10 @@
--- `replay::level::replay_entry` meets its contract. Assumes nothing.
+-- `replay::level::replay_due` meets its contract. Assumes nothing.
 use Rattle.replay.proofs.TurnLaws.{levelling}
-use Rattle.replay.proofs.level.replay_entry.Statement.{statement}
-use Rattle.replay.proofs.level.replay_entry.Tie as tie
+use Rattle.replay.proofs.level.replay_due.Statement.{statement}
+use Rattle.replay.proofs.level.replay_due.Tie as tie
 
-pub replay-entry-spec : {M : Type 1} → statement M
-replay-entry-spec =
+pub replay-due-spec : {M : Type 1} → statement M
+replay-due-spec =
     tie.close
     (tie.spec
     (λ c κs. search levelling)
