@@ -13,11 +13,6 @@ pub const NO_PARENT: u16 = 65535;
 // The depth where no climb ends.
 const DEEPEST: usize = SLOTS - 1;
 
-// How many slots a table has, and the parent entry of a slot without an added node.
-pub const SLOTS: usize = 2041;
-
-pub const NO_PARENT: u16 = 65535;
-
 // The slot of a node: 255 x (s - 1) + q is 256 x s + q less s and 255.
 pub fn slot_of(node: u16) -> usize
     ensures { λ r. ⌜ r ≡ slotOf node ⌝ }
