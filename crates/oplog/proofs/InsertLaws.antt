@@ -177,9 +177,9 @@ put-head w v r b x y place end e i = i ∙ rw e
 ---- adding an op: v are the held counts
 
 module _ (v : Vector) (s : ℕ) where
-  pub more-fits : countIn v s < 255 → getD v (s - 1) 0 + 1 < 2 ^ 8
+  pub more-fits : countIn v s < 255 → (n : ℕ) → n ≤ 1 → getD v (s - 1) 0 + n < 2 ^ 8
   unfolding countIn
-  more-fits h = omega arith
+  more-fits h n l = omega arith
 
   pub more-is : set v (s - 1) (getD v (s - 1) 0 + 1) ≡ set v (s - 1) (countIn v s + 1)
   unfolding countIn

@@ -4,7 +4,7 @@ mod append;
 mod check;
 mod header;
 mod marker;
-mod spot;
+mod places;
 
 pub use append::append_op;
 pub use check::closed_in;
@@ -16,5 +16,5 @@ pub use header::counts_of;
 pub use header::end_of;
 pub use header::write_header;
 pub use marker::Marker;
-pub use spot::place;
-pub use spot::same_op;
+pub use places::place;
+pub use places::same_op;

@@ -21,9 +21,9 @@ use Rattle.lists.proofs.BoolLaws.{tested}
 use Rattle.rules.proofs.DeliverLaws.{admitted}
 use Rattle.rules.proofs.FileLaws.{counts-logOf}
 use Rattle.rules.proofs.StructureLaws.{count-held}
-use Rattle.oplog.specs.Spots.{Counted, Spot, placeOf}
+use Rattle.oplog.specs.Places.{Held, InFile, placeOf}
 use Rattle.oplog.specs.Tests.{namesBy}
-use Rattle.oplog.proofs.FieldLaws.{counted-of, counts-in, op-is}
+use Rattle.oplog.proofs.FieldLaws.{held-of, counts-in, op-is}
 use Rattle.codec.specs.Answers.{isAccepted, numberOf}
 use Rattle.codec.specs.Read.{fieldsOf, readOf}
 use Rattle.codec.specs.declared.answer.Refusal.{Refusal}
@@ -101,9 +101,9 @@ module _ (f op : List ℕ) (x : Fields) (d : Again f op x) (s q : ℕ) (es : s �
   sequence-as : seqOf op ≡ q
   sequence-as = sequence-is f op x (d .reads) ∙ sym eq
 
-  pub spot : Spot width f s q
+  pub in-file : InFile width f s q
   unfolding held
-  spot =
+  in-file =
       let i = replica-formed op (d .reads .formed) in
       let l : 1 ≤ s = rw (← replica-as) (i .0) in
       let u : s ≤ 8 = rw (← replica-as) (i .1) in
@@ -120,7 +120,7 @@ module _ (f op : List ℕ) (x : Fields) (d : Again f op x) (s q : ℕ) (es : s �
   -- r tells whether the bytes at its place are the op's
   module _ (at : ℕ) (is : at ≡ placeOf width f s q) (r : Bool) (e : r ≡ same op (take (length op) (drop at f))) where
     compared : r ≡ same op (opAt (logOf width f) (replicaOf op) (seqOf op))
-    compared = e ∙ rw (d .reads .long, replica-as, sequence-as, is, ← op-is _ _ _ _ spot)
+    compared = e ∙ rw (d .reads .long, replica-as, sequence-as, is, ← op-is _ _ _ _ in-file)
 
     pub had-it : r ≡ true → hadIt ≡ deliverAnswer width f op
     unfolding heldAnswer require
@@ -150,9 +150,9 @@ module _ (f op : List ℕ) (x : Fields) (u : Vector) (d : Fresh f op x u) (v : V
   early e = sym (new-by ∙ rw (covered-by false e))
 
   module _ (a : within v u ≡ true) where
-    pub counted-in : Counted width f v
-    counted-in =
-        counted-of _ _ _ (omega arith) (laid-of f (d .reads .is-sound)) (rw (← counts-logOf width f, ← d .tallied .counts) a)
+    pub held-within : Held width f v
+    held-within =
+        held-of _ _ _ (omega arith) (laid-of f (d .reads .is-sound)) (rw (← counts-logOf width f, ← d .tallied .counts) a)
 
     pub not-closed : closed (logOf width f) v ≡ false → refused 6 ≡ deliverAnswer width f op
     unfolding admitAnswer require
@@ -212,6 +212,6 @@ module _ (f op : List ℕ) where
 ---- what the code of delivering needs: search delivering
 pub ruleset readings = (replica-so, counting, again, fresh, acceptable, readable, unread)
 
-pub ruleset answers = (spot, had-it, conflict, early, counted-in, not-closed, unknown, last)
+pub ruleset answers = (in-file, had-it, conflict, early, held-within, not-closed, unknown, last)
 
 pub ruleset delivering = (needs, tested, readings, answers, deliver-kept, deliver-added, deliver-unsound)

@@ -31,7 +31,7 @@ use Rattle.replica.specs.declared.request.Draft.{Draft}
 use Rattle.replica.specs.declared.request.Drafted.{Drafted}
 use Rattle.replica.specs.declared.request.Drafted.the-variants.{Op, Refused}
 use Rattle.replica.specs.declared.request.Request.the-variants.{Add, Remove, Move}
-use Rattle.soundness.proofs.SoundCases.{counted, tallied}
+use Rattle.soundness.proofs.SoundCases.{tallied-held, tallied}
 use Rattle.replica.proofs.AddCases.{has-room}
 use Rattle.rules.specs.Issue as rules
 use Rattle.replica.specs.declared.request.Request as code
@@ -296,4 +296,4 @@ pub ruleset issues = (
   no-replica,
 )
 
-pub ruleset issuing = (needs, tested, sound-structural, tallied, counted, requests, drafting, issues, lent)
+pub ruleset issuing = (needs, tested, sound-structural, tallied, tallied-held, requests, drafting, issues, lent)

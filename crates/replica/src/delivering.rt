@@ -21,7 +21,7 @@ ghost use mathlib.Core.Bool.{true};
 ghost use lib.Dec.{leb};
 ghost use Rattle.rules.specs.Op.{isReplica, countIn};
 ghost use Rattle.rules.specs.File.{width, logOf};
-ghost use Rattle.oplog.specs.Spots.{Counted};
+ghost use Rattle.oplog.specs.Places.{Held};
 ghost use Rattle.codec.specs.Answers.{answerOf};
 ghost use Rattle.replica.specs.Delivering.{namesIn, Readable, Counting, Again, Fresh};
 ghost use Rattle.rules.specs.Deliver as rules;
@@ -49,7 +49,7 @@ fn is_held(counts: [u8; 8], fields: Fields) -> bool
 
 // Number 7: whether the nodes that an op names are known to its vector.
 fn names(file: &[u8], v: [u8; 8], fields: Fields) -> bool
-    requires { ⌜ Counted width (now file) v ⌝ }
+    requires { ⌜ Held width (now file) v ⌝ }
     ensures { λ r. ⌜ r ≡ namesIn (logOf width (now (file .entry))) v fields ⌝ }
 {
     let own = (256 * widen(fields.replica) + widen(fields.sequence)) as u16;
