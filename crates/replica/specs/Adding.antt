@@ -1,4 +1,5 @@
 -- The last test of an op and its addition, as delivering and issuing share them. Assumes nothing.
+use Rattle.rules.specs.File.{headerCounts, width, countsOf, fileEnd, logOf}
 use Prim.Native.Nat.{ℕ, _+_, _<_, _≤_}
 use mathlib.Core.Path.{_≡_}
 use mathlib.Core.Bool.{true}
@@ -6,7 +7,6 @@ use mathlib.Core.List.{List}
 use lib.ListN.{length}
 use lib.Dec.{leb}
 use Rattle.rules.specs.Answer.{Answer, accepted, require}
-use Rattle.rules.specs.File.{width, countsOf, fileEnd, logOf}
 use Rattle.rules.specs.Op.{countIn, isReplica, replicaOf, Vector}
 use Rattle.rules.specs.Sound.{sound}
 

@@ -1,11 +1,11 @@
 -- What the steps of delivering ask of a buffer and an op. Assumes nothing.
+use Rattle.rules.specs.File.{headerCounts, Log, width, logOf}
 use Prim.Native.Nat.{ℕ}
 use mathlib.Core.Path.{_≡_}
 use mathlib.Core.Bool.{Bool, true, false}
 use mathlib.Core.List.{List}
 use lib.ListN.{length}
 use Rattle.rules.specs.Deliver.{held}
-use Rattle.rules.specs.File.{Log, width, logOf}
 use Rattle.rules.specs.Op.{Vector, nodeNumber, wellFormed}
 use Rattle.rules.specs.Sound.{sound}
 use Rattle.oplog.specs.Tests.{namesBy}
