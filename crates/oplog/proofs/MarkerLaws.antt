@@ -262,4 +262,6 @@ module _ (w : ℕ) (f : List ℕ) (m : Marker) where
         walk-next h = record { at = onward w f (g .is-laid) m m′ e (t .at) u .at; rest = turn m′ e ∙ rw h }
 
 ---- what the code of the walk needs: search walking
-pub ruleset walking = (needs, tested, laid-long, here-none, here-some, here-in-file, walk-first, walk-fails, walk-less, walk-next, walk-last)
+pub ruleset here = (here-none, here-some, here-in-file)
+
+pub ruleset walking = (needs, tested, laid-long, here, walk-first, walk-fails, walk-less, walk-next, walk-last)
