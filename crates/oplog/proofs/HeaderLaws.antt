@@ -69,9 +69,9 @@ module _ (f : List ℕ) (s : ℕ) where
   start-read m x e h = e ∙ h
 
   module _ (n : ℕ) (e : n ≡ countAt f s) (start : ℕ) where
-    pub entry-large : 255 < n → false ≡ entryRight f s start
+    pub entry-large : (k : ℕ) → k < n → 255 ≤ k → false ≡ entryRight f s start
     unfolding entryRight
-    entry-large h = rw (← e, lt-leb n 255 h)
+    entry-large k h l = rw (← e, lt-leb n 255 (omega arith))
 
     pub entry-small : n ≤ 255 → (m : ℕ) → m ≡ startAt f s → eqb m start ≡ entryRight f s start
     unfolding entryRight

@@ -110,17 +110,6 @@ module _ (w : ℕ) (f : List ℕ) (good : laid w f ≡ true) (m m′ : Marker) (
   abbrev isHeld : Bool
   isHeld = leb (m .sequence) (countAt f (m .replica))
 
-  -- the op at the marker is there
-  pub in-file-at : 14 ≤ w → isHeld ≡ true → InFile w f (m .replica) (m .sequence)
-  in-file-at h t = record {
-    wide = h;
-    is-laid = good;
-    low = at .low;
-    high = u;
-    first = at .first;
-    last = leb-true _ _ t;
-  }
-
   pub onward : Onward m m′
   unfolding nextMarker
   onward = rw e (elim (decLe (m .sequence + 1) (countAt f (m .replica))) [
@@ -201,7 +190,7 @@ sound-row log s =
     let n : length (opsOf log s) + 1 - 1 ≡ length (opsOf log s) = omega arith in
     rw n (tests log s 1 (opsOf log s))
 
-pub left-sound : (log : Log) → soundLog log ≡ every (left log (soundAt log) 1 1)
+left-sound : (log : Log) → soundLog log ≡ every (left log (soundAt log) 1 1)
 unfolding soundLog
 left-sound log =
     all-alike _ _ (λ s l u. sound-row log s)
@@ -273,4 +262,6 @@ module _ (w : ℕ) (f : List ℕ) (m : Marker) where
         walk-next h = record { at = onward w f (g .is-laid) m m′ e (t .at) u .at; rest = turn m′ e ∙ rw h }
 
 ---- what the code of the walk needs: search walking
-pub ruleset walking = (needs, tested, laid-long, here-none, here-some, here-in-file, walk-first, walk-fails, walk-less, walk-next, walk-last)
+pub ruleset here = (here-none, here-some, here-in-file)
+
+pub ruleset walking = (needs, tested, laid-long, here, walk-first, walk-fails, walk-less, walk-next, walk-last)
