@@ -1,4 +1,4 @@
--- What a call leaves behind, by whether it was accepted. Assumes nothing.
+-- What a call leaves behind, by whether it was accepted.
 use mathlib.Core.Path.{_≡_, refl, sym}
 use mathlib.Core.Bool.{true, false}
 use Prim.Native.Nat.{ℕ}

@@ -1,4 +1,4 @@
--- The cases of the op reader. Assumes nothing.
+-- The cases of the op reader.
 use lib.Seq.{getD-take, getD-drop}
 use mathlib.Core.Path.{_≡_, refl, ap, sym}
 use mathlib.Core.Bool.{Bool, true, false, cond, _&&_, _||_, not}

@@ -1,4 +1,4 @@
--- Turns of the loops over the eight counts of a vector. Assumes nothing.
+-- Turns of the loops over the eight counts of a vector.
 use Prim.Native.Nat.{ℕ, _+_, _-_, _<_, _*_, _/_, _%_, _≤_}
 use borrow.Author.Tests.{lt-leb, le-leb, eq-eqb, ne-eqb}
 use lib.Dec.{leb, eqb}

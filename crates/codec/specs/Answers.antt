@@ -1,4 +1,4 @@
--- What a call answers, in the document's terms (its table "Numbers handed back"). Assumes nothing.
+-- What a call answers, in the document's terms (its table "Numbers handed back").
 use Prim.Native.Nat.{ℕ}
 use mathlib.Core.Bool.{Bool, true, false}
 use Rattle.rules.specs.Answer.{Answer, refused, hadIt, done, accepted}

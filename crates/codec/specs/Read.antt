@@ -1,4 +1,4 @@
--- What the op reader answers. Assumes nothing.
+-- What the op reader answers.
 use mathlib.Core.Path.{_≡_}
 use Prim.Native.Nat.{_≤_, ℕ}
 use mathlib.Core.List.{List}

@@ -1,4 +1,4 @@
--- Where the fields of an op stand in a laid-out file. Assumes nothing.
+-- Where the fields of an op stand in a laid-out file.
 use lib.Seq.{getD-take, getD-drop, drop-drop, take-take}
 use lib.Dec.{eqb}
 use borrow.Author.Needs.{needs}

@@ -1,4 +1,4 @@
--- The header of a file, entry by entry, as the code reads and writes it. Assumes nothing.
+-- The header of a file, entry by entry, as the code reads and writes it.
 use mathlib.Core.Path.{_≡_, refl, sym, _∙_}
 use mathlib.Core.Bool.{Bool, true, false, _&&_, and-eq-true-iff}
 use mathlib.Core.List.{List, [], _∷_, map, _++_, append-nil, append-assoc, map-append}

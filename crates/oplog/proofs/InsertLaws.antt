@@ -1,4 +1,4 @@
--- Laws of putting an op into a buffer: bytes moved up, the op in front of them, the header anew. Assumes nothing.
+-- Laws of putting an op into a buffer: bytes moved up, the op in front of them, the header anew.
 use lib.ListN.{length-take, length-drop, length-append, length-set, List·getD-append, length, take, drop, getD, set}
 use lib.Seq.{take-all, take-length, take-suc, drop-cons, append-snoc, set-at, length-take-le, getD-take, slice, slice-cons, slice-empty, take-take, drop-drop, take-add, drop-at}
 use mathlib.Core.List.{append-nil, List, [], _∷_, _++_, map, append-assoc}

@@ -1,4 +1,4 @@
--- The tests of an op against a log, as the code makes them. Assumes nothing.
+-- The tests of an op against a log, as the code makes them.
 use mathlib.Core.Path.{_≡_, refl, sym, _∙_}
 use mathlib.Core.Logic.{_⊎_, ⊎-elim}
 use mathlib.Core.Bool.{Bool, true, false, not, _&&_, and-eq-true-iff}

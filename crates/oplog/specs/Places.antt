@@ -1,4 +1,4 @@
--- What the contracts over a file ask and say: places of ops in a laid-out file of ops of w bytes. Assumes nothing.
+-- What the contracts over a file ask and say: places of ops in a laid-out file of ops of w bytes.
 use Prim.Native.Nat.{ℕ, _+_, _*_, _-_, _≤_}
 use mathlib.Core.Path.{_≡_}
 use mathlib.Core.Bool.{true, cond}

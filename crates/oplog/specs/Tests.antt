@@ -1,4 +1,4 @@
--- The tests of an op against a log, as the code makes them: by the fields of the op. Assumes nothing.
+-- The tests of an op against a log, as the code makes them: by the fields of the op.
 use Prim.Native.Nat.{ℕ, _+_, _≤_}
 use mathlib.Core.Path.{_≡_}
 use mathlib.Core.Bool.{Bool, true, cond, _&&_, _||_, not}

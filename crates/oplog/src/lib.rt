@@ -1,4 +1,4 @@
-// The operation log (the paper's collection) in a lent buffer: its header, the places of its ops,
+// The operation log (the document's collection) in a lent buffer: its header, the places of its ops,
 // structural soundness, and the tests of an op against it. Ops have `width` bytes.
 mod append;
 mod check;

@@ -6,7 +6,7 @@ ghost use lib.Dec.{leb};
 ghost use Rattle.rules.specs.File.{countAt};
 ghost use Rattle.oplog.specs.Places.{nextMarker};
 
-// A marker (the paper's): the op number `sequence` of a replica, both from 1. It steps through the
+// A marker (the document's): the op number `sequence` of a replica, both from 1. It steps through the
 // bodies in file order.
 pub struct Marker {
     pub replica: usize,

@@ -1,4 +1,4 @@
--- The cases of numbers handed over, as the code meets them. Assumes nothing.
+-- The cases of numbers handed over, as the code meets them.
 use Prim.Native.Nat.{ℕ, _+_, _≤_}
 use borrow.Author.Needs.{needs}
 use lib.ListN.{length}

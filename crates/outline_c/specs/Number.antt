@@ -1,4 +1,4 @@
--- One number for each answer, and a bool for each view, for callers in other languages. Assumes nothing.
+-- One number for each answer, and a bool for each view, for callers in other languages.
 use Prim.Native.Nat.{ℕ, _+_, _≤_}
 use mathlib.Core.Bool.{Bool, true, false}
 use mathlib.Core.List.{List}

@@ -1,4 +1,4 @@
--- Clearing the tables and replaying a cut, as the code has them. Assumes nothing.
+-- Clearing the tables and replaying a cut, as the code has them.
 use mathlib.Core.Path.{_≡_, refl, ap, _∙_}
 use mathlib.Core.Bool.{true}
 use mathlib.Core.List.{List, foldl}

@@ -1,4 +1,4 @@
--- The op of a replica that is due in a class, and the replicas that have one, as the code has them. Assumes nothing.
+-- The op of a replica that is due in a class, and the replicas that have one, as the code has them.
 use mathlib.Core.Path.{_≡_, refl, sym, _∙_}
 use mathlib.Core.Bool.{Bool, true, false, cond, not, _&&_}
 use mathlib.Core.List.{List, [], _∷_, foldl}

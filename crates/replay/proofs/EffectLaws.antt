@@ -1,4 +1,4 @@
--- The effect of an op, as the code has it. Assumes nothing.
+-- The effect of an op, as the code has it.
 use mathlib.Core.Path.{_≡_, sym, ap, _∙_}
 use mathlib.Core.Logic.{inr}
 use mathlib.Core.Bool.{Bool, true, false}

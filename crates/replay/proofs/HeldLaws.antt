@@ -1,4 +1,4 @@
--- What a structurally sound file says of its ops, and of the cuts that it holds. Assumes nothing.
+-- What a structurally sound file says of its ops, and of the cuts that it holds.
 use mathlib.Core.Path.{_≡_}
 use mathlib.Core.Bool.{true}
 use mathlib.Core.List.{List}

@@ -1,4 +1,4 @@
--- The ops that are ready, as the code has them. Assumes nothing.
+-- The ops that are ready, as the code has them.
 use mathlib.Core.Path.{ap, _≡_, sym, _∙_}
 use mathlib.Core.Bool.{Bool, true, false, cond}
 use mathlib.Core.List.{List}

@@ -1,4 +1,4 @@
--- Turns of the loops over replicas, classes and levels, as the code has them. Assumes nothing.
+-- Turns of the loops over replicas, classes and levels, as the code has them.
 use mathlib.Core.Path.{_≡_, refl, sym, ap, _∙_}
 use mathlib.Core.Bool.{Bool, true}
 use mathlib.Core.List.{List, [], _++_, map, foldl, foldl-append}

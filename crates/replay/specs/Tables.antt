@@ -1,4 +1,4 @@
--- What the contracts of the replay say of the lent tables and of the file. Assumes nothing.
+-- What the contracts of the replay say of the lent tables and of the file.
 use Prim.Native.Nat.{ℕ, _≤_, _<_}
 use mathlib.Core.Path.{_≡_}
 use mathlib.Core.Bool.{Bool, true, cond, _&&_, _||_, not}

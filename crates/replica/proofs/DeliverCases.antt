@@ -1,4 +1,4 @@
--- The cases of delivering, as the code meets them. Assumes nothing.
+-- The cases of delivering, as the code meets them.
 use mathlib.Core.Path.{_≡_, sym, ap, _∙_}
 use mathlib.Core.Bool.{Bool, true, false, cond}
 use mathlib.Core.List.{List}

@@ -1,4 +1,4 @@
--- The cases of issuing, as the code meets them. Assumes nothing.
+-- The cases of issuing, as the code meets them.
 use mathlib.Core.Path.{_≡_, refl, sym, _∙_, ap}
 use mathlib.Core.Bool.{Bool, true, false, cond, not, and-eq-true-iff}
 use mathlib.Core.List.{List, _++_}

@@ -1,4 +1,4 @@
--- The last test of an op and its addition, as delivering and issuing share them. Assumes nothing.
+-- The last test of an op and its addition, as delivering and issuing share them.
 use Rattle.rules.specs.File.{headerCounts, width, countsOf, fileEnd, logOf}
 use Prim.Native.Nat.{ℕ, _+_, _<_, _≤_}
 use mathlib.Core.Path.{_≡_}

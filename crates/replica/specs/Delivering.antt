@@ -1,4 +1,4 @@
--- What the steps of delivering ask of a buffer and an op. Assumes nothing.
+-- What the steps of delivering ask of a buffer and an op.
 use Rattle.rules.specs.File.{headerCounts, Log, width, logOf}
 use Prim.Native.Nat.{ℕ}
 use mathlib.Core.Path.{_≡_}

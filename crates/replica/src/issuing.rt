@@ -11,6 +11,7 @@ use codec::write_op;
 use oplog::counts_of;
 use oplog::known_in;
 use oplog::known_parent;
+use replay::SLOTS;
 use replay::below;
 use replay::depth_of;
 use replay::replay_all;
@@ -112,8 +113,8 @@ fn draft_move_now(file: &[u8], node: u16, parent: u16) -> Drafted
     requires { ⌜ Movable (now file) node parent ⌝ }
     ensures { λ r. ⌜ r ≡ movedIn (parentsOf (logOf width (now (file .entry)))) node parent ⌝ }
 {
-    let mut parents = [0u16; 2041];
-    let mut outcomes = [0u8; 2041];
+    let mut parents = [0u16; SLOTS];
+    let mut outcomes = [0u8; SLOTS];
     replay_all(file, &mut parents, &mut outcomes, WIDTH);
     draft_move(&parents, node, parent)
 }

@@ -1,5 +1,6 @@
 use codec::Answer;
 use codec::Refusal;
+use replay::SLOTS;
 use replay::replay_all;
 use soundness::WIDTH;
 use soundness::is_sound;
@@ -17,13 +18,13 @@ pub fn judge(file: &[u8], parents: &mut [u16], outcomes: &mut [u8]) -> Answer
     if !is_sound(file) {
         return Answer::Refused(Refusal::Unsound);
     }
-    if parents.len() < 2041 {
+    if parents.len() < SLOTS {
         return Answer::Refused(Refusal::Length);
     }
-    if outcomes.len() < 2041 {
+    if outcomes.len() < SLOTS {
         return Answer::Refused(Refusal::Length);
     }
-    let n = 2041;
+    let n = SLOTS;
     replay_all(file, &mut parents[..n], &mut outcomes[..n], WIDTH);
     Answer::Done
 }

@@ -1,4 +1,4 @@
--- What the inner functions of the views ask. Assumes nothing.
+-- What the inner functions of the views ask.
 use Prim.Native.Nat.{ℕ, _+_, _<_, _≤_}
 use mathlib.Core.Path.{_≡_}
 use mathlib.Core.Bool.{true}

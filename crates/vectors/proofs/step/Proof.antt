@@ -1,4 +1,4 @@
--- `vectors::step` meets its contract. Assumes nothing.
+-- `vectors::step` meets its contract.
 use mathlib.Core.Path.{sym}
 use native.Mathlib.Omega.{arith}
 use borrow.Author.Needs.{needs}

@@ -1,4 +1,4 @@
--- `codec::op::put_vector` meets its contract. Assumes nothing.
+-- `codec::op::put_vector` meets its contract.
 use mathlib.Core.Path.{_≡_, refl, sym, ap, _∙_}
 use mathlib.Core.List.{List, _++_}
 use Prim.Native.Nat.{ℕ, _+_, _-_, _≤_}

@@ -1,4 +1,4 @@
--- `codec::vector::spread` meets its contract. Assumes nothing.
+-- `codec::vector::spread` meets its contract.
 use borrow.Author.Needs.{needs}
 use mathlib.Core.Path.{refl}
 use native.Mathlib.Omega.{arith}

@@ -1,4 +1,4 @@
--- `codec::vector::within` meets its contract. Assumes nothing.
+-- `codec::vector::within` meets its contract.
 use Rattle.codec.proofs.VectorLaws.{evenReach, oddReach, within-halves, spread-most, four-reach}
 use borrow.Author.Needs.{needs}
 use mathlib.Core.Path.{sym, _≡_, _∙_}

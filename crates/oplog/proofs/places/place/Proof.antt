@@ -1,4 +1,4 @@
--- `oplog::places::place` meets its contract. Assumes nothing.
+-- `oplog::places::place` meets its contract.
 use borrow.Author.Needs.{needs}
 use Rattle.oplog.proofs.FieldLaws.{placing}
 use Rattle.oplog.proofs.places.place.Statement.{statement}

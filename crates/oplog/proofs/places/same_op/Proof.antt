@@ -1,4 +1,4 @@
--- `oplog::places::same_op` meets its contract. Assumes nothing.
+-- `oplog::places::same_op` meets its contract.
 use Prim.Native.Nat.{_-_}
 use lib.ListN.{length}
 use Rattle.oplog.proofs.FieldLaws.{Compared, placing}

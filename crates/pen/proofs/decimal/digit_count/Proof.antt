@@ -1,4 +1,4 @@
--- `pen::decimal::digit_count` meets its contract. Assumes nothing.
+-- `pen::decimal::digit_count` meets its contract.
 use Rattle.pen.proofs.DecimalCases.{decimals}
 use Rattle.pen.proofs.decimal.digit_count.Statement.{statement}
 use Rattle.pen.proofs.decimal.digit_count.Tie as tie

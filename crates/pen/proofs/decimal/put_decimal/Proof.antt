@@ -1,4 +1,4 @@
--- `pen::decimal::put_decimal` meets its contract. Assumes nothing.
+-- `pen::decimal::put_decimal` meets its contract.
 use Rattle.pen.proofs.DecimalCases.{Putting, decimals}
 use Rattle.pen.proofs.decimal.put_decimal.Statement.{statement}
 use Rattle.pen.proofs.decimal.put_decimal.Tie as tie

@@ -3,7 +3,7 @@
 -- call to
 -- `write_line_with`, of which the proof knows only that it meets its contract, and comes back at its last value. The slice's borrow is
 -- given up for
--- good. Assumes nothing.
+-- good.
 use mathlib.Core.Path.{_≡_, refl}
 use mathlib.Core.Bool.{Bool}
 use Prim.Native.Nat.{ℕ, _<_, _^_}

@@ -1,4 +1,4 @@
--- `pen::line::line_size` meets its contract. Assumes nothing.
+-- `pen::line::line_size` meets its contract.
 use Rattle.pen.proofs.DecimalCases.{decimals}
 use Rattle.pen.proofs.line.line_size.Statement.{statement}
 use Rattle.pen.proofs.line.line_size.Tie as tie

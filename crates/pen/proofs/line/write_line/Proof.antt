@@ -1,4 +1,4 @@
--- `pen::line::write_line` meets its contract. Assumes nothing.
+-- `pen::line::write_line` meets its contract.
 use mathlib.Core.Path.{_≡_, _∙_}
 use Prim.Native.Nat.{_+_, _≤_}
 use native.Mathlib.Omega.{arith}

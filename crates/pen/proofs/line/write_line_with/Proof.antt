@@ -3,7 +3,7 @@
 -- `write_line`
 -- with the slice, of which the proof knows only that it meets its contract, and the borrow is closed at the pen that comes back. The
 -- slice's borrow
--- is given up for good: `write_line` is called at its own lifetime, share and ghost name. Assumes nothing.
+-- is given up for good: `write_line` is called at its own lifetime, share and ghost name.
 use mathlib.Core.Path.{_≡_, refl}
 use mathlib.Core.Bool.{Bool}
 use Prim.Native.Nat.{ℕ, _<_, _^_}

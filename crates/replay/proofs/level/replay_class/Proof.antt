@@ -1,4 +1,4 @@
--- `replay::level::replay_class` meets its contract. Assumes nothing.
+-- `replay::level::replay_class` meets its contract.
 use Rattle.replay.proofs.TurnLaws.{levelling, Left, kindFrom, due-asks}
 use Prim.Native.Nat.{_-_}
 use Rattle.rules.specs.File.{logOf}

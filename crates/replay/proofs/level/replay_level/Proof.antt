@@ -1,4 +1,4 @@
--- `replay::level::replay_level` meets its contract. Assumes nothing.
+-- `replay::level::replay_level` meets its contract.
 use Rattle.replay.proofs.TurnLaws.{levelling, Left, levelFrom}
 use Prim.Native.Nat.{_-_}
 use Rattle.rules.specs.File.{logOf}

@@ -1,4 +1,4 @@
--- `replay::level::replay_levels` meets its contract. Assumes nothing.
+-- `replay::level::replay_levels` meets its contract.
 use Rattle.replay.proofs.TurnLaws.{levelling, AtTime}
 use Prim.Native.Nat.{_+_, _-_}
 use Rattle.rules.specs.File.{logOf}

@@ -1,4 +1,4 @@
--- `replay::ready::next_op` meets its contract. Assumes nothing.
+-- `replay::ready::next_op` meets its contract.
 use native.Mathlib.Omega.{arith}
 use Rattle.replay.proofs.ReadyLaws.{readies, next-in-file}
 use Rattle.replay.proofs.ready.next_op.Statement.{statement}

@@ -1,4 +1,4 @@
--- `replica::issuing::move_kind` meets its contract. Assumes nothing.
+-- `replica::issuing::move_kind` meets its contract.
 use borrow.Author.Needs.{needs}
 use Rattle.replica.proofs.IssueCases.{issuing}
 use Rattle.replica.proofs.issuing.move_kind.Statement.{statement}

@@ -1,4 +1,4 @@
--- `vectors::calls::issue_part` meets its contract. Assumes nothing.
+-- `vectors::calls::issue_part` meets its contract.
 use mathlib.Core.Path.{sym}
 use borrow.Author.Needs.{needs}
 use lib.Seq.{length-take-le}

@@ -1,4 +1,4 @@
--- `vectors::calls::judge_parts` meets its contract. Assumes nothing.
+-- `vectors::calls::judge_parts` meets its contract.
 use mathlib.Core.Path.{sym}
 use borrow.Author.Needs.{needs}
 use lib.Seq.{length-take-le}

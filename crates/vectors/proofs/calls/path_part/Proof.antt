@@ -1,4 +1,4 @@
--- `vectors::calls::path_part` meets its contract. Assumes nothing.
+-- `vectors::calls::path_part` meets its contract.
 use borrow.Author.Needs.{needs}
 use lib.Seq.{length-take-le}
 use mathlib.Core.Path.{sym}

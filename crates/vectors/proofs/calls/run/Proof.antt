@@ -1,4 +1,4 @@
--- `vectors::calls::run` meets its contract. Assumes nothing.
+-- `vectors::calls::run` meets its contract.
 use mathlib.Core.Path.{sym}
 use native.Mathlib.Omega.{arith}
 use borrow.Author.Needs.{needs}

@@ -1,4 +1,4 @@
--- `oplog::marker::Marker::in_file` meets its contract. Assumes nothing.
+-- `oplog::marker::Marker::in_file` meets its contract.
 use borrow.Author.Needs.{needs}
 use Rattle.oplog.proofs.MarkerLaws.{stepping}
 use Rattle.oplog.proofs.marker.Marker.in_file.Statement.{statement}
