@@ -10,7 +10,8 @@ use lib.Dec.{leb, ltb, eqb}
 use borrow.Author.Tests.{eqb-true, le-leb, lt-leb, lt-ltb, le-ltb, eq-eqb, ne-eqb, not-false, not-true}
 use Rattle.rules.specs.Op.{isReplica, ownCount, replicaOf, wellFormed, countIn, isRemove, kindOf, vectorOf, parentOf, nodeOf, seqOf}
 use Rattle.rules.specs.Bytes.{byte}
-use Rattle.codec.specs.Read.{kindFits, fieldsOf, readOf, Origin}
+use Rattle.codec.specs.Asked.{kindFits, Origin}
+use Rattle.codec.specs.Read.{fieldsOf, readOf}
 use Rattle.codec.specs.declared.op.Fields.{Fields}
 use Rattle.codec.specs.declared.op.Read.the-variants.{Op, Refused}
 use Rattle.codec.specs.declared.answer.Refusal.the-variants.{Length, Malformed}

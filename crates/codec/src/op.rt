@@ -10,7 +10,8 @@ ghost use mathlib.Core.List.{_++_};
 ghost use Prim.Native.Nat.{_+_, _≤_};
 ghost use lib.ListN.{length, take, drop};
 ghost use Rattle.rules.specs.Issue.{opBytes};
-ghost use Rattle.codec.specs.Read.{kindFits, readOf, Origin};
+ghost use Rattle.codec.specs.Asked.{kindFits, Origin};
+ghost use Rattle.codec.specs.Read.{readOf};
 ghost use Rattle.rules.specs.Op.{ownCount};
 
 // The fields of an op but its vector, which stays beside it: an enum holds no array.

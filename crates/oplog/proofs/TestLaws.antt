@@ -16,7 +16,7 @@ use Rattle.rules.specs.Log.{closed, closedAt, known, knownParent, laid, soundHe
 use Rattle.rules.specs.Op.{Op, Vector, replicaOf, countIn, seqOf, isReplica, ownCount, isAdd, vectorOf, wellFormed, isRemove, kindOf, nodeNumber, parentOf, nodeOf}
 use Rattle.rules.proofs.FileLaws.{counts-logOf}
 use Rattle.rules.proofs.ReplicaLaws.{passFrom, pass-all, pass-turn, pass-end}
-use Rattle.codec.specs.Read.{kindFits}
+use Rattle.codec.specs.Asked.{kindFits}
 use Rattle.oplog.specs.Places.{InFile, Held, placeOf}
 use Rattle.oplog.specs.Tests.{LaidOut, namesBy, moveNames, ownBy, passesBy, soundAt}
 use Rattle.oplog.proofs.FieldLaws.{held-of, fields-at, small, in-file-of}

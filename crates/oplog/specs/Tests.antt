@@ -7,7 +7,7 @@ use lib.Dec.{leb, eqb}
 use Rattle.rules.specs.Op.{Vector, countIn}
 use Rattle.rules.specs.File.{Log, countAt, headerCounts, logOf, opAt}
 use Rattle.rules.specs.Log.{laid, known, knownParent, covered, closed, soundOp}
-use Rattle.codec.specs.Read.{kindFits}
+use Rattle.codec.specs.Asked.{kindFits}
 use Rattle.oplog.specs.declared.marker.Marker.{Marker}
 
 -- a laid-out file and its counts

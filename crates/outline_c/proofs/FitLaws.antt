@@ -4,7 +4,7 @@ use lib.ListN.{length}
 use mathlib.Core.List.{List}
 use mathlib.Core.Path.{_≡_, refl, transport, ap}
 use native.Mathlib.Omega.{arith}
-use Rattle.outline_c.specs.Number.{fits}
+use Rattle.outline_c.specs.Fits.{fits}
 use Rattle.rules.specs.Views.{View}
 use Rattle.rules.specs.Listing.{listingAnswer, listingOf, listing}
 use Rattle.rules.specs.Path.{pathAnswer, pathOf, pathCall}

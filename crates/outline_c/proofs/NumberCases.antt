@@ -15,7 +15,8 @@ use Rattle.rules.specs.Listing.{listing}
 use Rattle.rules.specs.File.{width}
 use Rattle.rules.specs.Path.{Written, pathCall}
 use Rattle.rules.specs.Views.{View}
-use Rattle.outline_c.specs.Number.{number, fits, ofResult, ofIssued, ofJudgement, ofWritten}
+use Rattle.outline_c.specs.Number.{number, ofResult, ofIssued, ofJudgement, ofWritten}
+use Rattle.outline_c.specs.Fits.{fits}
 use Rattle.outline_c.proofs.FitLaws.{make-fits, deliver-fits, issue-fits, judge-fits, path-fits, listing-fits, value-fits}
 use Rattle.codec.specs.declared.answer.Answer as code
 

@@ -6,7 +6,7 @@ use Rattle.codec.proofs.AnswerLaws.{accepted-with}
 use Rattle.rules.specs.File.{countAt, fileEnd, headerCounts, startOf, width}
 use Rattle.oplog.proofs.FieldLaws.{counts-in}
 use Rattle.oplog.proofs.HeaderLaws.{end-is}
-use Rattle.codec.specs.Answers.{isAccepted}
+use Rattle.codec.specs.Asked.{isAccepted}
 use Rattle.soundness.proofs.SoundCases.{laid-of}
 use Rattle.rules.proofs.ReplicaLaws.{replica-high, replica-low}
 use Rattle.rules.proofs.DeliverLaws.{required}

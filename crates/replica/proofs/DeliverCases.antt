@@ -24,7 +24,8 @@ use Rattle.rules.proofs.StructureLaws.{count-held}
 use Rattle.oplog.specs.Places.{Held, InFile, placeOf}
 use Rattle.oplog.specs.Tests.{namesBy}
 use Rattle.oplog.proofs.FieldLaws.{held-of, counts-in, op-is}
-use Rattle.codec.specs.Answers.{isAccepted, numberOf}
+use Rattle.codec.specs.Asked.{isAccepted}
+use Rattle.codec.specs.Answers.{numberOf}
 use Rattle.codec.specs.Read.{fieldsOf, readOf}
 use Rattle.codec.specs.declared.answer.Refusal.{Refusal}
 use Rattle.codec.specs.declared.answer.Refusal.the-variants.{Length, Malformed}

@@ -21,7 +21,8 @@ use Rattle.rules.specs.Sound.{sound}
 use Rattle.lists.proofs.BoolLaws.{tested}
 use Rattle.rules.proofs.FileLaws.{counts-logOf, length-counts}
 use Rattle.rules.proofs.SoundLaws.{sound-structural}
-use Rattle.codec.specs.Answers.{isAccepted, numberOf}
+use Rattle.codec.specs.Asked.{isAccepted}
+use Rattle.codec.specs.Answers.{numberOf}
 use Rattle.codec.specs.declared.answer.Refusal.{Refusal}
 use Rattle.codec.specs.declared.answer.Refusal.the-variants.{Unknown, Exhausted, Cycle}
 use Rattle.codec.proofs.AnswerLaws.{if-accepted, if-not-accepted}

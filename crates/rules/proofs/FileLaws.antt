@@ -6,12 +6,12 @@ use native.Mathlib.Nat.{mul-zero, mul-add, div-add-mod', not-suc-le-zero, le-of-
 use native.Mathlib.Numerals.{unary-clauses}
 use native.Mathlib.Omega.{arith}
 use lib.ListN.{length, take, drop, getD, set, length-append, length-take, length-drop, length-map}
-use lib.Seq.{take-add, drop-drop, getD-take, getD-drop, take-at, drop-at, drop-cons}
+use lib.Seq.{take-add, drop-drop, take-at, drop-at, drop-cons}
 use lib.Arith.{digits-div, digits-mod}
 use Rattle.rules.specs.Bytes.{byte, wordAt, word}
 use Rattle.lists.specs.Lists.{upFrom, sum, concat}
 use Rattle.rules.specs.Op.{Op, Vector, replicas, countIn}
-use Rattle.rules.specs.File.{Log, opsOf, opAt, countsOf, countAt, startAt, headerCounts, startOf, endOf, fileEnd, chunks, chunksOf, logOf, headerEntry, headerOf, fileOf}
+use Rattle.rules.specs.File.{Log, opsOf, countsOf, countAt, startAt, headerCounts, startOf, endOf, fileEnd, chunks, chunksOf, logOf, headerEntry, headerOf, fileOf}
 use Rattle.lists.proofs.ListLaws.{concat-append}
 use Rattle.lists.proofs.RangeLaws.{map-getD}
 use Rattle.lists.proofs.NumberLaws.{mul-step}
