@@ -1,4 +1,4 @@
--- The fields of the op that starts at a place of a file, byte by byte. Assumes nothing.
+-- The fields of the op that starts at a place of a file, byte by byte.
 use mathlib.Core.Path.{_≡_, _∙_}
 use mathlib.Core.List.{List}
 use Prim.Native.Nat.{ℕ, _+_}

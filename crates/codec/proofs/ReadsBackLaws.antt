@@ -1,4 +1,4 @@
--- An issued op reads back as it was meant. Assumes nothing.
+-- An issued op reads back as it was meant.
 use mathlib.Core.Path.{_≡_, refl, _∙_}
 use mathlib.Core.Bool.{true}
 use Prim.Native.Nat.{ℕ, _+_}

@@ -1,10 +1,10 @@
--- Turns of the loops over the eight counts of a vector. Assumes nothing.
+-- Turns of the loops over the eight counts of a vector.
 use Prim.Native.Nat.{ℕ, _+_, _-_, _<_, _*_, _/_, _%_, _≤_}
 use borrow.Author.Tests.{lt-leb, le-leb, eq-eqb, ne-eqb}
 use lib.Dec.{leb, eqb}
 use lib.ListN.{length, take, getD, set, length-set}
 use lib.Seq.{take-all}
-use mathlib.Core.Bool.{_&&_, Bool, and-eq-true-iff, true}
+use mathlib.Core.Bool.{_&&_, Bool, and-eq-true-iff, true, false}
 use mathlib.Core.List.{List, map}
 use mathlib.Core.Path.{_≡_, refl, sym, _∙_}
 use native.Mathlib.Decide.{decLe}
@@ -16,6 +16,7 @@ use Rattle.lists.specs.Lists.{upFrom, all}
 use Rattle.rules.specs.File.{within}
 use Rattle.rules.specs.Op.{Vector, countIn, replicas}
 use Rattle.lists.proofs.ListLaws.{copy-step}
+use borrow.Author.Needs.{needs}
 
 pub length-eight : (F : ℕ → ℕ) → length (map F replicas) ≡ 8
 unfolding replicas upFrom
@@ -136,12 +137,42 @@ eight a b c d e f g h =
     let x = simp and-eq-true-iff at t in
     rw (x .0 .0, x .0 .1 .0, x .0 .1 .1 .0, x .0 .1 .1 .1, x .1 .0, x .1 .1 .0, x .1 .1 .1 .0, x .1 .1 .1 .1))
 
-abbrev pub reachesAt : Vector → Vector → ℕ → Bool
+abbrev reachesAt : Vector → Vector → ℕ → Bool
 reachesAt v u i = leb (getD v i 0) (getD u i 0)
 
+-- the counts of replicas 1, 3, 5 and 7, and those of 2, 4, 6 and 8
+unfoldable pub evenReach : Vector → Vector → Bool
+evenReach v u = reachesAt v u 0 && (reachesAt v u 2 && (reachesAt v u 4 && reachesAt v u 6))
+
+unfoldable pub oddReach : Vector → Vector → Bool
+oddReach v u = reachesAt v u 1 && (reachesAt v u 3 && (reachesAt v u 5 && reachesAt v u 7))
+
 -- a comparison of two vectors
-pub within-halves : (v u : Vector) → within v u ≡ ((reachesAt v u 0 && (reachesAt v u 2 && (reachesAt v u 4 && reachesAt v u 6)))
-    && (reachesAt v u 1 && (reachesAt v u 3 && (reachesAt v u 5 && reachesAt v u 7))))
-unfolding within all replicas upFrom countIn
-within-halves v u = eight (reachesAt v u 0) (reachesAt v u 1) (reachesAt v u 2) (reachesAt v u 3) (reachesAt v u 4) (reachesAt v u 5)
-    (reachesAt v u 6) (reachesAt v u 7)
+pub within-halves : (v u : Vector) → within v u ≡ (evenReach v u && oddReach v u)
+unfolding within all replicas upFrom countIn evenReach oddReach
+within-halves v u =
+    eight (reachesAt v u 0) (reachesAt v u 1) (reachesAt v u 2) (reachesAt v u 3) (reachesAt v u 4) (reachesAt v u 5) (reachesAt v u 6)
+    (reachesAt v u 7)
+
+---- the marks, one law for each return
+
+module _ (n : ℕ) where
+  pub first-unmarked : (n / 256 % 2 ≡ 1 → ⊥) → false ≡ allMarked n
+  unfolding allMarked
+  first-unmarked h = rw (ne-eqb (n / 256 % 2) 1 h)
+
+  module _ (a : n / 256 % 2 ≡ 1) where
+    pub second-unmarked : (n / 16777216 % 2 ≡ 1 → ⊥) → false ≡ allMarked n
+    unfolding allMarked
+    second-unmarked h = rw (eq-eqb (n / 256 % 2) 1 a, ne-eqb (n / 16777216 % 2) 1 h)
+
+    module _ (b : n / 16777216 % 2 ≡ 1) where
+      pub third-unmarked : (n / 1099511627776 % 2 ≡ 1 → ⊥) → false ≡ allMarked n
+      unfolding allMarked
+      third-unmarked h = rw (eq-eqb (n / 256 % 2) 1 a, eq-eqb (n / 16777216 % 2) 1 b, ne-eqb (n / 1099511627776 % 2) 1 h)
+
+      pub last-mark : n / 1099511627776 % 2 ≡ 1 → eqb (n / 72057594037927936 % 2) 1 ≡ allMarked n
+      unfolding allMarked
+      last-mark h = rw (eq-eqb (n / 256 % 2) 1 a, eq-eqb (n / 16777216 % 2) 1 b, eq-eqb (n / 1099511627776 % 2) 1 h)
+
+pub ruleset marking = (needs, first-unmarked, second-unmarked, third-unmarked, last-mark)

@@ -1,4 +1,4 @@
--- Laws of writing an op. Assumes nothing.
+-- Laws of writing an op.
 use lib.ListN.{length-append, length, take, drop, getD, set}
 use lib.Seq.{take-suc, drop-cons, set-at, length-take-le, drop-drop, sets-eq}
 use mathlib.Core.Path.{_≡_, ap, _∙_}

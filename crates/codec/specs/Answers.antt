@@ -1,6 +1,5 @@
--- What a call answers, in the document's terms (its table "Numbers handed back"). Assumes nothing.
+-- What a call answers, in the document's terms (its table "Numbers handed back").
 use Prim.Native.Nat.{ℕ}
-use mathlib.Core.Bool.{Bool, true, false}
 use Rattle.rules.specs.Answer.{Answer, refused, hadIt, done, accepted}
 use Rattle.codec.specs.declared.answer.Answer.the-variants.{Refused, HadIt, Done, Accepted}
 use Rattle.codec.specs.declared.answer.Refusal.{Refusal}
@@ -26,9 +25,3 @@ answerOf (Refused why) = refused (numberOf why)
 answerOf HadIt = hadIt
 answerOf Done = done
 answerOf (Accepted n) = accepted n
-
-unfoldable pub isAccepted : Answer → Bool
-isAccepted (refused n) = false
-isAccepted hadIt = false
-isAccepted done = false
-isAccepted (accepted n) = true

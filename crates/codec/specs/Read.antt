@@ -1,18 +1,14 @@
--- What the op reader answers. Assumes nothing.
+-- What the op reader answers.
 use Prim.Native.Nat.{ℕ}
 use mathlib.Core.List.{List}
-use mathlib.Core.Bool.{Bool, _&&_, _||_, not, cond}
+use mathlib.Core.Bool.{cond}
 use lib.ListN.{length}
-use lib.Dec.{leb, eqb}
+use lib.Dec.{eqb}
 use Rattle.rules.specs.Op.{kindOf, replicaOf, nodeOf, parentOf, seqOf, wellFormed}
 use Rattle.codec.specs.declared.op.Fields.{Fields}
 use Rattle.codec.specs.declared.op.Read.{Read}
 use Rattle.codec.specs.declared.op.Read.the-variants.{Op, Refused}
 use Rattle.codec.specs.declared.answer.Refusal.the-variants.{Length, Malformed}
-
--- whether a kind can stand with a parent
-abbrev pub kindFits : ℕ → ℕ → Bool
-kindFits k p = (leb 1 k && leb k 4) && (not (eqb k 2) || eqb p 0)
 
 abbrev pub fieldsOf : List ℕ → Fields
 fieldsOf b = record { kind = kindOf b; replica = replicaOf b; sequence = seqOf b; node = nodeOf b; parent = parentOf b }

@@ -1,4 +1,4 @@
--- "Every record issued is read back as it was meant" (demand 2), as one statement. Assumes nothing.
+-- "Every record issued is read back as it was meant" (demand 2), as one statement.
 use Prim.Native.Nat.{ℕ, _+_, _≤_}
 use mathlib.Core.Path.{_≡_}
 use mathlib.Core.Bool.{true, false}

@@ -1,4 +1,4 @@
--- Four counts in one number, and the marks that a comparison leaves in it. Assumes nothing.
+-- Four counts in one number, and the marks that a comparison leaves in it.
 use Prim.Native.Nat.{ℕ, _+_, _*_, _/_, _%_, _<_}
 use mathlib.Core.Bool.{Bool, _&&_}
 use lib.Dec.{eqb}

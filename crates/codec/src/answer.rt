@@ -1,5 +1,6 @@
 ghost use mathlib.Core.Path.{_≡_};
-ghost use Rattle.codec.specs.Answers.{answerOf, isAccepted};
+ghost use Rattle.codec.specs.Answers.{answerOf};
+ghost use Rattle.codec.specs.Asked.{isAccepted};
 
 // Why a call is refused: a case for each of the document's numbers.
 pub enum Refusal {

@@ -1,13 +1,18 @@
 use crate::answer::Refusal;
+use crate::field::kind_at;
+use crate::field::node_at;
+use crate::field::parent_at;
+use crate::field::replica_at;
 use crate::word::put_word;
 use crate::word::widen;
-use crate::word::word_at;
 ghost use mathlib.Core.Path.{_≡_};
 ghost use mathlib.Core.List.{_++_};
 ghost use Prim.Native.Nat.{_+_, _≤_};
 ghost use lib.ListN.{length, take, drop};
 ghost use Rattle.rules.specs.Issue.{opBytes};
-ghost use Rattle.codec.specs.Read.{kindFits, readOf};
+ghost use Rattle.codec.specs.Asked.{kindFits, Origin};
+ghost use Rattle.codec.specs.Read.{readOf};
+ghost use Rattle.rules.specs.Op.{ownCount};
 
 // The fields of an op but its vector, which stays beside it: an enum holds no array.
 pub struct Fields {
@@ -35,6 +40,14 @@ pub fn kind_fits(kind: u8, parent: u16) -> bool
     }
 }
 
+// The origin's own count in the vector of an op.
+fn own_count(bytes: &[u8], replica: u8) -> u8
+    requires { ⌜ Origin (now bytes) replica ⌝ }
+    ensures { λ r. ⌜ r ≡ ownCount (now (bytes .entry)) ⌝ }
+{
+    bytes[5 + widen(replica)]
+}
+
 // Reads an op of a width off its bytes: numbers 2 and 3.
 pub fn read_op(bytes: &[u8], width: usize) -> Read
     requires { ⌜ 14 ≤ width ⌝ }
@@ -43,23 +56,23 @@ pub fn read_op(bytes: &[u8], width: usize) -> Read
     if bytes.len() != width {
         return Read::Refused(Refusal::Length);
     }
-    let replica = bytes[1];
+    let replica = replica_at(bytes, 0);
     if replica < 1 {
         return Read::Refused(Refusal::Malformed);
     }
     if 8 < replica {
         return Read::Refused(Refusal::Malformed);
     }
-    let kind = bytes[0];
-    let parent = word_at(bytes, 4);
-    let own = bytes[5 + widen(replica)];
+    let own = own_count(bytes, replica);
     if 254 < own {
         return Read::Refused(Refusal::Malformed);
     }
+    let kind = kind_at(bytes, 0);
+    let parent = parent_at(bytes, 0);
     if !kind_fits(kind, parent) {
         return Read::Refused(Refusal::Malformed);
     }
-    let node = word_at(bytes, 2);
+    let node = node_at(bytes, 0);
     Read::Op(Fields {
         kind,
         replica,

@@ -4,7 +4,7 @@ ghost use lib.ListN.{length, take, drop};
 ghost use Rattle.codec.specs.Spread.{spreadOf, allMarked, Counts};
 ghost use Rattle.rules.specs.File as log;
 
-// The version vector (the paper's context) at a place.
+// The version vector (the document's context) at a place.
 pub(crate) fn read_vector(bytes: &[u8], at: usize) -> [u8; 8]
     requires { ⌜ at + 8 ≤ length (now bytes) ⌝ }
     ensures { λ r. ⌜ r ≡ take 8 (drop at (now (bytes .entry))) ⌝ }

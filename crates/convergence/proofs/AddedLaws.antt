@@ -1,4 +1,4 @@
--- The ops of a log as one list; a log whose ops are those of another and two more. Assumes nothing.
+-- The ops of a log as one list; a log whose ops are those of another and two more.
 use Prim.Native.Nat.{ℕ, zero, suc, _+_, _-_, _≤_, _<_}
 use lib.ListN.{length, getD, set}
 use mathlib.Core.Bool.{Bool, true, _||_, or-true, or-assoc, or-comm}

@@ -1,4 +1,4 @@
--- Two ops that two replicas issued from one log come to one buffer, in either order. Assumes nothing.
+-- Two ops that two replicas issued from one log come to one buffer, in either order.
 use Prim.Native.Nat.{ℕ, _+_, _*_, _≤_}
 use borrow.Author.Tests.{le-leb, lt-leb, lt-ltb}
 use lib.ListN.{length}

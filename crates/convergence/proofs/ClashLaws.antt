@@ -1,4 +1,4 @@
--- Two moves that are issued from one log: the order of their replay, and what each does. Assumes nothing.
+-- Two moves that are issued from one log: the order of their replay, and what each does.
 use Prim.Native.Nat.{ℕ, _≤_, _<_}
 use borrow.Author.Tests.{lt-ltb, le-ltb}
 use lib.Dec.{eqb, ltb}

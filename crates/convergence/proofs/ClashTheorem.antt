@@ -1,4 +1,4 @@
--- Of two clashing moves issued from one log, the upward one or else the higher replica's is applied, and the other is not. Assumes nothing.
+-- Of two clashing moves issued from one log, the upward one or else the higher replica's is applied, and the other is not.
 use Prim.Native.Nat.{_≤_, _<_, _+_, _*_, ℕ, suc}
 use borrow.Author.Tests.{eq-eqb, ne-eqb, lt-ltb, ltb-false}
 use lib.Dec.{ltb, eqb}
@@ -15,7 +15,7 @@ use Rattle.convergence.proofs.ArriveLaws.{Adds, issue-adds, op-adds, ar
 use Rattle.convergence.proofs.ClashLaws.{winner-first}
 use Rattle.rules.proofs.StepLaws.{passed-over, placed-already, applied, blocked, applies, tables-full}
 use Rattle.convergence.proofs.MoveLaws.{opOf, upward, Asked, asked, Drawn, drawn, slot-in, valid-node, y-blocked, circle-is}
-use Rattle.convergence.specs.Clash.{Move, nextSlot, request, beats, circle, clash, Wins, hang, Issued, putOut, BothAdded, Arrives, Arrivals, ClashDecided, BothArrive, CircleCutsOff}
+use Rattle.convergence.specs.Clash.{Move, nextSlot, request, beats, circle, clash, Wins, hang, BothIssued, putOut, BothAdded, Arrives, Arrivals, ClashDecided, BothArrive, CircleCutsOff}
 use Rattle.convergence.specs.Exchange.{Call, deliver, has}
 use Rattle.order.proofs.LateLaws.{Late, ordered-late, late-empty, late-ready, top}
 use Rattle.order.proofs.PlacedLaws.{placed-by}
@@ -254,7 +254,7 @@ put-out f out x n e =
     rw (e, take-at (opOf (logOf width f) x) (drop width out) width long)
 
 -- what two accepted issues say
-module _ (f g out out′ : List ℕ) (x y : Move) (both : Issued f g out out′ x y) where
+module _ (f g out out′ : List ℕ) (x y : Move) (both : BothIssued f g out out′ x y) where
   abbrev log : Log
   log = logOf width f
 

@@ -1,4 +1,4 @@
--- Two logs that meet come to the same file: demand 3. Assumes nothing.
+-- Two logs that meet come to the same file: demand 3.
 use mathlib.Core.Path.{_≡_, refl, sym, ap, _∙_}
 use mathlib.Core.Logic.{_⊎_, inl, inr, ⊎-elim}
 use mathlib.Core.Bool.{Bool, true, false, cond, _&&_, _||_, not, or-true}

@@ -1,4 +1,4 @@
--- Laws of lists of ops: what a list has, how often, and what one list has and another lacks. Assumes nothing.
+-- Laws of lists of ops: what a list has, how often, and what one list has and another lacks.
 use mathlib.Core.Path.{_≡_, refl, sym, ap, _∙_}
 use mathlib.Core.Logic.{⊎-elim}
 use mathlib.Core.Bool.{Bool, true, false, cond, _||_, not, or-false, or-true}
@@ -44,7 +44,7 @@ pub times-append : (a b : List Op) (r : Op) → times (a ++ b) r ≡ times a r +
 unfolding times
 times-append a b r = rw (filter-append, length-append)
 
-pub times-none : (a : List Op) (r : Op) → has a r ≡ false → times a r ≡ 0
+times-none : (a : List Op) (r : Op) → has a r ≡ false → times a r ≡ 0
 unfolding times has any filter
 times-none [] r e = refl
 times-none (x ∷ a) r e = go (same r x) e (times-none a r)

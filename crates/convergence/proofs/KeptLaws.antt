@@ -1,4 +1,4 @@
--- After every list of calls the buffer is the file of the held ops and a rest. Assumes nothing.
+-- After every list of calls the buffer is the file of the held ops and a rest.
 use mathlib.Core.Path.{_≡_, refl, ap, _∙_}
 use mathlib.Core.Bool.{true, false}
 use mathlib.Core.List.{List, [], _∷_, _++_, foldl}
@@ -63,7 +63,7 @@ kept-front x k =
     ap (take (fileEnd width (x .buffer))) (k .front) ∙ take-at (fileOf width (logIn x)) _ _ (kept-end x k)
 
 -- a file in front of a rest
-pub kept-file : (log : Log) (rest : List ℕ) (ops : List Op) → SoundLog log → WideLog width log → Tracks log ops
+kept-file : (log : Log) (rest : List ℕ) (ops : List Op) → SoundLog log → WideLog width log → Tracks log ops
     → ((r : Op) → times ops r ≤ 1) → Kept (record { buffer = fileOf width log ++ rest; held = ops })
 kept-file log rest ops g w t o = record {
   is-sound = sound-file width log rest g w;
@@ -157,7 +157,7 @@ kept-perform x (deliver r) k = go (deliverAnswer width (x .buffer) r) refl
     go (accepted n) e = kept-grown x r n k (admitted width (x .buffer) r n e)
 
 -- after every list of calls
-pub kept-calls : (calls : List Call) (x : Site) → Kept x → Kept (foldl perform x calls)
+kept-calls : (calls : List Call) (x : Site) → Kept x → Kept (foldl perform x calls)
 kept-calls [] x k = k
 kept-calls (c ∷ calls) x k = kept-calls calls (perform x c) (kept-perform x c k)
 

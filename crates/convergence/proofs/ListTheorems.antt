@@ -1,4 +1,4 @@
--- What every list of calls comes to, proved. Assumes nothing.
+-- What every list of calls comes to, proved.
 use Rattle.convergence.specs.Exchange.{standing, Call, make, issue, deliver, Site, answer, bufferAfter, heldThen, perform, lent, run, outAfter, Reply, reply, replies, fileIn, has, Agreed}
 use mathlib.Core.Path.{_≡_, refl, sym, ap, _∙_}
 use mathlib.Core.Bool.{true}
@@ -143,7 +143,7 @@ added-leaves f r n h = (
   rw (← h .end) (appended-past width f r n h),
 )
 
-pub calls-keep-past : CallsKeepPast
+calls-keep-past : CallsKeepPast
 unfolding bufferAfter answer makeBuffer issueBuffer deliverBuffer
 calls-keep-past f make = by-answer f _ (makeAnswer f) (made-leaves f)
 calls-keep-past f (issue out s q) =

@@ -1,4 +1,4 @@
--- Moves that a log let through: the op of each, and what two of them do in the tree before them. Assumes nothing.
+-- Moves that a log let through: the op of each, and what two of them do in the tree before them.
 use Prim.Native.Nat.{_≤_, _<_, _+_, ℕ}
 use borrow.Author.Tests.{not-true, leb-true}
 use lib.Dec.{ltb, eqb}

@@ -1,6 +1,6 @@
 -- What a run of offers comes to: both sides stay files of ops of the union, the answers are those of a round, and each acceptance makes one
 -- op
--- less missing. Assumes nothing.
+-- less missing.
 use mathlib.Core.Path.{_≡_, refl, sym, ap, _∙_}
 use mathlib.Core.Logic.{⊎-elim}
 use mathlib.Core.Bool.{Bool, true, false, cond, _&&_, or-true}
@@ -185,7 +185,7 @@ module _ (u : Log) (su : SoundLog u) (wu : WideLog width u) (base : Side → Lis
 
     ---- a run of offers
 
-    pub pass-offers : (os : List Offer) (p : Pair) → ((d : Side) → Stands u (base d) (p d)) → ((d : Side) (r : Op) → offers os d r ≡ true
+    pass-offers : (os : List Offer) (p : Pair) → ((d : Side) → Stands u (base d) (p d)) → ((d : Side) (r : Op) → offers os d r ≡ true
         → has (p (other d) .held) r ≡ true) → Passes u base p (after p os) (answers p os)
     unfolding after answers offers any
     pass-offers [] p s h = pass-none p s
@@ -197,7 +197,7 @@ module _ (u : Log) (su : SoundLog u) (wu : WideLog width u) (base : Side → Lis
     ---- rounds
 
     module _ (p : Pair) (s : (d : Side) → Stands u (base d) (p d)) (os : Round) (v : ValidRound p os) where
-      pub pass-round : Passes u base p (after p os) (answers p os)
+      pass-round : Passes u base p (after p os) (answers p os)
       pass-round = pass-offers os p s (λ d r e. sym (v d r) ∙ e)
 
       lacks : (d : Side) (r : Op) → has (p (other d) .held) r ≡ true → has (p d .held) r ≡ false
@@ -240,7 +240,7 @@ module _ (u : Log) (su : SoundLog u) (wu : WideLog width u) (base : Side → Lis
           omega (arith, y .not-there)) (λ g. never (sym g ∙ c)) in
           (x, n, v d x ∙ s (other d) .kept .tracks .outside x i, e)
 
-      pub round-accepts : 1 ≤ length (missing p) → 1 ≤ length (acceptances (answers p os))
+      round-accepts : 1 ≤ length (missing p) → 1 ≤ length (acceptances (answers p os))
       unfolding other
       round-accepts h =
           let from : (d : Side) → 1 ≤ length (onlyIn (p (other d) .held) (p d .held)) → 1 ≤ length (acceptances (answers p os)) =

@@ -1,4 +1,4 @@
--- Laws of two sides: what an offer changes, and what is missing seen from either side. Assumes nothing.
+-- Laws of two sides: what an offer changes, and what is missing seen from either side.
 use mathlib.Core.Path.{_≡_, refl, sym, _∙_}
 use mathlib.Core.Bool.{true, false}
 use mathlib.Core.List.{List, [], _∷_, _++_, foldl-append, map-append}

@@ -1,4 +1,4 @@
--- A list of ops and the log of these ops: one more op in both, and the arrangement of the list. Assumes nothing.
+-- A list of ops and the log of these ops: one more op in both, and the arrangement of the list.
 use mathlib.Core.Path.{_≡_, refl, sym, ap, _∙_}
 use mathlib.Core.Logic.{⊎-elim}
 use mathlib.Core.Bool.{Bool, true, false, cond, _&&_}

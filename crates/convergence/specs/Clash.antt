@@ -1,5 +1,5 @@
 -- "If two seats each issue one move from one collection, nothing else is added, and the moves take the same node or together close a
--- circle, upward beats downward and otherwise the higher seat wins" (demand 2), as one statement. Assumes nothing.
+-- circle, upward beats downward and otherwise the higher seat wins" (demand 2), as one statement.
 use Prim.Native.Nat.{ℕ, _+_, _*_, _≤_}
 use lib.Dec.{eqb, ltb}
 use lib.ListN.{set, take, getD, length}
@@ -57,7 +57,7 @@ pub record Wins (log more : Log) (x y : Move) : Type 0 where
 ---- the calls
 
 -- the buffers f and g hold one log; x is accepted at f and y at g, of two replicas
-pub record Issued (f g out out′ : List ℕ) (x y : Move) : Type 0 where
+pub record BothIssued (f g out out′ : List ℕ) (x y : Move) : Type 0 where
   pub one-log : logOf width g ≡ logOf width f
   pub replicas-differ : x .replica ≡ y .replica → ⊥
   pub end : ℕ
@@ -77,7 +77,7 @@ pub record BothAdded (f h : List ℕ) (r r′ : Op) : Type 0 where
 abbrev pub ClashDecided : Type 0
 ClashDecided =
     -- "if two seats each issue one move from one collection,"
-    (f g out out′ : List ℕ) (x y : Move) → Issued f g out out′ x y
+    (f g out out′ : List ℕ) (x y : Move) → BothIssued f g out out′ x y
     -- "nothing else is added,"
     → (h : List ℕ) → BothAdded f h (putOut f out x) (putOut g out′ y)
     -- "and the moves take the same node or together close a circle,"
@@ -105,7 +105,7 @@ pub record Arrivals (f b out out′ : List ℕ) (x y : Move) (r r′ : Op) : Typ
 -- b is f, or another buffer that holds the same log, with room for two ops more
 abbrev pub BothArrive : Type 0
 BothArrive =
-    (f g out out′ : List ℕ) (x y : Move) → Issued f g out out′ x y
+    (f g out out′ : List ℕ) (x y : Move) → BothIssued f g out out′ x y
     → (b : List ℕ) → sound width b ≡ true → logOf width b ≡ logOf width f → fileEnd width b + 2 * width ≤ length b
     → Arrivals f b out out′ x y (putOut f out x) (putOut g out′ y)
 
@@ -114,6 +114,6 @@ BothArrive =
 -- what `circle` says is a circle: with both moves made, and only then, x's node has no way to the root
 abbrev pub CircleCutsOff : Type 0
 CircleCutsOff =
-    (f g out out′ : List ℕ) (x y : Move) → Issued f g out out′ x y
+    (f g out out′ : List ℕ) (x y : Move) → BothIssued f g out out′ x y
     → let parents = parentsOf (logOf width f) in
     circle parents x y ≡ not (atOrBelow (hang (hang parents x) y) (x .node) 0)

@@ -1,4 +1,4 @@
--- What two logs come to when they meet: demand 3 as one statement. Assumes nothing.
+-- What two logs come to when they meet: demand 3 as one statement.
 use Prim.Native.Nat.{ℕ, _≤_}
 use mathlib.Core.Path.{_≡_}
 use mathlib.Core.Bool.{Bool, true, false, cond, _&&_, not}

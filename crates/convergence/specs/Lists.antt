@@ -1,4 +1,4 @@
--- What every list of calls comes to: the file of the held ops; and that the calls and the buffer's length alone settle it. Assumes nothing.
+-- What every list of calls comes to: the file of the held ops; and that the calls and the buffer's length alone settle it.
 use Prim.Native.Nat.{ℕ, _≤_}
 use mathlib.Core.Path.{_≡_}
 use mathlib.Core.Bool.{true, false}

@@ -1,11 +1,11 @@
--- A meeting worked out: what the definitions of Exchange give for the paper's P1. Assumes nothing.
+-- A meeting worked out: what the definitions of Exchange give for the document's P1.
 use Prim.Native.Nat.{ℕ}
 use lib.ListN.{replicate}
 use mathlib.Core.Bool.{Bool, true, false, _||_, or-true}
 use mathlib.Core.List.{List, [], _∷_, _++_}
 use mathlib.Core.Path.{refl, _≡_}
 use native.Mathlib.Omega.{arith}
-use Rattle.convergence.specs.Clash.{Move, circle, beats, putOut, Issued, BothAdded, Arrivals}
+use Rattle.convergence.specs.Clash.{Move, circle, beats, putOut, BothIssued, BothAdded, Arrivals}
 use Rattle.convergence.specs.Converges.{expected}
 use Rattle.convergence.specs.Exchange.{Side, Round, left, Offer, Pair, Call, issue, deliver, run, right, make, missing, after, answers, acceptedBy, answer, answerTo, acceptances, isSide, arrange, inOrder, everything, other, perform, opNumbered, heldThen, has, onlyIn, bufferAfter, offered}
 use Rattle.rules.specs.Answer.{require}
@@ -123,7 +123,7 @@ lent = replicate 14 9
 
 -- all that `ClashDecided` and `BothArrive` speak of holds of them, and replica 2's wins
 pub record Clashed : Type 0 where
-  pub both-issued : Issued shared shared lent lent moved₁ moved₂
+  pub both-issued : BothIssued shared shared lent lent moved₁ moved₂
   pub first-op : putOut shared lent moved₁ ≡ a₃
   pub second-op : putOut shared lent moved₂ ≡ b₁
   pub both-arrive : Arrivals shared shared lent lent moved₁ moved₂ a₃ b₁

@@ -9,7 +9,7 @@ use lib.ListN.{getD, length, take}
 use native.Mathlib.Nat.{le-of-suc-le-suc, le-refl, not-suc-le-zero}
 use native.Mathlib.Decide.{ℕ-discrete}
 
-pub greatest-append : (xs ys : List ℕ) → greatest (xs ++ ys) ≡ max (greatest xs) (greatest ys)
+greatest-append : (xs ys : List ℕ) → greatest (xs ++ ys) ≡ max (greatest xs) (greatest ys)
 unfolding greatest
 greatest-append [] ys = omega arith
 greatest-append (x ∷ xs) ys = rw (greatest-append xs ys) (omega arith)

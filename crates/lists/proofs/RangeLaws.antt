@@ -12,11 +12,11 @@ use lib.ListN.{getD, length}
 use lib.Arith.{lt-of-le-ne}
 use native.Mathlib.Decide.{ℕ-discrete}
 
-pub upFrom-cons : (a n : ℕ) → upFrom a (suc n) ≡ a ∷ upFrom (suc a) n
+upFrom-cons : (a n : ℕ) → upFrom a (suc n) ≡ a ∷ upFrom (suc a) n
 unfolding upFrom
 upFrom-cons a n = refl
 
-pub upFrom-none : (a : ℕ) → upFrom a 0 ≡ []
+upFrom-none : (a : ℕ) → upFrom a 0 ≡ []
 unfolding upFrom
 upFrom-none a = refl
 

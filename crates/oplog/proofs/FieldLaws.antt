@@ -1,4 +1,4 @@
--- Where the fields of an op stand in a laid-out file. Assumes nothing.
+-- Where the fields of an op stand in a laid-out file.
 use lib.Seq.{getD-take, getD-drop, drop-drop, take-take}
 use lib.Dec.{eqb}
 use borrow.Author.Needs.{needs}
@@ -20,7 +20,7 @@ use Rattle.rules.proofs.FileLaws.{counts-at, counts-logOf, ops-chunksOf, length
 use Rattle.rules.proofs.CausalLaws.{within-le}
 use Rattle.lists.proofs.ListLaws.{sum-take, drop-take, sameFrom, same-all, same-turn, same-end}
 use Rattle.codec.proofs.AccessLaws.{kind-there, node-there, parent-there}
-use Rattle.oplog.specs.Spots.{Spot, Counted, placeOf}
+use Rattle.oplog.specs.Places.{InFile, Held, placeOf}
 
 -- two ops of the same fields
 pub record SameFields (r o : Op) : Type 0 where
@@ -49,7 +49,7 @@ same-front w o h =
 pub counts-in : (w : ℕ) (f : List ℕ) (s : ℕ) → 1 ≤ s → s ≤ 8 → countIn (countsOf (logOf w f)) s ≡ countAt f s
 counts-in w f s l u = ap (λ v. countIn v s) (counts-logOf w f) ∙ counts-at f s l u
 
-module _ (w : ℕ) (f : List ℕ) (s q : ℕ) (x : Spot w f s q) where
+module _ (w : ℕ) (f : List ℕ) (s q : ℕ) (x : InFile w f s q) where
   facts : Laid w f
   facts = laid-reads w f (x .is-laid)
 
@@ -115,8 +115,8 @@ module _ (w : ℕ) (f : List ℕ) (s q : ℕ) (x : Spot w f s q) where
     place-sum h = omega (arith, place-fits)
 
 -- a spot that a counted vector counts
-pub spot-of : (w : ℕ) (f : List ℕ) (v : Vector) → Counted w f v → (s q : ℕ) → 1 ≤ s → s ≤ 8 → 1 ≤ q → q ≤ countIn v s → Spot w f s q
-spot-of w f v h s q l u lq uq = record {
+pub in-file-of : (w : ℕ) (f : List ℕ) (v : Vector) → Held w f v → (s q : ℕ) → 1 ≤ s → s ≤ 8 → 1 ≤ q → q ≤ countIn v s → InFile w f s q
+in-file-of w f v h s q l u lq uq = record {
   wide = h .wide;
   is-laid = h .is-laid;
   low = l;
@@ -126,8 +126,8 @@ spot-of w f v h s q l u lq uq = record {
 }
 
 -- a vector within the held counts
-pub counted-of : (w : ℕ) (f : List ℕ) (v : Vector) → 14 ≤ w → laid w f ≡ true → within v (headerCounts f) ≡ true → Counted w f v
-counted-of w f v h e c = record {
+pub held-of : (w : ℕ) (f : List ℕ) (v : Vector) → 14 ≤ w → laid w f ≡ true → within v (headerCounts f) ≡ true → Held w f v
+held-of w f v h e c = record {
   wide = h;
   is-laid = e;
   each = λ s l u. omega (arith, within-le v (headerCounts f) c s l u, counts-at f s l u);

@@ -1,4 +1,4 @@
--- The header of a file, entry by entry, as the code reads and writes it. Assumes nothing.
+-- The header of a file, entry by entry, as the code reads and writes it.
 use mathlib.Core.Path.{_≡_, refl, sym, _∙_}
 use mathlib.Core.Bool.{Bool, true, false, _&&_, and-eq-true-iff}
 use mathlib.Core.List.{List, [], _∷_, map, _++_, append-nil, append-assoc, map-append}
@@ -69,9 +69,9 @@ module _ (f : List ℕ) (s : ℕ) where
   start-read m x e h = e ∙ h
 
   module _ (n : ℕ) (e : n ≡ countAt f s) (start : ℕ) where
-    pub entry-large : 255 < n → false ≡ entryRight f s start
+    pub entry-large : (k : ℕ) → k < n → 255 ≤ k → false ≡ entryRight f s start
     unfolding entryRight
-    entry-large h = rw (← e, lt-leb n 255 h)
+    entry-large k h l = rw (← e, lt-leb n 255 (omega arith))
 
     pub entry-small : n ≤ 255 → (m : ℕ) → m ≡ startAt f s → eqb m start ≡ entryRight f s start
     unfolding entryRight

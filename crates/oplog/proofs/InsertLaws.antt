@@ -1,4 +1,4 @@
--- Laws of putting an op into a buffer: bytes moved up, the op in front of them, the header anew. Assumes nothing.
+-- Laws of putting an op into a buffer: bytes moved up, the op in front of them, the header anew.
 use lib.ListN.{length-take, length-drop, length-append, length-set, List·getD-append, length, take, drop, getD, set}
 use lib.Seq.{take-all, take-length, take-suc, drop-cons, append-snoc, set-at, length-take-le, getD-take, slice, slice-cons, slice-empty, take-take, drop-drop, take-add, drop-at}
 use mathlib.Core.List.{append-nil, List, [], _∷_, _++_, map, append-assoc}
@@ -25,10 +25,10 @@ use Rattle.oplog.proofs.HeaderLaws.{end-is, laid-header, laid-long, sta
 abbrev pub moved : ℕ → ℕ → List ℕ → ℕ → List ℕ
 moved w m p k = take (k + w) p ++ slice k m p
 
-pub moved-none : (w m : ℕ) (p : List ℕ) → length p ≤ m + w → p ≡ moved w m p m
+moved-none : (w m : ℕ) (p : List ℕ) → length p ≤ m + w → p ≡ moved w m p m
 moved-none w m p h = sym (rw (take-all (m + w) p h, slice-empty m p, append-nil))
 
-pub moved-step : (w m : ℕ) (p : List ℕ) (j k : ℕ) → suc j ≡ k → k ≤ m → m + w ≤ length p
+moved-step : (w m : ℕ) (p : List ℕ) (j k : ℕ) → suc j ≡ k → k ≤ m → m + w ≤ length p
     → set (moved w m p k) (j + w) (getD (moved w m p k) j 0) ≡ moved w m p j
 moved-step w m p j k e hk hm =
     let e′ : k + w ≡ suc (j + w) = omega arith in
@@ -52,8 +52,8 @@ module _ (w : ℕ) (p : List ℕ) where
   move-first h = record { long = h; few = omega arith; same = refl; bytes = moved-none w (length p - w) p (omega arith) }
 
   module _ (part : List ℕ) (k : ℕ) (t : MovedUp w p part k) where
-    pub move-next : 0 < k → MovedUp w p (set part (k - 1 + w) (getD part (k - 1) 0)) (k - 1)
-    move-next h = record {
+    pub move-next : (n : ℕ) → n < k → MovedUp w p (set part (k - 1 + w) (getD part (k - 1) 0)) (k - 1)
+    move-next n h = record {
       long = t .long;
       few = omega (arith, t .few);
       same = length-set part _ _ ∙ t .same;
@@ -177,9 +177,9 @@ put-head w v r b x y place end e i = i ∙ rw e
 ---- adding an op: v are the held counts
 
 module _ (v : Vector) (s : ℕ) where
-  pub more-fits : countIn v s < 255 → getD v (s - 1) 0 + 1 < 2 ^ 8
+  pub more-fits : countIn v s < 255 → (n : ℕ) → n ≤ 1 → getD v (s - 1) 0 + n < 2 ^ 8
   unfolding countIn
-  more-fits h = omega arith
+  more-fits h n l = omega arith
 
   pub more-is : set v (s - 1) (getD v (s - 1) 0 + 1) ≡ set v (s - 1) (countIn v s + 1)
   unfolding countIn

@@ -1,5 +1,5 @@
 -- A walk through all ops with a marker, in file order. E says something of replica s's op number q; what is left at a marker is what E says
--- of the ops from there on. Assumes nothing.
+-- of the ops from there on.
 use mathlib.Core.Path.{_≡_, refl, sym, ap, _∙_}
 use mathlib.Core.Bool.{Bool, true, false, cond, _&&_, and-assoc}
 use mathlib.Core.List.{List, [], _∷_, _++_, map}
@@ -21,7 +21,7 @@ use Rattle.rules.proofs.FileLaws.{log-eta}
 use Rattle.rules.proofs.ReplicaLaws.{all-alike, map-replicas}
 use Rattle.rules.proofs.StructureLaws.{count-held, laid-reads}
 use Rattle.oplog.specs.declared.marker.Marker.{Marker}
-use Rattle.oplog.specs.Spots.{Spot, nextOf}
+use Rattle.oplog.specs.Places.{InFile, nextMarker}
 use Rattle.oplog.specs.Tests.{LaidOut, soundAt, soundHere}
 use Rattle.oplog.proofs.FieldLaws.{counts-in}
 use Rattle.oplog.proofs.HeaderLaws.{laid-long}
@@ -78,15 +78,15 @@ module _ {A : Type 0} (log : Log) (E : ℕ → ℕ → A) where
 ---- a step of the marker; n is the count that was read
 
 module _ (f : List ℕ) (m : Marker) (n : ℕ) (e : n ≡ countAt f (m .replica)) where
-  pub held-read : leb (m .sequence) n ≡ leb (m .sequence) (countAt f (m .replica))
-  held-read = rw e
+  pub in-file-read : leb (m .sequence) n ≡ leb (m .sequence) (countAt f (m .replica))
+  in-file-read = rw e
 
-  pub next-more : m .sequence < n → record { replica = m .replica; sequence = m .sequence + 1 } ≡ nextOf f m
-  unfolding nextOf
+  pub next-more : m .sequence < n → record { replica = m .replica; sequence = m .sequence + 1 } ≡ nextMarker f m
+  unfolding nextMarker
   next-more h = rw (← e, lt-ltb (m .sequence) n h)
 
-  pub next-replica : n ≤ m .sequence → record { replica = m .replica + 1; sequence = 1 } ≡ nextOf f m
-  unfolding nextOf
+  pub next-replica : n ≤ m .sequence → record { replica = m .replica + 1; sequence = 1 } ≡ nextMarker f m
+  unfolding nextMarker
   next-replica h = rw (← e, le-ltb (m .sequence) n h)
 
 ---- a turn of the walk
@@ -106,23 +106,12 @@ pub record Onward (m m′ : Marker) : Type 0 where
   pub at : Walk m′
   pub less : togo m′ < togo m
 
-module _ (w : ℕ) (f : List ℕ) (good : laid w f ≡ true) (m m′ : Marker) (e : m′ ≡ nextOf f m) (at : Walk m) (u : m .replica ≤ 8) where
+module _ (w : ℕ) (f : List ℕ) (good : laid w f ≡ true) (m m′ : Marker) (e : m′ ≡ nextMarker f m) (at : Walk m) (u : m .replica ≤ 8) where
   abbrev isHeld : Bool
   isHeld = leb (m .sequence) (countAt f (m .replica))
 
-  -- the op at the marker is there
-  pub spot-at : 14 ≤ w → isHeld ≡ true → Spot w f (m .replica) (m .sequence)
-  spot-at h t = record {
-    wide = h;
-    is-laid = good;
-    low = at .low;
-    high = u;
-    first = at .first;
-    last = leb-true _ _ t;
-  }
-
   pub onward : Onward m m′
-  unfolding nextOf
+  unfolding nextMarker
   onward = rw e (elim (decLe (m .sequence + 1) (countAt f (m .replica))) [
     | yes h ↦
         let k : countAt f (m .replica) ≤ 255 = laid-reads w f good .counts (m .replica) (at .low) u in
@@ -139,7 +128,7 @@ module _ (w : ℕ) (f : List ℕ) (good : laid w f ≡ true) (m m′ : Marker) (
   -- the op at the marker comes first, if it is there
   pub left-next : {A : Type 0} (E : ℕ → ℕ → A) → let rest = left (logOf w f) E (m′ .replica) (m′ .sequence) in
       left (logOf w f) E (m .replica) (m .sequence) ≡ cond isHeld (E (m .replica) (m .sequence) ∷ rest) rest
-  unfolding nextOf
+  unfolding nextMarker
   left-next E =
       let s : ℕ = m .replica in
       let q : ℕ = m .sequence in
@@ -154,7 +143,7 @@ module _ (w : ℕ) (f : List ℕ) (good : laid w f ≡ true) (m m′ : Marker) (
       ])
 
 ---- what the code of the marker needs: search stepping
-pub ruleset stepping = (needs, held-read, next-more, next-replica)
+pub ruleset stepping = (needs, in-file-read, next-more, next-replica)
 
 ---- what the walk of a whole log says
 
@@ -201,7 +190,7 @@ sound-row log s =
     let n : length (opsOf log s) + 1 - 1 ≡ length (opsOf log s) = omega arith in
     rw n (tests log s 1 (opsOf log s))
 
-pub left-sound : (log : Log) → soundLog log ≡ every (left log (soundAt log) 1 1)
+left-sound : (log : Log) → soundLog log ≡ every (left log (soundAt log) 1 1)
 unfolding soundLog
 left-sound log =
     all-alike _ _ (λ s l u. sound-row log s)
@@ -220,9 +209,9 @@ module _ (w : ℕ) (f : List ℕ) (m : Marker) where
     unfolding soundHere
     here-some b h = rw e h
 
-    pub here-spot : (counts : Vector) → LaidOut w f counts → 1 ≤ m .replica → m .replica ≤ 8 → 1 ≤ m .sequence
-        → Spot w f (m .replica) (m .sequence)
-    here-spot counts t l u h = record {
+    pub here-in-file : (counts : Vector) → LaidOut w f counts → 1 ≤ m .replica → m .replica ≤ 8 → 1 ≤ m .sequence
+        → InFile w f (m .replica) (m .sequence)
+    here-in-file counts t l u h = record {
       wide = t .wide;
       is-laid = t .is-laid;
       low = l;
@@ -249,7 +238,7 @@ module _ (w : ℕ) (f : List ℕ) (m : Marker) where
     walk-last h = sym (t .rest ∙ ap every (left-end (logOf w f) _ (m .replica) (m .sequence) h))
 
     module _ (counts : Vector) (g : LaidOut w f counts) (u : m .replica ≤ 8) where
-      turn : (m′ : Marker) → m′ ≡ nextOf f m
+      turn : (m′ : Marker) → m′ ≡ nextMarker f m
           → soundLog (logOf w f) ≡ (soundHere w f m && every (left (logOf w f) (soundAt (logOf w f)) (m′ .replica) (m′ .sequence)))
       unfolding all soundHere
       turn m′ e =
@@ -263,9 +252,9 @@ module _ (w : ℕ) (f : List ℕ) (m : Marker) where
           go false b bs = refl
 
       pub walk-fails : soundHere w f m ≡ false → false ≡ soundLog (logOf w f)
-      walk-fails e = sym (turn (nextOf f m) refl ∙ rw e)
+      walk-fails e = sym (turn (nextMarker f m) refl ∙ rw e)
 
-      module _ (m′ : Marker) (e : m′ ≡ nextOf f m) where
+      module _ (m′ : Marker) (e : m′ ≡ nextMarker f m) where
         pub walk-less : togo m′ < togo m
         walk-less = onward w f (g .is-laid) m m′ e (t .at) u .less
 
@@ -273,4 +262,6 @@ module _ (w : ℕ) (f : List ℕ) (m : Marker) where
         walk-next h = record { at = onward w f (g .is-laid) m m′ e (t .at) u .at; rest = turn m′ e ∙ rw h }
 
 ---- what the code of the walk needs: search walking
-pub ruleset walking = (needs, tested, laid-long, here-none, here-some, here-spot, walk-first, walk-fails, walk-less, walk-next, walk-last)
+pub ruleset here = (here-none, here-some, here-in-file)
+
+pub ruleset walking = (needs, tested, laid-long, here, walk-first, walk-fails, walk-less, walk-next, walk-last)

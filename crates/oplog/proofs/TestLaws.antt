@@ -1,4 +1,4 @@
--- The tests of an op against a log, as the code makes them. Assumes nothing.
+-- The tests of an op against a log, as the code makes them.
 use mathlib.Core.Path.{_≡_, refl, sym, _∙_}
 use mathlib.Core.Logic.{_⊎_, ⊎-elim}
 use mathlib.Core.Bool.{Bool, true, false, not, _&&_, and-eq-true-iff}
@@ -16,10 +16,10 @@ use Rattle.rules.specs.Log.{closed, closedAt, known, knownParent, laid, soundHe
 use Rattle.rules.specs.Op.{Op, Vector, replicaOf, countIn, seqOf, isReplica, ownCount, isAdd, vectorOf, wellFormed, isRemove, kindOf, nodeNumber, parentOf, nodeOf}
 use Rattle.rules.proofs.FileLaws.{counts-logOf}
 use Rattle.rules.proofs.ReplicaLaws.{passFrom, pass-all, pass-turn, pass-end}
-use Rattle.codec.specs.Read.{kindFits}
-use Rattle.oplog.specs.Spots.{Spot, Counted, placeOf}
+use Rattle.codec.specs.Asked.{kindFits}
+use Rattle.oplog.specs.Places.{InFile, Held, placeOf}
 use Rattle.oplog.specs.Tests.{LaidOut, namesBy, moveNames, ownBy, passesBy, soundAt}
-use Rattle.oplog.proofs.FieldLaws.{counted-of, fields-at, small, spot-of}
+use Rattle.oplog.proofs.FieldLaws.{held-of, fields-at, small, in-file-of}
 use Rattle.oplog.proofs.HeaderLaws.{laid-fits, laid-header, laid-long, laid-short, laid-wrong}
 
 ---- known nodes: s and q are the replica and the sequence of node n
@@ -44,8 +44,8 @@ module _ (v : Vector) (n s q : ℕ) (is : s ≡ n / 256) (iq : q ≡ n % 256) wh
       within-last h k e = rw (← is, ← iq, le-leb 1 s l, le-leb s 8 u, le-leb 1 q h, e)
 
   -- an op that a counted vector counts is there
-  module _ (w : ℕ) (f : List ℕ) (c : Counted w f v) (e : nodeWithin v n ≡ true) where
-    pub node-there : Spot w f s q
+  module _ (w : ℕ) (f : List ℕ) (c : Held w f v) (e : nodeWithin v n ≡ true) where
+    pub node-there : InFile w f s q
     unfolding nodeWithin isReplica
     node-there =
         let h = simp and-eq-true-iff at e in
@@ -53,7 +53,7 @@ module _ (v : Vector) (n s q : ℕ) (is : s ≡ n / 256) (iq : q ≡ n % 256) wh
         let u : s ≤ 8 = rw is (leb-true (n / 256) 8 (h .0 .0 .1)) in
         let lq : 1 ≤ q = rw iq (leb-true 1 (n % 256) (h .0 .1)) in
         let uq : q ≤ countIn v s = rw (iq, is) (leb-true (n % 256) (countIn v (n / 256)) (h .1)) in
-        spot-of w f v c s q l u lq uq
+        in-file-of w f v c s q l u lq uq
 
     pub known-kind : (at : ℕ) → at ≡ placeOf w f s q → (k : ℕ) → k ≡ kindOf (drop at f) → eqb k 1 ≡ known (logOf w f) v n
     unfolding known isAdd
@@ -117,11 +117,11 @@ module _ (w : ℕ) (f : List ℕ) (v : Vector) (s k : ℕ) (e : k ≡ getD v (s 
   unfolding closedAt countIn
   closed-none z = rw (← e, eq-eqb k 0 z)
 
-  module _ (c : Counted w f v) (l : 1 ≤ s) (u : s ≤ 8) (z : k ≡ 0 → ⊥) where
+  module _ (c : Held w f v) (l : 1 ≤ s) (u : s ≤ 8) (z : k ≡ 0 → ⊥) where
     -- the last op that the vector counts is there
-    pub last-there : Spot w f s k
+    pub last-there : InFile w f s k
     unfolding countIn
-    last-there = spot-of w f v c s k l u (omega arith) (omega arith)
+    last-there = in-file-of w f v c s k l u (omega arith) (omega arith)
 
     pub closed-by : (at : ℕ) → at ≡ placeOf w f s k → (o : Vector) → o ≡ vectorOf (drop at f) → (b : Bool) → b ≡ within o v
         → b ≡ closedAt (logOf w f) v s
@@ -190,8 +190,8 @@ module _ (w : ℕ) (f : List ℕ) (v : Vector) (kind node parent own : ℕ) wher
       unfolding passesBy
       passes-names x b i = rw (e, covers true h, x) i
 
-pub counted-in : (w : ℕ) (f : List ℕ) (counts v : Vector) → LaidOut w f counts → within v counts ≡ true → Counted w f v
-counted-in w f counts v t h = counted-of w f v (t .wide) (t .is-laid) (rw (← t .held) h)
+pub held-within : (w : ℕ) (f : List ℕ) (counts v : Vector) → LaidOut w f counts → within v counts ≡ true → Held w f v
+held-within w f counts v t h = held-of w f v (t .wide) (t .is-laid) (rw (← t .held) h)
 
 -- all tests, by the fields
 module _ (log : Log) (s q : ℕ) (r : Op) where
@@ -213,7 +213,7 @@ module _ (log : Log) (s q : ℕ) (r : Op) where
       rw (a, eq-eqb s s refl, b, eq-eqb q q refl, le-leb 1 s l, le-leb s 8 u, lt-ltb (countIn (vectorOf r) s) 255 c, and-true)
 
 -- the number of the node that an op makes
-module _ (w : ℕ) (f : List ℕ) (s q : ℕ) (x : Spot w f s q) where
+module _ (w : ℕ) (f : List ℕ) (s q : ℕ) (x : InFile w f s q) where
   pub own-size : 256 * s + q < 2 ^ 64
   own-size = omega (arith, small w f s q x, x .high)
 
@@ -221,7 +221,7 @@ module _ (w : ℕ) (f : List ℕ) (s q : ℕ) (x : Spot w f s q) where
   own-short = omega (arith, small w f s q x, x .high)
 
 -- the op at a place: v is its vector, r its replica
-module _ (w : ℕ) (f : List ℕ) (s q : ℕ) (x : Spot w f s q) (at : ℕ) (is : at ≡ placeOf w f s q) where
+module _ (w : ℕ) (f : List ℕ) (s q : ℕ) (x : InFile w f s q) (at : ℕ) (is : at ≡ placeOf w f s q) where
   module _ (v : Vector) (iv : v ≡ vectorOf (drop at f)) (r : ℕ) (ir : r ≡ replicaOf (drop at f)) where
     own-at : (b : Bool) → ownBy r v s q ≡ b → ownBy (replicaOf (opAt (logOf w f) s q)) (vectorOf (opAt (logOf w f) s q)) s q ≡ b
     own-at b e = let o = fields-at w f s q x at is in rw (o .replica, o .vector, ← ir, ← iv) e
@@ -265,7 +265,7 @@ pub ruleset naming = (move-node, move-parent, move-apart, add-parent, add-node, 
 
 pub ruleset closing = (closed-none, last-there, closed-by, closed-first, closed-not, closed-next, closed-last)
 
-pub ruleset passing = (kind-unfit, not-covered, not-closed, passes-names, counted-in)
+pub ruleset passing = (kind-unfit, not-covered, not-closed, passes-names, held-within)
 
 pub ruleset owning = (own-other, own-number, own-size, own-short, op-other, op-own, op-laid)
 

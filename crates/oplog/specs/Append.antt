@@ -1,4 +1,4 @@
--- Putting an op into a buffer: what it asks, and what it leaves. Assumes nothing.
+-- Putting an op into a buffer: what it asks, and what it leaves.
 use Prim.Native.Nat.{ℕ, _+_, _-_, _≤_, _<_}
 use mathlib.Core.Path.{_≡_}
 use mathlib.Core.Bool.{true}

@@ -1,4 +1,4 @@
--- The entries of the header as the code tests and writes them. Assumes nothing.
+-- The entries of the header as the code tests and writes them.
 use Prim.Native.Nat.{ℕ, _+_, _*_}
 use mathlib.Core.Bool.{Bool, _&&_}
 use mathlib.Core.List.{List, _++_}

@@ -1,4 +1,4 @@
 pub mod Append
 pub mod Header
-pub mod Spots
+pub mod Places
 pub mod Tests

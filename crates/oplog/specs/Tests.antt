@@ -1,4 +1,4 @@
--- The tests of an op against a log, as the code makes them: by the fields of the op. Assumes nothing.
+-- The tests of an op against a log, as the code makes them: by the fields of the op.
 use Prim.Native.Nat.{ℕ, _+_, _≤_}
 use mathlib.Core.Path.{_≡_}
 use mathlib.Core.Bool.{Bool, true, cond, _&&_, _||_, not}
@@ -7,7 +7,7 @@ use lib.Dec.{leb, eqb}
 use Rattle.rules.specs.Op.{Vector, countIn}
 use Rattle.rules.specs.File.{Log, countAt, headerCounts, logOf, opAt}
 use Rattle.rules.specs.Log.{laid, known, knownParent, covered, closed, soundOp}
-use Rattle.codec.specs.Read.{kindFits}
+use Rattle.codec.specs.Asked.{kindFits}
 use Rattle.oplog.specs.declared.marker.Marker.{Marker}
 
 -- a laid-out file and its counts

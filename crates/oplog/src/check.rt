@@ -2,7 +2,7 @@ use crate::header::counts_of;
 use crate::header::end_of;
 use crate::header::header_right;
 use crate::marker::Marker;
-use crate::spot::place;
+use crate::places::place;
 use codec::kind_at;
 use codec::kind_fits;
 use codec::node_at;
@@ -16,7 +16,7 @@ ghost use mathlib.Core.Path.{_≡_};
 ghost use Prim.Native.Nat.{_≤_};
 ghost use Rattle.rules.specs.File.{logOf, headerCounts};
 ghost use Rattle.rules.specs.Log.{nodeWithin, known, knownParent, closedAt, closed, soundLog, laid};
-ghost use Rattle.oplog.specs.Spots.{Spot, Counted};
+ghost use Rattle.oplog.specs.Places.{InFile, Held};
 ghost use Rattle.oplog.specs.Tests.{LaidOut, moveNames, namesBy, ownBy, passesBy, soundAt, soundHere};
 ghost use Rattle.rules.specs.Log as log;
 
@@ -40,7 +40,7 @@ fn node_within(v: [u8; 8], n: u16) -> bool
 
 // Whether an add within the vector made the node.
 pub fn known_in(file: &[u8], v: [u8; 8], n: u16, width: usize) -> bool
-    requires { ⌜ Counted width (now file) v ⌝ }
+    requires { ⌜ Held width (now file) v ⌝ }
     ensures { λ r. ⌜ r ≡ known (logOf width (now (file .entry))) v n ⌝ }
 {
     if !node_within(v, n) {
@@ -52,7 +52,7 @@ pub fn known_in(file: &[u8], v: [u8; 8], n: u16, width: usize) -> bool
 
 // The same, or the root.
 pub fn known_parent(file: &[u8], v: [u8; 8], n: u16, width: usize) -> bool
-    requires { ⌜ Counted width (now file) v ⌝ }
+    requires { ⌜ Held width (now file) v ⌝ }
     ensures { λ r. ⌜ r ≡ knownParent (logOf width (now (file .entry))) v n ⌝ }
 {
     if n == 0 {
@@ -63,7 +63,7 @@ pub fn known_parent(file: &[u8], v: [u8; 8], n: u16, width: usize) -> bool
 
 // Whether what a move names is known, and is not one node.
 fn move_known(file: &[u8], v: [u8; 8], node: u16, parent: u16, width: usize) -> bool
-    requires { ⌜ Counted width (now file) v ⌝ }
+    requires { ⌜ Held width (now file) v ⌝ }
     ensures { λ r. ⌜ r ≡ moveNames (logOf width (now (file .entry))) v node parent ⌝ }
 {
     if !known_in(file, v, node, width) {
@@ -86,7 +86,7 @@ pub fn names_known(
     own: u16,
     width: usize,
 ) -> bool
-    requires { ⌜ Counted width (now file) v ⌝ }
+    requires { ⌜ Held width (now file) v ⌝ }
     ensures { λ r. ⌜ r ≡ namesBy (logOf width (now (file .entry))) v kind node parent own ⌝ }
 {
     match kind {
@@ -110,7 +110,7 @@ pub fn names_known(
 
 // Whether a vector counts all that the last op that it counts of a replica has seen.
 fn closed_at(file: &[u8], v: [u8; 8], s: usize, width: usize) -> bool
-    requires { ⌜ Counted width (now file) v × (1 ≤ s) × (s ≤ 8) ⌝ }
+    requires { ⌜ Held width (now file) v × (1 ≤ s) × (s ≤ 8) ⌝ }
     ensures { λ r. ⌜ r ≡ closedAt (logOf width (now (file .entry))) v s ⌝ }
 {
     let k = widen(v[s - 1]);
@@ -123,7 +123,7 @@ fn closed_at(file: &[u8], v: [u8; 8], s: usize, width: usize) -> bool
 
 // Whether a vector is closed (number 6).
 pub fn closed_in(file: &[u8], v: [u8; 8], width: usize) -> bool
-    requires { ⌜ Counted width (now file) v ⌝ }
+    requires { ⌜ Held width (now file) v ⌝ }
     ensures { λ r. ⌜ r ≡ closed (logOf width (now (file .entry))) v ⌝ }
 {
     for i in 0..8usize {
@@ -174,7 +174,7 @@ fn passes(
 // Whether the body number q of replica s is a sound op: its own replica and sequence, and tests 3,
 // 5, 6 and 7.
 fn op_sound(file: &[u8], counts: [u8; 8], s: usize, q: usize, width: usize) -> bool
-    requires { ⌜ Spot width (now file) s q × (counts ≡ headerCounts (now file)) ⌝ }
+    requires { ⌜ InFile width (now file) s q × (counts ≡ headerCounts (now file)) ⌝ }
     ensures { λ r. ⌜ r ≡ soundAt (logOf width (now (file .entry))) s q ⌝ }
 {
     let at = place(file, s, q, width);
@@ -202,7 +202,7 @@ fn here_sound(file: &[u8], counts: [u8; 8], m: Marker, width: usize) -> bool
     requires { ⌜ LaidOut width (now file) counts × (1 ≤ m .replica) × (m .replica ≤ 8) × (1 ≤ m .sequence) ⌝ }
     ensures { λ r. ⌜ r ≡ soundHere width (now (file .entry)) m ⌝ }
 {
-    if !m.held(file) {
+    if !m.in_file(file) {
         return true;
     }
     op_sound(file, counts, m.replica, m.sequence, width)

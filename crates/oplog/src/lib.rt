@@ -1,10 +1,10 @@
-// The operation log (the paper's collection) in a lent buffer: its header, the places of its ops,
+// The operation log (the document's collection) in a lent buffer: its header, the places of its ops,
 // structural soundness, and the tests of an op against it. Ops have `width` bytes.
 mod append;
 mod check;
 mod header;
 mod marker;
-mod spot;
+mod places;
 
 pub use append::append_op;
 pub use check::closed_in;
@@ -16,5 +16,5 @@ pub use header::counts_of;
 pub use header::end_of;
 pub use header::write_header;
 pub use marker::Marker;
-pub use spot::place;
-pub use spot::same_op;
+pub use places::place;
+pub use places::same_op;

@@ -4,9 +4,9 @@ ghost use Prim.Native.Nat.{_+_, _≤_};
 ghost use lib.ListN.{length};
 ghost use lib.Dec.{leb};
 ghost use Rattle.rules.specs.File.{countAt};
-ghost use Rattle.oplog.specs.Spots.{nextOf};
+ghost use Rattle.oplog.specs.Places.{nextMarker};
 
-// A marker (the paper's): the op number `sequence` of a replica, both from 1. It steps through the
+// A marker (the document's): the op number `sequence` of a replica, both from 1. It steps through the
 // bodies in file order.
 pub struct Marker {
     pub replica: usize,
@@ -24,7 +24,7 @@ impl Marker {
     }
 
     // Whether the file has the op.
-    pub fn held(self, file: &[u8]) -> bool
+    pub fn in_file(self, file: &[u8]) -> bool
         requires { ⌜ (32 ≤ length (now file)) × (1 ≤ self .replica) × (self .replica ≤ 8) ⌝ }
         ensures { λ r. ⌜ r ≡ leb (self .sequence) (countAt (now (file .entry)) (self .replica)) ⌝ }
     {
@@ -34,7 +34,7 @@ impl Marker {
     // The next in file order; a replica without ops is passed with sequence 1.
     pub fn next(self, file: &[u8]) -> Marker
         requires { ⌜ (32 ≤ length (now file)) × (1 ≤ self .replica) × (self .replica ≤ 8) ⌝ }
-        ensures { λ r. ⌜ r ≡ nextOf (now (file .entry)) self ⌝ }
+        ensures { λ r. ⌜ r ≡ nextMarker (now (file .entry)) self ⌝ }
     {
         let replica = self.replica;
         let sequence = self.sequence;

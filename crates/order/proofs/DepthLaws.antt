@@ -1,4 +1,4 @@
--- A node's way to the root has no more steps than there are added nodes. Assumes nothing.
+-- A node's way to the root has no more steps than there are added nodes.
 use mathlib.Core.Path.{_≡_, sym, ap, _∙_}
 use mathlib.Core.Logic.{inl, inr}
 use mathlib.Core.Bool.{true}

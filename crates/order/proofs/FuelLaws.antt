@@ -1,4 +1,4 @@
--- The bounds in the definitions of paths and of the preorder do not matter: more gives the same. Assumes nothing.
+-- The bounds in the definitions of paths and of the preorder do not matter: more gives the same.
 use mathlib.Core.List.{List, _∷_}
 use Prim.Native.Nat.{ℕ, _<_, _+_, _≤_, suc, zero}
 use mathlib.Core.Path.{_≡_, ap, sym, _∙_, refl}

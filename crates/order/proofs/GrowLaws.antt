@@ -1,5 +1,4 @@
 -- The tree grows as a tree: every op of a replay finds its node and its parent hung, and every added node has a way to the root.
--- Assumes nothing.
 use Rattle.rules.proofs.KnownLaws.{kinds, Named, known-later, known-of, known-reads, named-later, named-valid, names-add, names-move, names-node}
 use mathlib.Core.Path.{_≡_, refl, sym, ap, _∙_}
 use mathlib.Core.Logic.{inl, inr, ⊎-elim}

@@ -1,4 +1,4 @@
--- The greatest timestamp within a closed vector is that of the last op of some replica in it. Assumes nothing.
+-- The greatest timestamp within a closed vector is that of the last op of some replica in it.
 use mathlib.Core.Path.{_≡_}
 use mathlib.Core.List.{map}
 use Prim.Native.Nat.{ℕ, _≤_}

@@ -1,4 +1,4 @@
--- Ops that are issued from one log, with its counts as their vectors, are replayed after all of it, as one level. Assumes nothing.
+-- Ops that are issued from one log, with its counts as their vectors, are replayed after all of it, as one level.
 use Prim.Native.Nat.{suc, ℕ, _≤_, _<_, _+_, _-_}
 use lib.Dec.{eqb}
 use lib.ListN.{take, drop}
@@ -48,7 +48,7 @@ module _ (log more : Log) (x : Late log more) (good : GoodLog log) (goodMore : G
   held-cut : Cut more held
   held-cut = record { is-covered = alike .there; is-closed = closed-more log more held (alike .same) ∙ counts-closed log good }
 
-  pub whole-cut : Cut more all-held
+  whole-cut : Cut more all-held
   whole-cut = record { is-covered = counts-covered more; is-closed = counts-closed more goodMore }
 
   times-within : map (timestamp more) (opsWithin more held) ≡ map (timestamp log) (opsWithin log held)
@@ -68,7 +68,7 @@ module _ (log more : Log) (x : Late log more) (good : GoodLog log) (goodMore : G
       ∙ rw (x .vector s q l u lq uq, times-within) in
       omega arith
 
-  pub last-level : AtLevel more goodMore all-held whole-cut (suc top) held
+  last-level : AtLevel more goodMore all-held whole-cut (suc top) held
   last-level = record {
     inside = x .extends .counts;
     low = λ s q l u lq uq. omega (arith, early-time s q l u lq uq);

@@ -1,4 +1,4 @@
--- The order of replay is that of the levels. Assumes nothing.
+-- The order of replay is that of the levels.
 use mathlib.Core.Path.{_≡_, refl, ap, ap₂, _∙_}
 use mathlib.Core.Logic.{_⊎_, inl, inr, ⊎-elim}
 use mathlib.Core.Bool.{Bool, true, false, cond, _&&_}
@@ -132,7 +132,7 @@ module _ (log : Log) (good : GoodLog log) where
         (total-small (vec s q) (λ r a b. omega (arith, held-in log (vec s q) (x .is-covered) r a b, good .counts r a b)))
 
     -- what the op's vector counts is earlier
-    pub earlier : (r p : ℕ) → 1 ≤ r → r ≤ 8 → 1 ≤ p → p ≤ countIn (vec s q) r → time-of r p < time-of s q
+    earlier : (r p : ℕ) → 1 ≤ r → r ≤ 8 → 1 ≤ p → p ≤ countIn (vec s q) r → time-of r p < time-of s q
     earlier r p a b lp up =
         let x = good-ops good s q l u lq uq in
         omega (
@@ -143,7 +143,7 @@ module _ (log : Log) (good : GoodLog log) where
         )
 
     -- and the op is no later than it must be
-    pub no-later : (t : ℕ) → 1 ≤ t → ((r p : ℕ) → 1 ≤ r → r ≤ 8 → 1 ≤ p → p ≤ countIn (vec s q) r → time-of r p < t) → time-of s q ≤ t
+    no-later : (t : ℕ) → 1 ≤ t → ((r p : ℕ) → 1 ≤ r → r ≤ 8 → 1 ≤ p → p ≤ countIn (vec s q) r → time-of r p < t) → time-of s q ≤ t
     no-later t lt h =
         omega (arith, equation, counted-bound log (vec s q) (timestamp log) (t - 1) (λ r p a b lp up. omega (arith, h r p a b lp up)))
 
@@ -302,7 +302,7 @@ module _ (log : Log) (good : GoodLog log) where
         unfolding opAt
         place = let e : countIn done s + 1 - 1 ≡ countIn done s = omega arith in rw e
 
-        pub one-ready : ofReplica (stamped log cut) t k s ≡ readyOp log t (readyOps log cut done) k s
+        one-ready : ofReplica (stamped log cut) t k s ≡ readyOp log t (readyOps log cut done) k s
         unfolding readyOp nextAt stamp
         one-ready = of-replica t k s l u ∙ ⊎-elim
             (λ x. filter-one (matches t k s) (stamp log) [] (countIn cut s) (countIn done s) (opsOf log s) (x .1)

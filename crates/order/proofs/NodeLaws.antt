@@ -1,4 +1,4 @@
--- The added nodes of a cut are the nodes that it knows. Assumes nothing.
+-- The added nodes of a cut are the nodes that it knows.
 use mathlib.Core.Path.{_≡_, refl, sym, _∙_}
 use mathlib.Core.Logic.{⊎-elim}
 use mathlib.Core.Bool.{Bool, true, false, cond, or-true}

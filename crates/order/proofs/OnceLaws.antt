@@ -1,4 +1,4 @@
--- Every op of a cut is judged exactly once: the order is a rearrangement of the ops of the cut. Assumes nothing.
+-- Every op of a cut is judged exactly once: the order is a rearrangement of the ops of the cut.
 use lib.ListN.{length}
 use mathlib.Core.Path.{_≡_, ap, _∙_}
 use mathlib.Core.Bool.{Bool, true, cond, _&&_}

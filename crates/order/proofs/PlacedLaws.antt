@@ -1,4 +1,4 @@
--- No node was placed later than the latest op of a replay. Assumes nothing.
+-- No node was placed later than the latest op of a replay.
 use Prim.Native.Nat.{ℕ, _≤_}
 use lib.Dec.{eqb}
 use lib.ListN.{length-replicate, set, List·getD-eq-default, getD-replicate, length-set, length, getD, replicate}

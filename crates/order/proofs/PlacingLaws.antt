@@ -1,4 +1,4 @@
--- The `placed` table answers whether an applied move of the same timestamp already placed a node. Assumes nothing.
+-- The `placed` table answers whether an applied move of the same timestamp already placed a node.
 use Prim.Native.Nat.{suc, zero, ℕ, _≤_, _<_, _+_, _-_}
 use borrow.Author.Tests.{eqb-true, eq-eqb, ne-eqb}
 use lib.Dec.{eqb}

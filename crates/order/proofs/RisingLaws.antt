@@ -1,4 +1,4 @@
--- Lists of rising numbers and of different numbers; the added nodes stand in rising order. Assumes nothing.
+-- Lists of rising numbers and of different numbers; the added nodes stand in rising order.
 use mathlib.Core.Path.{_≡_, refl, ap, _∙_}
 use mathlib.Core.Logic.{⊎-elim}
 use mathlib.Core.Bool.{Bool, true, false, cond}

@@ -199,7 +199,7 @@ module _ (log : Log) (good : GoodLog log) (cut : Vector) (is : Cut log cut) (t :
       (others-run k lk 8 (le-refl 8) st tree) (kinds-run n (suc k) (omega arith) _)
 
   -- a level
-  pub level-run : (st : State) → Tree log done st → Run log after st (level log t next)
+  level-run : (st : State) → Tree log done st → Run log after st (level log t next)
   unfolding level concat upFrom levelKind
   level-run st tree =
       let first : Tree log (mix 8) st = le-tree log done (mix 8) st (done-mix 8) (λ s l u. omega (arith, mix-low 8 s l u u)) tree in

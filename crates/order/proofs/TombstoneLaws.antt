@@ -1,4 +1,4 @@
--- The ops of a whole log, and which nodes its removes name. Assumes nothing.
+-- The ops of a whole log, and which nodes its removes name.
 use Prim.Native.Nat.{ℕ, _≤_}
 use borrow.Author.Tests.{ne-eqb}
 use lib.Dec.{eqb}
@@ -50,7 +50,7 @@ module _ (log : Log) (good : GoodLog log) where
         | no e ↦ rw (ne-eqb (kindOf (opAt log s q)) 2 e)
       ]
 
-  pub root-in : (rs : List Op) → all (removesKnown log) rs ≡ true → isIn 0 (map nodeOf (filter isRemove rs)) ≡ false
+  root-in : (rs : List Op) → all (removesKnown log) rs ≡ true → isIn 0 (map nodeOf (filter isRemove rs)) ≡ false
   unfolding all isIn any filter
   root-in [] f = refl
   root-in (r ∷ rs) f = go (isRemove r) refl (root-in rs (and-right (removesKnown log r) _ f))

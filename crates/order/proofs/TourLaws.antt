@@ -1,6 +1,5 @@
 -- The listing's order: the root and every added node stand in it exactly once, so it has at most 2,041 entries; and how long a listing can
 -- be.
--- Assumes nothing.
 use mathlib.Core.Path.{_≡_, refl, sym, ap, _∙_}
 use mathlib.Core.Logic.{inl, inr, ⊎-elim}
 use mathlib.Core.Bool.{true, or-true}
@@ -44,11 +43,11 @@ module _ (log : Log) (good : GoodLog log) where
   whole = record { is-covered = counts-covered log; is-closed = counts-closed log good }
 
   -- "in rising node number"
-  pub nodes-rise : Rising (nodes log)
+  nodes-rise : Rising (nodes log)
   unfolding nodes
   nodes-rise = added-rises log good (countsOf log) whole
 
-  pub children-rise : (n : ℕ) → Rising (children log parents n)
+  children-rise : (n : ℕ) → Rising (children log parents n)
   unfolding children
   children-rise n = rising-filter _ (nodes log) nodes-rise
 
@@ -92,7 +91,7 @@ module _ (log : Log) (good : GoodLog log) where
   )
 
   -- only the root and added nodes stand in it
-  pub preorder-named : (k n m : ℕ) → Named log (countsOf log) n → isIn m (preorder k log parents n) ≡ true → Named log (countsOf log) m
+  preorder-named : (k n m : ℕ) → Named log (countsOf log) n → isIn m (preorder k log parents n) ≡ true → Named log (countsOf log) m
   unfolding preorder isIn any
   preorder-named zero n m w e = never e
   preorder-named (suc k) n m w e =
@@ -130,7 +129,7 @@ module _ (log : Log) (good : GoodLog log) where
       (concat-isIn (preorder k log parents) (children log parents n) (up parents i m) m
       (child-of (up parents i m) n (on i (omega arith)) (sym (up-last parents i m))) (has m j on i k (omega arith) (omega arith)))
 
-  pub preorder-has : (m : ℕ) → Named log (countsOf log) m → isIn m (preorder slots log parents 0) ≡ true
+  preorder-has : (m : ℕ) → Named log (countsOf log) m → isIn m (preorder slots log parents 0) ≡ true
   unfolding parentsOf
   preorder-has m w =
       let (j, b, r, first) = replay-reaches log good (countsOf log) whole m w in

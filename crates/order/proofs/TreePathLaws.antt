@@ -1,4 +1,4 @@
--- Paths and children in the tree of a log. Assumes nothing.
+-- Paths and children in the tree of a log.
 use Prim.Native.Nat.{_+_, _-_, _<_, suc, zero, ℕ, _≤_}
 use borrow.Author.Tests.{eq-eqb, eqb-true, ne-eqb}
 use lib.Dec.{eqb}
@@ -41,12 +41,12 @@ climb-at parents (suc k) (suc j) n (suc i) h l o =
     rw (ne-eqb n 0 (o 0 (omega arith))) (climb-at parents k j (parentIn parents n) i (le-of-suc-le-suc h) (le-of-suc-le-suc l)
     (λ m b. o (suc m) (omega arith)))
 
-pub climb-turn : (parents : List ℕ) (k n : ℕ) → climb (suc k) parents n ≡ n ∷ cond (eqb n 0) [] (climb k parents (parentIn parents n))
+climb-turn : (parents : List ℕ) (k n : ℕ) → climb (suc k) parents n ≡ n ∷ cond (eqb n 0) [] (climb k parents (parentIn parents n))
 unfolding climb
 climb-turn parents k n = refl
 
 -- what is above a node of a climb is on it
-pub climb-closed : (parents : List ℕ) (k j m c : ℕ) → Depth parents j m → j < k → isIn c (climb k parents m) ≡ true → (c ≡ 0 → ⊥)
+climb-closed : (parents : List ℕ) (k j m c : ℕ) → Depth parents j m → j < k → isIn c (climb k parents m) ≡ true → (c ≡ 0 → ⊥)
     → isIn (parentIn parents c) (climb k parents m) ≡ true
 unfolding climb isIn any up
 climb-closed parents zero j m c d h i nz = absurd (not-suc-le-zero h)
@@ -74,7 +74,7 @@ unfolding up
 depth-parent parents zero n d nz = absurd (nz (d .root))
 depth-parent parents (suc j) n d nz = (j, refl, record { root = d .root; first = λ m w. d .first (suc m) (omega arith) })
 
-pub depth-up : (parents : List ℕ) (j n i : ℕ) → Depth parents j n → i ≤ j → Depth parents (j - i) (up parents i n)
+depth-up : (parents : List ℕ) (j n i : ℕ) → Depth parents j n → i ≤ j → Depth parents (j - i) (up parents i n)
 depth-up parents j n i d h =
     let e : i + (j - i) ≡ j = omega arith in
     record {

@@ -1,4 +1,4 @@
--- The tree theorem: after the replay of a closed cut the parent table is a tree of the added nodes. Assumes nothing.
+-- The tree theorem: after the replay of a closed cut the parent table is a tree of the added nodes.
 use mathlib.Core.List.{List}
 use Prim.Native.Nat.{ℕ, _<_, suc}
 use mathlib.Core.Path.{_≡_, sym, _∙_}

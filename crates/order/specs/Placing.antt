@@ -1,6 +1,6 @@
--- "An applied move of the same stamp already placed its node": outcome 2 in the paper's words, and that the state's `placed` table answers
+-- "An applied move of the same stamp already placed its node": outcome 2 in the document's words, and that the state's `placed` table
+-- answers
 -- it.
--- Assumes nothing.
 use Prim.Native.Nat.{ℕ}
 use lib.Dec.{eqb}
 use lib.ListN.{getD}

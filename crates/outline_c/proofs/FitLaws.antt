@@ -1,10 +1,10 @@
--- What a call accepts leaves room for the 256 above it: a file end is at most the length of its buffer. Assumes nothing.
+-- What a call accepts leaves room for the 256 above it: a file end is at most the length of its buffer.
 use Prim.Native.Nat.{ℕ, _≤_}
 use lib.ListN.{length}
 use mathlib.Core.List.{List}
 use mathlib.Core.Path.{_≡_, refl, transport, ap}
 use native.Mathlib.Omega.{arith}
-use Rattle.outline_c.specs.Number.{fits}
+use Rattle.outline_c.specs.Fits.{fits}
 use Rattle.rules.specs.Views.{View}
 use Rattle.rules.specs.Listing.{listingAnswer, listingOf, listing}
 use Rattle.rules.specs.Path.{pathAnswer, pathOf, pathCall}
@@ -18,7 +18,7 @@ use borrow.Author.Tests.{leb-true}
 use Rattle.rules.specs.File.{width, logOf}
 
 -- an answer fits if what it accepts does
-pub fits-if : (a : Answer) → ((n : ℕ) → a ≡ accepted n → n ≤ 9223372036854775807) → fits a
+fits-if : (a : Answer) → ((n : ℕ) → a ≡ accepted n → n ≤ 9223372036854775807) → fits a
 unfolding fits
 fits-if (refused n) h = tt
 fits-if hadIt h = tt

@@ -1,5 +1,5 @@
--- One number for each answer, and a bool for each view, for callers in other languages. Assumes nothing.
-use Prim.Native.Nat.{ℕ, _+_, _≤_}
+-- One number for each answer, and a bool for each view, for callers in other languages.
+use Prim.Native.Nat.{ℕ, _+_}
 use mathlib.Core.Bool.{Bool, true, false}
 use mathlib.Core.List.{List}
 use Rattle.rules.specs.Answer.{Answer, refused, hadIt, done, accepted}
@@ -15,13 +15,6 @@ number (refused n) = n
 number hadIt = 16
 number done = 17
 number (accepted n) = 256 + n
-
--- the value leaves room for the 256 above it
-unfoldable pub fits : Answer → Type 0
-fits (refused n) = Unit {0}
-fits hadIt = Unit {0}
-fits done = Unit {0}
-fits (accepted n) = n ≤ 9223372036854775807
 
 -- what each call hands over: the number of its answer, and what it leaves in lent memory
 abbrev pub ofResult : Result → ℕ × List ℕ

@@ -1,4 +1,4 @@
--- Laws of writing a line piece by piece. Assumes nothing.
+-- Laws of writing a line piece by piece.
 use mathlib.Core.Path.{_≡_, ap, _∙_}
 use mathlib.Core.Bool.{Bool, cond}
 use mathlib.Core.List.{List, [], _∷_, _++_, append-assoc}
@@ -12,11 +12,11 @@ use Rattle.pen.specs.declared.line.Pen.{Pen}
 use Rattle.rules.proofs.DecimalLaws.{length-line}
 
 -- a byte stored
-pub written-one : (o : List ℕ) (at x : ℕ) → at < length o → set o at x ≡ written o at (x ∷ [])
+written-one : (o : List ℕ) (at x : ℕ) → at < length o → set o at x ≡ written o at (x ∷ [])
 written-one o at x h = let e : at + 1 ≡ suc at = omega arith in rw e (set-split o at x h)
 
 -- one piece behind another
-pub written-next : (o : List ℕ) (at : ℕ) (xs ys : List ℕ) → at + length xs ≤ length o
+written-next : (o : List ℕ) (at : ℕ) (xs ys : List ℕ) → at + length xs ≤ length o
     → written (written o at xs) (at + length xs) ys ≡ written o at (xs ++ ys)
 written-next o at xs ys h =
     let p : List ℕ = take at o ++ xs in

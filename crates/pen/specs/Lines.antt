@@ -1,4 +1,4 @@
--- What the line writers ask, and what they leave behind. Assumes nothing.
+-- What the line writers ask, and what they leave behind.
 use Prim.Native.Nat.{ℕ, _+_, _<_, _≤_}
 use mathlib.Core.List.{List, _++_}
 use lib.ListN.{length, take, drop}

@@ -7,7 +7,7 @@ ghost use lib.ListN.{length};
 ghost use Rattle.rules.specs.Listing.{lineOf};
 ghost use Rattle.pen.specs.Lines.{Asked, penned};
 
-// A pen (the paper's): bytes and lines written.
+// A pen (the document's): bytes and lines written.
 pub struct Pen {
     pub bytes: usize,
     pub lines: usize,

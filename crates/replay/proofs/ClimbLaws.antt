@@ -1,4 +1,4 @@
--- Slots, climbs to the root and the kind of a move, as the code has them. Assumes nothing.
+-- Slots, climbs to the root and the kind of a move, as the code has them.
 use mathlib.Core.Path.{_≡_, refl, sym, ap, _∙_}
 use mathlib.Core.Bool.{Bool, true, false, cond, _||_}
 use mathlib.Core.List.{List, [], _∷_}

@@ -1,4 +1,4 @@
--- Clearing the tables and replaying a cut, as the code has them. Assumes nothing.
+-- Clearing the tables and replaying a cut, as the code has them.
 use mathlib.Core.Path.{_≡_, refl, ap, _∙_}
 use mathlib.Core.Bool.{true}
 use mathlib.Core.List.{List, foldl}
@@ -17,7 +17,7 @@ use Rattle.order.specs.Levels.{levels, nothing}
 use Rattle.order.proofs.LevelLaws.{ordered-levels}
 use Rattle.oplog.proofs.HeaderLaws.{laid-header}
 use Rattle.replay.specs.Tables.{Replayable, ReplayableCut, tables}
-use Rattle.replay.proofs.HeldLaws.{cut-of, whole-counted, whole-closed}
+use Rattle.replay.proofs.HeldLaws.{cut-of, whole-held, whole-closed}
 
 ---- clearing
 
@@ -42,7 +42,7 @@ module _ (w : ℕ) (f : List ℕ) (cut : Vector) (p₀ o₀ : List ℕ) (x : Rep
   unfolding start
   cut-asks = record {
     is-structural = x .is-structural;
-    counted = x .counted;
+    held = x .held;
     sized = record { parents = rw hp; outcomes = rw (ho, length-replicate); placed = length-replicate {A = ℕ} slots 0 };
   }
 
@@ -51,7 +51,7 @@ module _ (w : ℕ) (f : List ℕ) (cut : Vector) (p₀ o₀ : List ℕ) (x : Rep
     replayed : tables p′ o′ l′ ≡ replay (logOf w f) cut
     unfolding replay
     replayed =
-        let is = ordered-levels (logOf w f) (structural-good w f (x .is-structural)) cut (cut-of w f cut (x .counted) (x .is-closed)) in
+        let is = ordered-levels (logOf w f) (structural-good w f (x .is-structural)) cut (cut-of w f cut (x .held) (x .is-closed)) in
         e ∙ rw (hp, ho, start-tables, is)
 
     pub cut-parents : p′ ≡ replay (logOf w f) cut .parents
@@ -73,7 +73,7 @@ module _ (w : ℕ) (f : List ℕ) (cut : Vector) (is : cut ≡ headerCounts f) w
   pub whole-asks : structural w f ≡ true → 14 ≤ w → (p o : List ℕ) → length p ≡ slots → length o ≡ slots → ReplayableCut w f cut p o
   whole-asks e h p o lp lo = record {
     is-structural = e;
-    counted = rw is (whole-counted w f e h);
+    held = rw is (whole-held w f e h);
     is-closed = rw is (whole-closed w f e);
     parents = lp;
     outcomes = lo;

@@ -1,4 +1,4 @@
--- The op of a replica that is due in a class, and the replicas that have one, as the code has them. Assumes nothing.
+-- The op of a replica that is due in a class, and the replicas that have one, as the code has them.
 use mathlib.Core.Path.{_≡_, refl, sym, _∙_}
 use mathlib.Core.Bool.{Bool, true, false, cond, not, _&&_}
 use mathlib.Core.List.{List, [], _∷_, foldl}
@@ -15,8 +15,8 @@ use Rattle.rules.specs.File.{opAt, Log, logOf}
 use Rattle.rules.specs.Replay.{State, step}
 use Rattle.order.specs.Levels.{readyOp}
 use Rattle.rules.proofs.KnownLaws.{kinds}
-use Rattle.oplog.specs.Spots.{Spot, placeOf}
-use Rattle.oplog.proofs.FieldLaws.{kind-is, spot-of}
+use Rattle.oplog.specs.Places.{InFile, placeOf}
+use Rattle.oplog.proofs.FieldLaws.{kind-is, in-file-of}
 use Rattle.replay.specs.Tables.{Applicable, Bottom, ReplayableAt, StructuralAt, Top, classOf, dueAt, stampedAt}
 use Rattle.replay.proofs.HeldLaws.{held-op}
 
@@ -52,17 +52,17 @@ due-zero log next k s q is z =
 
 module _ (w : ℕ) (f : List ℕ) (next : Vector) (s : ℕ) (x : StructuralAt w f next s)
     (q : ℕ) (is : q ≡ getD next (s - 1) 0) (nz : q ≡ 0 → ⊥) where
-  pub due-spot : Spot w f s q
+  pub due-in-file : InFile w f s q
   unfolding countIn
-  due-spot = let a = x .at in spot-of w f next (a .counted) s q (a .low) (a .high) (omega (arith, nz)) (omega arith)
+  due-in-file = let a = x .at in in-file-of w f next (a .held) s q (a .low) (a .high) (omega (arith, nz)) (omega arith)
 
   module _ (at : ℕ) (e : at ≡ placeOf w f s q) (r : ℕ) (hr : r ≡ classOf (getD f at 0)) (k : ℕ) where
     -- in a structurally sound file the class of an op is its kind
     class-so : r ≡ kindOf (opAt (logOf w f) s q)
     class-so =
         let o = opAt (logOf w f) s q in
-        let n = kinds o (held-op w f (x .is-structural) s q due-spot .formed) in
-        hr ∙ rw (e, ← kind-is w f s q due-spot) (class-is (kindOf o) (n .0) (n .1))
+        let n = kinds o (held-op w f (x .is-structural) s q due-in-file .formed) in
+        hr ∙ rw (e, ← kind-is w f s q due-in-file) (class-is (kindOf o) (n .0) (n .1))
 
     pub due-other : (r ≡ k → ⊥) → 0 ≡ dueAt (logOf w f) next k s
     unfolding dueAt countIn
@@ -119,7 +119,7 @@ due-applies w f next k s p o l x q is nz =
     let m = due-least (logOf w f) next k s in
     record {
       is-structural = x .source .is-structural;
-      spot = spot-of w f next (a .counted) s q (a .low) (a .high) (omega (arith, nz)) (omega arith);
+      in-file = in-file-of w f next (a .held) s q (a .low) (a .high) (omega (arith, nz)) (omega arith);
       sized = x .sized;
     }
 
@@ -163,6 +163,6 @@ module _ (next : Vector) where
 
 pub ruleset classes = (class-at, class-zero, class-high)
 
-pub ruleset dues = (due-zero, due-spot, due-other, due-one, due-applies, op-none, op-some)
+pub ruleset dues = (due-zero, due-in-file, due-other, due-one, due-applies, op-none, op-some)
 
 pub ruleset bounds = (top-starts, top-on, top-ends, bottom-starts, bottom-on, bottom-ends)

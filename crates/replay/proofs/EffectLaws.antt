@@ -1,4 +1,4 @@
--- The effect of an op, as the code has it. Assumes nothing.
+-- The effect of an op, as the code has it.
 use mathlib.Core.Path.{_≡_, sym, ap, _∙_}
 use mathlib.Core.Logic.{inr}
 use mathlib.Core.Bool.{Bool, true, false}
@@ -18,7 +18,7 @@ use Rattle.rules.specs.Replay.{outcomeOf, outcomeSlot, step}
 use Rattle.rules.specs.File.{opAt, logOf}
 use Rattle.rules.proofs.SlotLaws.{slot-below}
 use Rattle.rules.proofs.KnownLaws.{names-add, names-node, known-reads}
-use Rattle.oplog.specs.Spots.{placeOf}
+use Rattle.oplog.specs.Places.{placeOf}
 use Rattle.oplog.proofs.FieldLaws.{node-is, kind-is, parent-is, small}
 use Rattle.replay.specs.Tables.{Applicable, Slotted, hungBy, moves, notedBy, outcomeBy, stampedAt, tables}
 use Rattle.replay.proofs.HeldLaws.{held-op}
@@ -127,18 +127,18 @@ module _ (w : ℕ) (f : List ℕ) (s q : ℕ) (p o l : List ℕ) (x : Applicable
   unfolding nodeNumber
   node-range = elim (ℕ-discrete (kindOf r) 1) [
     | yes e ↦
-        let h = held-op w f (x .is-structural) s q (x .spot) in
+        let h = held-op w f (x .is-structural) s q (x .in-file) in
         let n : nodeOf r ≡ 256 * s + q = names-add (logOf w f) r (h .names) e .1 ∙ rw (h .origin, h .number) in
-        let b = small w f s q (x .spot) in
+        let b = small w f s q (x .in-file) in
         (omega arith, omega arith, omega arith)
     | no ne ↦
-        let h = held-op w f (x .is-structural) s q (x .spot) in
+        let h = held-op w f (x .is-structural) s q (x .in-file) in
         let k = known-reads (logOf w f) (vectorOf r) (nodeOf r) (names-node (logOf w f) r (h .names) ne) .0 in
         (k .low, k .high, k .first)
   ]
 
   pub own-slot : 255 * (s - 1) + q < length o
-  own-slot = omega (arith, small w f s q (x .spot), x .spot .high, x .sized .outcomes)
+  own-slot = omega (arith, small w f s q (x .in-file), x .in-file .high, x .sized .outcomes)
 
   pub own-fits : Fits w64 (255 * (s - 1) + q)
   own-fits = fits-under w64 (255 * (s - 1) + q) slots (omega (arith, own-slot, x .sized .outcomes)) tt
@@ -146,7 +146,7 @@ module _ (w : ℕ) (f : List ℕ) (s q : ℕ) (p o l : List ℕ) (x : Applicable
   -- what the code has read are the op's fields
   module _ (at : ℕ) (is : at ≡ placeOf w f s q) (n i : ℕ) (hn : n ≡ wordAt f (at + 2)) (hi : i ≡ slotOf n) where
     node-so : n ≡ nodeOf r
-    node-so = hn ∙ rw (is, node-is w f s q (x .spot))
+    node-so = hn ∙ rw (is, node-is w f s q (x .in-file))
 
     slot-so : i < slots
     slot-so = rw (hi, node-so) (slot-below (nodeOf r) (inr node-range))
@@ -169,9 +169,9 @@ module _ (w : ℕ) (f : List ℕ) (s q : ℕ) (p o l : List ℕ) (x : Applicable
           → tables p′ (set o (255 * (s - 1) + q) u) l′ ≡ step (tables p o l) (stampedAt t r)
       unfolding step outcomeOf outcomeBy outcomeSlot slot hungBy notedBy isAdd isMove
       applied p′ l′ hp hl =
-          let h = held-op w f (x .is-structural) s q (x .spot) in
-          let k : getD f at 0 ≡ kindOf r = rw is (sym (kind-is w f s q (x .spot))) in
-          let e : m ≡ parentOf r = hm ∙ rw (is, parent-is w f s q (x .spot)) in
+          let h = held-op w f (x .is-structural) s q (x .in-file) in
+          let k : getD f at 0 ≡ kindOf r = rw is (sym (kind-is w f s q (x .in-file))) in
+          let e : m ≡ parentOf r = hm ∙ rw (is, parent-is w f s q (x .in-file)) in
           let g : i ≡ slotOf (nodeOf r) = hi ∙ ap slotOf node-so in
           rw (hp, hl, hu, k, e, g, node-so, h .origin, h .number)
 

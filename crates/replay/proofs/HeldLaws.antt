@@ -1,4 +1,4 @@
--- What a structurally sound file says of its ops, and of the cuts that it holds. Assumes nothing.
+-- What a structurally sound file says of its ops, and of the cuts that it holds.
 use mathlib.Core.Path.{_≡_}
 use mathlib.Core.Bool.{true}
 use mathlib.Core.List.{List}
@@ -11,15 +11,15 @@ use Rattle.rules.specs.Log.{covered, structural, closed}
 use Rattle.rules.proofs.StructureLaws.{counts-closed, HeldOp, structural-good, laid-reads, good-ops, structural-laid}
 use Rattle.rules.proofs.FileLaws.{counts-at, counts-logOf}
 use Rattle.order.proofs.LevelLaws.{le-within, Cut}
-use Rattle.oplog.specs.Spots.{Spot, Counted}
+use Rattle.oplog.specs.Places.{InFile, Held}
 use Rattle.oplog.proofs.FieldLaws.{counts-in}
 
 module _ (w : ℕ) (f : List ℕ) where
-  pub count-small : (v : Vector) → Counted w f v → (s : ℕ) → 1 ≤ s → s ≤ 8 → countIn v s ≤ 255
+  pub count-small : (v : Vector) → Held w f v → (s : ℕ) → 1 ≤ s → s ≤ 8 → countIn v s ≤ 255
   count-small v h s l u = omega (arith, h .each s l u, laid-reads w f (h .is-laid) .counts s l u)
 
   -- a cut as the laws of the order want it
-  pub cut-of : (cut : Vector) → Counted w f cut → closed (logOf w f) cut ≡ true → Cut (logOf w f) cut
+  pub cut-of : (cut : Vector) → Held w f cut → closed (logOf w f) cut ≡ true → Cut (logOf w f) cut
   unfolding covered
   cut-of cut h c = record {
     is-covered = le-within cut (countsOf (logOf w f)) (λ s l u. omega (arith, h .each s l u, counts-in w f s l u));
@@ -27,13 +27,13 @@ module _ (w : ℕ) (f : List ℕ) where
   }
 
   module _ (e : structural w f ≡ true) where
-    pub held-op : (s q : ℕ) → Spot w f s q → HeldOp (logOf w f) s q (opAt (logOf w f) s q)
+    pub held-op : (s q : ℕ) → InFile w f s q → HeldOp (logOf w f) s q (opAt (logOf w f) s q)
     held-op s q x =
         good-ops (structural-good w f e) s q (x .low) (x .high) (x .first) (rw (counts-in w f s (x .low) (x .high)) (x .last))
 
     -- the whole log is a cut
-    pub whole-counted : 14 ≤ w → Counted w f (headerCounts f)
-    whole-counted h = record { wide = h; is-laid = structural-laid w f e; each = λ s l u. rw (counts-at f s l u) (le-refl _) }
+    pub whole-held : 14 ≤ w → Held w f (headerCounts f)
+    whole-held h = record { wide = h; is-laid = structural-laid w f e; each = λ s l u. rw (counts-at f s l u) (le-refl _) }
 
     pub whole-closed : closed (logOf w f) (headerCounts f) ≡ true
     whole-closed = rw (counts-logOf w f) at (counts-closed (logOf w f) (structural-good w f e))

@@ -1,4 +1,4 @@
--- The ops that are ready, as the code has them. Assumes nothing.
+-- The ops that are ready, as the code has them.
 use mathlib.Core.Path.{ap, _≡_, sym, _∙_}
 use mathlib.Core.Bool.{Bool, true, false, cond}
 use mathlib.Core.List.{List}
@@ -14,10 +14,10 @@ use Rattle.rules.specs.Op.{countIn, vectorOf, Vector}
 use Rattle.rules.specs.File.{opAt, Log, logOf, within}
 use Rattle.rules.proofs.FileLaws.{count-map}
 use Rattle.codec.proofs.VectorLaws.{count-of, Built, build-none, build-more, build-all}
-use Rattle.oplog.specs.Spots.{Counted, Spot, placeOf}
-use Rattle.oplog.proofs.FieldLaws.{spot-of, fields-at}
+use Rattle.oplog.specs.Places.{Held, InFile, placeOf}
+use Rattle.oplog.proofs.FieldLaws.{in-file-of, fields-at}
 use Rattle.order.specs.Levels.{advanced, advancedAt, nextAt, readyOps, ready}
-use Rattle.replay.specs.Tables.{CountedAt, later}
+use Rattle.replay.specs.Tables.{HeldAt, later}
 use Rattle.replay.proofs.HeldLaws.{count-small}
 
 ---- the next op of a replica
@@ -33,21 +33,21 @@ module _ (log : Log) (cut done : Vector) (s : ℕ) where
   next-some h = rw (lt-ltb (getD done (s - 1) 0) (getD cut (s - 1) 0) h)
 
 -- n ops of the replica are done, and the cut has more
-module _ (w : ℕ) (f : List ℕ) (cut : Vector) (s : ℕ) (x : CountedAt w f cut s) (n : ℕ) (h : n < getD cut (s - 1) 0) where
+module _ (w : ℕ) (f : List ℕ) (cut : Vector) (s : ℕ) (x : HeldAt w f cut s) (n : ℕ) (h : n < getD cut (s - 1) 0) where
   pub next-fits : Fits w8 (n + 1)
   unfolding countIn
   next-fits =
-      let b : getD cut (s - 1) 0 ≤ 255 = count-small w f cut (x .counted) s (x .low) (x .high) in
+      let b : getD cut (s - 1) 0 ≤ 255 = count-small w f cut (x .held) s (x .low) (x .high) in
       fits-under w8 (n + 1) 256 (omega arith) tt
 
   module _ (q : ℕ) (is : q ≡ n + 1) where
-    pub next-spot : Spot w f s q
+    pub next-in-file : InFile w f s q
     unfolding countIn
-    next-spot = spot-of w f cut (x .counted) s q (x .low) (x .high) (omega arith) (omega arith)
+    next-in-file = in-file-of w f cut (x .held) s q (x .low) (x .high) (omega arith) (omega arith)
 
     module _ (at : ℕ) (e : at ≡ placeOf w f s q) (v : Vector) (hv : v ≡ vectorOf (drop at f)) where
       vector-so : v ≡ vectorOf (opAt (logOf w f) s (n + 1))
-      vector-so = hv ∙ sym (fields-at w f s q next-spot at e .vector) ∙ ap (λ (k : ℕ). vectorOf (opAt (logOf w f) s k)) is
+      vector-so = hv ∙ sym (fields-at w f s q next-in-file at e .vector) ∙ ap (λ (k : ℕ). vectorOf (opAt (logOf w f) s k)) is
 
       module _ (done : Vector) (b : Bool) (hb : b ≡ within v done) (hn : n ≡ getD done (s - 1) 0) where
         pub next-ready : b ≡ true → n + 1 ≡ nextAt (logOf w f) cut done s
@@ -57,8 +57,8 @@ module _ (w : ℕ) (f : List ℕ) (cut : Vector) (s : ℕ) (x : CountedAt w f cu
         next-waits t = sym (next-some (logOf w f) cut done s (omega arith) ∙ rw (← hn, ← vector-so, ← hb, t))
 
 -- a replica of the loop
-pub counted-at : (w : ℕ) (f : List ℕ) (v : Vector) (i : ℕ) → Counted w f v → i < 8 → CountedAt w f v (i + 1)
-counted-at w f v i c h = record { counted = c; low = omega arith; high = omega arith }
+pub held-at : (w : ℕ) (f : List ℕ) (v : Vector) (i : ℕ) → Held w f v → i < 8 → HeldAt w f v (i + 1)
+held-at w f v i c h = record { held = c; low = omega arith; high = omega arith }
 
 ---- the numbers of all replicas
 
@@ -87,9 +87,9 @@ module _ (old new : ℕ) where
   later-new e = rw (ne-eqb new 0 e)
 
 -- a file that holds a cut holds what is ready
-pub next-counted : (w : ℕ) (f : List ℕ) (cut done : Vector) → Counted w f cut → Counted w f (readyOps (logOf w f) cut done)
+pub next-held : (w : ℕ) (f : List ℕ) (cut done : Vector) → Held w f cut → Held w f (readyOps (logOf w f) cut done)
 unfolding readyOps countIn
-next-counted w f cut done h = record {
+next-held w f cut done h = record {
   wide = h .wide;
   is-laid = h .is-laid;
   each = λ s l u. rw (count-map (nextAt (logOf w f) cut done) s l u) (elim (decLt (countIn done s) (countIn cut s)) [
@@ -105,7 +105,7 @@ next-counted w f cut done h = record {
 
 ---- what the code of the ops that are ready needs: search readies
 
-pub ruleset nexts = (next-none, next-fits, next-spot, next-ready, next-waits, counted-at, nexts-all)
+pub ruleset nexts = (next-none, next-fits, next-in-file, next-ready, next-waits, held-at, nexts-all)
 
 pub ruleset advances = (advance-more, advance-all, later-old, later-new)
 

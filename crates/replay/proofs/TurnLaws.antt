@@ -1,4 +1,4 @@
--- Turns of the loops over replicas, classes and levels, as the code has them. Assumes nothing.
+-- Turns of the loops over replicas, classes and levels, as the code has them.
 use mathlib.Core.Path.{_≡_, refl, sym, ap, _∙_}
 use mathlib.Core.Bool.{Bool, true}
 use mathlib.Core.List.{List, [], _++_, map, foldl, foldl-append}
@@ -23,7 +23,7 @@ use Rattle.rules.proofs.CausalLaws.{within-le}
 use Rattle.rules.proofs.StepLaws.{Full, full-run}
 use Rattle.codec.proofs.VectorLaws.{length-eight}
 use Rattle.replay.specs.Tables.{Bottom, Replayable, ReplayableAt, ReplayableIn, Sized, Top, tables}
-use Rattle.replay.proofs.ReadyLaws.{next-counted}
+use Rattle.replay.proofs.ReadyLaws.{next-held}
 use Rattle.replay.proofs.DueLaws.{classes, dues, bounds, op-zero}
 
 ---- what a loop has left of the replay of some ops: all of them from the tables st are the rest from the tables as they are now
@@ -97,7 +97,7 @@ module _ (w : ℕ) (f : List ℕ) (next : Vector) (high low : ℕ) (p₀ o₀ l�
   due-asks s a b p o l z = record {
     source = record {
       is-structural = x .all .is-structural;
-      at = record { counted = x .all .counted; low = a; high = b };
+      at = record { held = x .all .held; low = a; high = b };
     };
     sized = z;
   }
@@ -142,7 +142,7 @@ module _ (log : Log) (t : ℕ) (next : Vector) where
 pub class-asks : (w : ℕ) (f : List ℕ) (next : Vector) (high low : ℕ) (p₀ o₀ l₀ p o l : List ℕ) → Replayable w f next p₀ o₀ l₀
     → Sized p o l → Top next high → Bottom next low → ReplayableIn w f next high low p o l
 class-asks w f next high low p₀ o₀ l₀ p o l x z a b = record {
-  all = record { is-structural = x .is-structural; counted = x .counted; sized = z };
+  all = record { is-structural = x .is-structural; held = x .held; sized = z };
   top = a;
   bottom = b;
 }
@@ -214,7 +214,7 @@ module _ (log : Log) (cut : Vector) where
 pub level-asks : (w : ℕ) (f : List ℕ) (cut done next : Vector) (p₀ o₀ l₀ p o l : List ℕ) → Replayable w f cut p₀ o₀ l₀
     → next ≡ readyOps (logOf w f) cut done → Sized p o l → Replayable w f next p o l
 level-asks w f cut done next p₀ o₀ l₀ p o l x is z =
-    record { is-structural = x .is-structural; counted = rw is (next-counted w f cut done (x .counted)); sized = z }
+    record { is-structural = x .is-structural; held = rw is (next-held w f cut done (x .held)); sized = z }
 
 ---- what the code of the levels needs: search levelling
 

@@ -1,4 +1,4 @@
--- What the contracts of the replay say of the lent tables and of the file. Assumes nothing.
+-- What the contracts of the replay say of the lent tables and of the file.
 use Prim.Native.Nat.{ℕ, _≤_, _<_}
 use mathlib.Core.Path.{_≡_}
 use mathlib.Core.Bool.{Bool, true, cond, _&&_, _||_, not}
@@ -10,7 +10,7 @@ use Rattle.rules.specs.File.{Log, logOf, opAt}
 use Rattle.rules.specs.Log.{structural, closed}
 use Rattle.rules.specs.Tree.{slots, noParent, atOrBelow, moveKind}
 use Rattle.rules.specs.Replay.{State, Stamped}
-use Rattle.oplog.specs.Spots.{Spot, Counted}
+use Rattle.oplog.specs.Places.{InFile, Held}
 
 ---- what the calls ask
 
@@ -33,19 +33,19 @@ pub record Slotted (p l : List ℕ) (node n : ℕ) : Type 0 where
 -- op q of replica s of a structurally sound file can be applied to the tables
 pub record Applicable (w : ℕ) (f : List ℕ) (s q : ℕ) (p o l : List ℕ) : Type 0 where
   pub is-structural : structural w f ≡ true
-  pub spot : Spot w f s q
+  pub in-file : InFile w f s q
   pub sized : Sized p o l
 
 -- the file has the ops that a vector counts, and s is a replica
-pub record CountedAt (w : ℕ) (f : List ℕ) (v : Vector) (s : ℕ) : Type 0 where
-  pub counted : Counted w f v
+pub record HeldAt (w : ℕ) (f : List ℕ) (v : Vector) (s : ℕ) : Type 0 where
+  pub held : Held w f v
   pub low : 1 ≤ s
   pub high : s ≤ 8
 
 -- the same of a structurally sound file
 pub record StructuralAt (w : ℕ) (f : List ℕ) (v : Vector) (s : ℕ) : Type 0 where
   pub is-structural : structural w f ≡ true
-  pub at : CountedAt w f v s
+  pub at : HeldAt w f v s
 
 -- and its op can be applied to the tables
 pub record ReplayableAt (w : ℕ) (f : List ℕ) (v : Vector) (s : ℕ) (p o l : List ℕ) : Type 0 where
@@ -55,7 +55,7 @@ pub record ReplayableAt (w : ℕ) (f : List ℕ) (v : Vector) (s : ℕ) (p o l :
 -- the ops that a vector counts can be applied to the tables
 pub record Replayable (w : ℕ) (f : List ℕ) (v : Vector) (p o l : List ℕ) : Type 0 where
   pub is-structural : structural w f ≡ true
-  pub counted : Counted w f v
+  pub held : Held w f v
   pub sized : Sized p o l
 
 -- no op is ready of a replica above a number; of one below it
@@ -76,7 +76,7 @@ pub record ReplayableIn (w : ℕ) (f : List ℕ) (next : Vector) (high low : ℕ
 -- a closed cut of a structurally sound file can be replayed to the tables of parents and outcomes
 pub record ReplayableCut (w : ℕ) (f : List ℕ) (cut : Vector) (p o : List ℕ) : Type 0 where
   pub is-structural : structural w f ≡ true
-  pub counted : Counted w f cut
+  pub held : Held w f cut
   pub is-closed : closed (logOf w f) cut ≡ true
   pub parents : length p ≡ slots
   pub outcomes : length o ≡ slots

@@ -1,4 +1,4 @@
-// Replay (the paper's judging) of the ops within a cut of a log, level by level, to the parent
+// Replay (the document's judging) of the ops within a cut of a log, level by level, to the parent
 // table and the outcome table; and climbs in a parent table.
 mod cut;
 mod effect;

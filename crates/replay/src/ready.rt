@@ -4,14 +4,14 @@ use codec::within;
 use oplog::place;
 ghost use mathlib.Core.Path.{_≡_};
 ghost use Rattle.rules.specs.File.{logOf};
-ghost use Rattle.oplog.specs.Spots.{Counted};
+ghost use Rattle.oplog.specs.Places.{Held};
 ghost use Rattle.order.specs.Levels.{nextAt, readyOps, advanced};
-ghost use Rattle.replay.specs.Tables.{CountedAt, later};
+ghost use Rattle.replay.specs.Tables.{HeldAt, later};
 
 // The number of replica s's next op, if it is within the cut and all that it has seen is done;
 // else 0.
 fn next_op(file: &[u8], cut: [u8; 8], done: [u8; 8], s: usize, width: usize) -> u8
-    requires { ⌜ CountedAt width (now file) cut s ⌝ }
+    requires { ⌜ HeldAt width (now file) cut s ⌝ }
     ensures { λ r. ⌜ r ≡ nextAt (logOf width (now (file .entry))) cut done s ⌝ }
 {
     let held = done[s - 1];
@@ -28,7 +28,7 @@ fn next_op(file: &[u8], cut: [u8; 8], done: [u8; 8], s: usize, width: usize) -> 
 
 // The number of each replica's op that is ready, or 0.
 pub fn next_ops(file: &[u8], cut: [u8; 8], done: [u8; 8], width: usize) -> [u8; 8]
-    requires { ⌜ Counted width (now file) cut ⌝ }
+    requires { ⌜ Held width (now file) cut ⌝ }
     ensures { λ r. ⌜ r ≡ readyOps (logOf width (now (file .entry))) cut done ⌝ }
 {
     let mut next = [0u8; 8];

@@ -6,7 +6,7 @@ use Rattle.codec.proofs.AnswerLaws.{accepted-with}
 use Rattle.rules.specs.File.{countAt, fileEnd, headerCounts, startOf, width}
 use Rattle.oplog.proofs.FieldLaws.{counts-in}
 use Rattle.oplog.proofs.HeaderLaws.{end-is}
-use Rattle.codec.specs.Answers.{isAccepted}
+use Rattle.codec.specs.Asked.{isAccepted}
 use Rattle.soundness.proofs.SoundCases.{laid-of}
 use Rattle.rules.proofs.ReplicaLaws.{replica-high, replica-low}
 use Rattle.rules.proofs.DeliverLaws.{required}
@@ -48,9 +48,8 @@ has-room f a is h =
 
 ---- an op that is added
 
-pub append-asks : (f : List ℕ) (s : ℕ) (op : List ℕ) → Acceptable f s op → (v : Vector) → v ≡ headerCounts f → (r : ℕ) → r ≡ s
-    → Appendable width f v r op
-append-asks f s op a v held r e =
+pub append-asks : (f : List ℕ) (v : Vector) (s : ℕ) (op : List ℕ) → Acceptable f v s op → (r : ℕ) → r ≡ s → Appendable width f v r op
+append-asks f v s op a r e =
     let l = replica-low s (a .is-replica) in
     let u = replica-high s (a .is-replica) in
     let n : countAt f s < 255 = rw (← counts-in width f s l u) (a .count) in
@@ -58,7 +57,7 @@ append-asks f s op a v held r e =
       wide = omega arith;
       narrow = omega arith;
       is-laid = laid-of f (a .is-sound);
-      held = held;
+      held = a .held;
       origin = e ∙ a .origin;
       low = omega arith;
       high = omega arith;

@@ -1,4 +1,4 @@
--- The cases of delivering, as the code meets them. Assumes nothing.
+-- The cases of delivering, as the code meets them.
 use mathlib.Core.Path.{_≡_, sym, ap, _∙_}
 use mathlib.Core.Bool.{Bool, true, false, cond}
 use mathlib.Core.List.{List}
@@ -21,10 +21,11 @@ use Rattle.lists.proofs.BoolLaws.{tested}
 use Rattle.rules.proofs.DeliverLaws.{admitted}
 use Rattle.rules.proofs.FileLaws.{counts-logOf}
 use Rattle.rules.proofs.StructureLaws.{count-held}
-use Rattle.oplog.specs.Spots.{Counted, Spot, placeOf}
+use Rattle.oplog.specs.Places.{Held, InFile, placeOf}
 use Rattle.oplog.specs.Tests.{namesBy}
-use Rattle.oplog.proofs.FieldLaws.{counted-of, counts-in, op-is}
-use Rattle.codec.specs.Answers.{isAccepted, numberOf}
+use Rattle.oplog.proofs.FieldLaws.{held-of, counts-in, op-is}
+use Rattle.codec.specs.Asked.{isAccepted}
+use Rattle.codec.specs.Answers.{numberOf}
 use Rattle.codec.specs.Read.{fieldsOf, readOf}
 use Rattle.codec.specs.declared.answer.Refusal.{Refusal}
 use Rattle.codec.specs.declared.answer.Refusal.the-variants.{Length, Malformed}
@@ -34,7 +35,7 @@ use Rattle.codec.specs.declared.op.Read.the-variants.{Op, Refused}
 use Rattle.codec.proofs.AnswerLaws.{accepted-with, if-accepted, if-not-accepted}
 use Rattle.codec.proofs.ReadLaws.{reads}
 use Rattle.replica.specs.Adding.{lastTest, Acceptable}
-use Rattle.replica.specs.Delivering.{namesIn, Readable, Again, Fresh}
+use Rattle.replica.specs.Delivering.{namesIn, Readable, Again, Fresh, Counting}
 use Rattle.soundness.proofs.SoundCases.{laid-of, tallied}
 
 -- what a call hands back
@@ -70,9 +71,13 @@ module _ (f op : List ℕ) (x : Fields) (d : Readable f op x) where
     pub fresh : leb (x .sequence) (countIn u (x .replica)) ≡ false → Fresh f op x u
     fresh is = record { reads = d; tallied = tallied f (d .is-sound) u h; is-new = held-by false is }
 
+    pub counting : Counting f op x u
+    counting = record { reads = d; held = h }
+
   -- it may be added if it is accepted
-  pub acceptable : (a : Answer) → a ≡ deliverAnswer width f op → isAccepted a ≡ true → Acceptable f (x .replica) op
-  acceptable a is h =
+  pub acceptable : (u : Vector) → u ≡ headerCounts f → (a : Answer) → a ≡ deliverAnswer width f op → isAccepted a ≡ true
+      → Acceptable f u (x .replica) op
+  acceptable u held a is h =
       let (n, e) = accepted-with a h in
       let t = admitted width f op n (sym is ∙ e) in
       let m = t .admits in
@@ -80,6 +85,7 @@ module _ (f op : List ℕ) (x : Fields) (d : Readable f op x) where
       let q = seq-next (logOf width f) op (i .0) (i .1) (m .new) (m .is-covered) in
       record {
         is-sound = d .is-sound;
+        held = held;
         is-replica = replica-so;
         count = rw (← replica-is) (omega (arith, i .2, q, count-held (logOf width f) (replicaOf op)));
         origin = sym replica-is;
@@ -96,9 +102,9 @@ module _ (f op : List ℕ) (x : Fields) (d : Again f op x) (s q : ℕ) (es : s �
   sequence-as : seqOf op ≡ q
   sequence-as = sequence-is f op x (d .reads) ∙ sym eq
 
-  pub spot : Spot width f s q
+  pub in-file : InFile width f s q
   unfolding held
-  spot =
+  in-file =
       let i = replica-formed op (d .reads .formed) in
       let l : 1 ≤ s = rw (← replica-as) (i .0) in
       let u : s ≤ 8 = rw (← replica-as) (i .1) in
@@ -115,7 +121,7 @@ module _ (f op : List ℕ) (x : Fields) (d : Again f op x) (s q : ℕ) (es : s �
   -- r tells whether the bytes at its place are the op's
   module _ (at : ℕ) (is : at ≡ placeOf width f s q) (r : Bool) (e : r ≡ same op (take (length op) (drop at f))) where
     compared : r ≡ same op (opAt (logOf width f) (replicaOf op) (seqOf op))
-    compared = e ∙ rw (d .reads .long, replica-as, sequence-as, is, ← op-is _ _ _ _ spot)
+    compared = e ∙ rw (d .reads .long, replica-as, sequence-as, is, ← op-is _ _ _ _ in-file)
 
     pub had-it : r ≡ true → hadIt ≡ deliverAnswer width f op
     unfolding heldAnswer require
@@ -145,9 +151,9 @@ module _ (f op : List ℕ) (x : Fields) (u : Vector) (d : Fresh f op x u) (v : V
   early e = sym (new-by ∙ rw (covered-by false e))
 
   module _ (a : within v u ≡ true) where
-    pub counted-in : Counted width f v
-    counted-in =
-        counted-of _ _ _ (omega arith) (laid-of f (d .reads .is-sound)) (rw (← counts-logOf width f, ← d .tallied .counts) a)
+    pub held-within : Held width f v
+    held-within =
+        held-of _ _ _ (omega arith) (laid-of f (d .reads .is-sound)) (rw (← counts-logOf width f, ← d .tallied .counts) a)
 
     pub not-closed : closed (logOf width f) v ≡ false → refused 6 ≡ deliverAnswer width f op
     unfolding admitAnswer require
@@ -205,8 +211,8 @@ module _ (f op : List ℕ) where
         go false w next z = let m : Length ≡ why = cc in rw (← m)
 
 ---- what the code of delivering needs: search delivering
-pub ruleset readings = (replica-so, again, fresh, acceptable, readable, unread)
+pub ruleset readings = (replica-so, counting, again, fresh, acceptable, readable, unread)
 
-pub ruleset answers = (spot, had-it, conflict, early, counted-in, not-closed, unknown, last)
+pub ruleset answers = (in-file, had-it, conflict, early, held-within, not-closed, unknown, last)
 
 pub ruleset delivering = (needs, tested, readings, answers, deliver-kept, deliver-added, deliver-unsound)

@@ -1,4 +1,4 @@
--- The cases of issuing, as the code meets them. Assumes nothing.
+-- The cases of issuing, as the code meets them.
 use mathlib.Core.Path.{_≡_, refl, sym, _∙_, ap}
 use mathlib.Core.Bool.{Bool, true, false, cond, not, and-eq-true-iff}
 use mathlib.Core.List.{List, _++_}
@@ -21,7 +21,8 @@ use Rattle.rules.specs.Sound.{sound}
 use Rattle.lists.proofs.BoolLaws.{tested}
 use Rattle.rules.proofs.FileLaws.{counts-logOf, length-counts}
 use Rattle.rules.proofs.SoundLaws.{sound-structural}
-use Rattle.codec.specs.Answers.{isAccepted, numberOf}
+use Rattle.codec.specs.Asked.{isAccepted}
+use Rattle.codec.specs.Answers.{numberOf}
 use Rattle.codec.specs.declared.answer.Refusal.{Refusal}
 use Rattle.codec.specs.declared.answer.Refusal.the-variants.{Unknown, Exhausted, Cycle}
 use Rattle.codec.proofs.AnswerLaws.{if-accepted, if-not-accepted}
@@ -32,7 +33,7 @@ use Rattle.replica.specs.declared.request.Draft.{Draft}
 use Rattle.replica.specs.declared.request.Drafted.{Drafted}
 use Rattle.replica.specs.declared.request.Drafted.the-variants.{Op, Refused}
 use Rattle.replica.specs.declared.request.Request.the-variants.{Add, Remove, Move}
-use Rattle.soundness.proofs.SoundCases.{counted, tallied}
+use Rattle.soundness.proofs.SoundCases.{tallied-held, tallied}
 use Rattle.replica.proofs.AddCases.{has-room}
 use Rattle.rules.specs.Issue as rules
 use Rattle.replica.specs.declared.request.Request as code
@@ -160,12 +161,13 @@ module _ (f : List ℕ) (v : Vector) (e : v ≡ headerCounts f) (k s n p : ℕ) 
   written : take width o ≡ opBytes k s n p v
   written = rw w (take-at (opBytes k s n p v) t width op-long)
 
-  pub acceptable : (room : ℕ) → Writable f room s → Acceptable f s (take 14 o)
+  pub acceptable : (room : ℕ) → Writable f room s → Acceptable f v s (take 14 o)
   unfolding opBytes replicaOf
   acceptable room r =
       let i = r .ready .lent .issuer in
       record {
         is-sound = i .is-sound;
+        held = e;
         is-replica = i .is-replica;
         count = ltb-true _ _ (r .ready .left);
         origin = rw written;
@@ -294,4 +296,4 @@ pub ruleset putting = (acceptable, all-added, put-kept, writable, put-added)
 
 pub ruleset issues = (lent, issue-unsound, issue-short, no-replica, issue-refused, ready, issue-put)
 
-pub ruleset issuing = (needs, tested, sound-structural, tallied, counted, requests, drafting, putting, issues)
+pub ruleset issuing = (needs, tested, sound-structural, tallied, tallied-held, requests, drafting, putting, issues)

@@ -1,4 +1,4 @@
--- The cases of judging, as the code meets them. Assumes nothing.
+-- The cases of judging, as the code meets them.
 use mathlib.Core.Path.{_≡_}
 use mathlib.Core.Bool.{true, false}
 use mathlib.Core.List.{List, _++_}

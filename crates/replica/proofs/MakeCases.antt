@@ -1,4 +1,4 @@
--- The cases of making, as the code meets them. Assumes nothing.
+-- The cases of making, as the code meets them.
 use mathlib.Core.Path.{_≡_, _∙_}
 use mathlib.Core.List.{List, [], _++_, append-assoc}
 use Prim.Native.Nat.{ℕ, _≤_, _<_}

@@ -1,4 +1,5 @@
--- The last test of an op and its addition, as delivering and issuing share them. Assumes nothing.
+-- The last test of an op and its addition, as delivering and issuing share them.
+use Rattle.rules.specs.File.{headerCounts, width, countsOf, fileEnd, logOf}
 use Prim.Native.Nat.{ℕ, _+_, _<_, _≤_}
 use mathlib.Core.Path.{_≡_}
 use mathlib.Core.Bool.{true}
@@ -6,17 +7,17 @@ use mathlib.Core.List.{List}
 use lib.ListN.{length}
 use lib.Dec.{leb}
 use Rattle.rules.specs.Answer.{Answer, accepted, require}
-use Rattle.rules.specs.File.{width, countsOf, fileEnd, logOf}
-use Rattle.rules.specs.Op.{countIn, isReplica, replicaOf}
+use Rattle.rules.specs.Op.{countIn, isReplica, replicaOf, Vector}
 use Rattle.rules.specs.Sound.{sound}
 
 -- number 8: room for one op more; the answer is the new file end
 unfoldable pub lastTest : List ℕ → Answer
 lastTest f = require (leb (fileEnd width f + width) (length f)) 8 (accepted (fileEnd width f + width))
 
--- a sound buffer with room, and an op of replica s, which may have one more
-pub record Acceptable (f : List ℕ) (s : ℕ) (op : List ℕ) : Type 0 where
+-- a sound buffer of these counts with room, and an op of replica s, which may have one more
+pub record Acceptable (f : List ℕ) (v : Vector) (s : ℕ) (op : List ℕ) : Type 0 where
   pub is-sound : sound width f ≡ true
+  pub held : v ≡ headerCounts f
   pub is-replica : isReplica s ≡ true
   pub count : countIn (countsOf (logOf width f)) s < 255
   pub origin : s ≡ replicaOf op

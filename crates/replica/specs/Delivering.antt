@@ -1,11 +1,11 @@
--- What the steps of delivering ask of a buffer and an op. Assumes nothing.
+-- What the steps of delivering ask of a buffer and an op.
+use Rattle.rules.specs.File.{headerCounts, Log, width, logOf}
 use Prim.Native.Nat.{ℕ}
 use mathlib.Core.Path.{_≡_}
 use mathlib.Core.Bool.{Bool, true, false}
 use mathlib.Core.List.{List}
 use lib.ListN.{length}
 use Rattle.rules.specs.Deliver.{held}
-use Rattle.rules.specs.File.{Log, width, logOf}
 use Rattle.rules.specs.Op.{Vector, nodeNumber, wellFormed}
 use Rattle.rules.specs.Sound.{sound}
 use Rattle.oplog.specs.Tests.{namesBy}
@@ -23,6 +23,11 @@ pub record Readable (f op : List ℕ) (x : Fields) : Type 0 where
   pub long : length op ≡ width
   pub formed : wellFormed op ≡ true
   pub fields : fieldsOf op ≡ x
+
+-- u are the held counts
+pub record Counting (f op : List ℕ) (x : Fields) (u : Vector) : Type 0 where
+  pub reads : Readable f op x
+  pub held : u ≡ headerCounts f
 
 -- and its sequence is held
 pub record Again (f op : List ℕ) (x : Fields) : Type 0 where

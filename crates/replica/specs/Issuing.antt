@@ -1,4 +1,4 @@
--- Issuing as the code goes about it: a request is drafted as an op, which is then put out and added. Assumes nothing.
+-- Issuing as the code goes about it: a request is drafted as an op, which is then put out and added.
 use Prim.Native.Nat.{ℕ, _+_, _≤_, _<_}
 use mathlib.Core.Path.{_≡_}
 use mathlib.Core.Bool.{true, cond, not}

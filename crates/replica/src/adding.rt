@@ -2,7 +2,6 @@ use codec::Answer;
 use codec::Refusal;
 use codec::widen;
 use oplog::append_op;
-use oplog::counts_of;
 use oplog::end_of;
 use soundness::WIDTH;
 ghost use mathlib.Core.Path.{_≡_};
@@ -25,10 +24,9 @@ pub fn last_test(file: &[u8]) -> Answer
 }
 
 // Adds an op that passed every test.
-pub fn accept(buf: &mut [u8], replica: u8, op: &[u8])
-    requires { ⌜ Acceptable (now buf) replica (now op) ⌝ }
+pub fn accept(buf: &mut [u8], counts: [u8; 8], replica: u8, op: &[u8])
+    requires { ⌜ Acceptable (now buf) counts replica (now op) ⌝ }
     ensures { λ _. ⌜ now (buf .exit) ≡ appended width (now (buf .entry)) (now (op .entry)) ⌝ }
 {
-    let counts = counts_of(buf, WIDTH);
     append_op(buf, counts, widen(replica), op, WIDTH);
 }

@@ -21,9 +21,9 @@ ghost use mathlib.Core.Bool.{true};
 ghost use lib.Dec.{leb};
 ghost use Rattle.rules.specs.Op.{isReplica, countIn};
 ghost use Rattle.rules.specs.File.{width, logOf};
-ghost use Rattle.oplog.specs.Spots.{Counted};
+ghost use Rattle.oplog.specs.Places.{Held};
 ghost use Rattle.codec.specs.Answers.{answerOf};
-ghost use Rattle.replica.specs.Delivering.{namesIn, Readable, Again, Fresh};
+ghost use Rattle.replica.specs.Delivering.{namesIn, Readable, Counting, Again, Fresh};
 ghost use Rattle.rules.specs.Deliver as rules;
 
 // The answer where an op of this replica and sequence is held: the same, or another.
@@ -49,7 +49,7 @@ fn is_held(counts: [u8; 8], fields: Fields) -> bool
 
 // Number 7: whether the nodes that an op names are known to its vector.
 fn names(file: &[u8], v: [u8; 8], fields: Fields) -> bool
-    requires { ⌜ Counted width (now file) v ⌝ }
+    requires { ⌜ Held width (now file) v ⌝ }
     ensures { λ r. ⌜ r ≡ namesIn (logOf width (now (file .entry))) v fields ⌝ }
 {
     let own = (256 * widen(fields.replica) + widen(fields.sequence)) as u16;
@@ -75,11 +75,10 @@ fn answer_new(file: &[u8], counts: [u8; 8], fields: Fields, op: &[u8]) -> Answer
 }
 
 // The answer of a delivery to a sound log, of an op that reads.
-fn answer_read(file: &[u8], fields: Fields, op: &[u8]) -> Answer
-    requires { ⌜ Readable (now file) (now op) fields ⌝ }
+fn answer_read(file: &[u8], counts: [u8; 8], fields: Fields, op: &[u8]) -> Answer
+    requires { ⌜ Counting (now file) (now op) fields counts ⌝ }
     ensures { λ r. ⌜ answerOf r ≡ rules.deliverAnswer width (now (file .entry)) (now (op .entry)) ⌝ }
 {
-    let counts = counts_of(file, WIDTH);
     if is_held(counts, fields) {
         return answer_held(file, fields, op);
     }
@@ -92,11 +91,12 @@ fn deliver_read(buf: &mut [u8], fields: Fields, op: &[u8]) -> Answer
     ensures { λ r. ⌜ record { answer = answerOf r; buffer = now (buf .exit) }
         ≡ rules.deliver width (now (buf .entry)) (now (op .entry)) ⌝ }
 {
-    let answer = answer_read(buf, fields, op);
+    let counts = counts_of(buf, WIDTH);
+    let answer = answer_read(buf, counts, fields, op);
     if !is_accepted(answer) {
         return answer;
     }
-    accept(buf, fields.replica, op);
+    accept(buf, counts, fields.replica, op);
     answer
 }
 

@@ -153,7 +153,7 @@ fn write_out(buf: &mut [u8], replica: u8, draft: Draft, out: &mut [u8])
     let counts = counts_of(buf, WIDTH);
     write_op(out, draft.kind, replica, draft.node, draft.parent, counts);
     let n = WIDTH;
-    accept(buf, replica, &out[..n]);
+    accept(buf, counts, replica, &out[..n]);
 }
 
 // The last test, 8; an op that passes it is put out and added.

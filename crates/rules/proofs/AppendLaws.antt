@@ -1,4 +1,4 @@
--- Laws of a log with one op more: what was held stays, tests that passed still pass, and a good log stays good. Assumes nothing.
+-- Laws of a log with one op more: what was held stays, tests that passed still pass, and a good log stays good.
 use mathlib.Core.Path.{_≡_, refl, sym, ap, _∙_}
 use mathlib.Core.Bool.{true, false, and-eq-true-iff}
 use mathlib.Core.List.{List, _∷_, _++_, map, []}
@@ -35,7 +35,7 @@ module _ (log more : Log) (v : Vector) (x : SameWithin log more v) where
       let p : 1 ≤ countIn v s = omega (arith, eqb-false (countIn v s) 0 z) in
       ap (λ r. within (vectorOf r) v) (x s (countIn v s) l u p (le-refl _))))
 
-  pub known-more : (n : ℕ) → known more v n ≡ known log v n
+  known-more : (n : ℕ) → known more v n ≡ known log v n
   unfolding known nodeWithin isReplica
   known-more n =
       and-under (nodeWithin v n) _ _ (λ g.
@@ -57,7 +57,7 @@ module _ (log more : Log) (x : Extends log more) (v : Vector) (c : covered log v
   same-within s q l u lq uq = x .ops s q l u lq (omega (arith, held-in log v c s l u))
 
 -- an op that is sound in a log is so in a log that holds more
-pub soundOp-more : (log more : Log) → Extends log more → (s q : ℕ) (r : Op) → soundOp log s q r ≡ true → soundOp more s q r ≡ true
+soundOp-more : (log more : Log) → Extends log more → (s q : ℕ) (r : Op) → soundOp log s q r ≡ true → soundOp more s q r ≡ true
 unfolding soundOp
 soundOp-more log more x s q r e =
     let h = simp and-eq-true-iff at e in
@@ -76,7 +76,7 @@ soundOps-more log more x s q (r ∷ rs) e =
     and-both (soundOp-more log more x s q r (and-left (soundOp log s q r) _ e))
     (soundOps-more log more x s (suc q) rs (and-right (soundOp log s q r) _ e))
 
-pub soundOps-last : (log : Log) (s q : ℕ) (rs : List Op) (r : Op) → soundOps log s q rs ≡ true → soundOp log s (q + length rs) r ≡ true
+soundOps-last : (log : Log) (s q : ℕ) (rs : List Op) (r : Op) → soundOps log s q rs ≡ true → soundOp log s (q + length rs) r ≡ true
     → soundOps log s q (rs ++ (r ∷ [])) ≡ true
 unfolding soundOps
 soundOps-last log s q [] r e h = rw (← add-zero q, h)
@@ -117,7 +117,7 @@ wide-append w log r h e =
     wide-set w log (replicaOf r - 1) (opsOf log (replicaOf r) ++ (r ∷ [])) h (wide-last w (opsOf log (replicaOf r)) r
     (wide-at w log (replicaOf r - 1) h) e)
 
-pub sum-set : (log : Log) (i : ℕ) (r : Op) → i < length log → sum (map length (set log i (getD log i [] ++ (r ∷ [])))) ≡ sum
+sum-set : (log : Log) (i : ℕ) (r : Op) → i < length log → sum (map length (set log i (getD log i [] ++ (r ∷ [])))) ≡ sum
     (map length log) + 1
 unfolding sum
 sum-set [] i r h = absurd (not-suc-le-zero h)

@@ -1,4 +1,4 @@
--- Causality in a sound log: what a closed vector counts has smaller vectors. From this: some missing op is not early. Assumes nothing.
+-- Causality in a sound log: what a closed vector counts has smaller vectors. From this: some missing op is not early.
 use mathlib.Core.Path.{_≡_, refl, sym, subst}
 use mathlib.Core.Bool.{Bool, true, false}
 use mathlib.Core.List.{map}
@@ -26,7 +26,7 @@ within-le v u e s l h = leb-true _ _ (replica-passes (λ t. leb (countIn v t) (c
 unfoldable pub total : Vector → ℕ
 total v = sum (map (countIn v) replicas)
 
-pub total-less : (v u : Vector) → Le v u → (s : ℕ) → 1 ≤ s → s ≤ 8 → countIn v s < countIn u s → total v < total u
+total-less : (v u : Vector) → Le v u → (s : ℕ) → 1 ≤ s → s ≤ 8 → countIn v s < countIn u s → total v < total u
 unfolding total sum replicas upFrom
 total-less v u b =
     let b₁ = b 1 (lit≤ tt) (lit≤ tt) in
@@ -41,7 +41,7 @@ total-less v u b =
     (λ h. omega arith) (λ h. omega arith) (λ h. omega arith) (λ h. omega arith) (λ h. omega arith) (λ h. omega arith) (λ h. omega arith)
     (λ h. omega arith)
 
-pub closed-le : (log : Log) (v : Vector) → closed log v ≡ true → (s : ℕ) → 1 ≤ s → s ≤ 8 → 1 ≤ countIn v s
+closed-le : (log : Log) (v : Vector) → closed log v ≡ true → (s : ℕ) → 1 ≤ s → s ≤ 8 → 1 ≤ countIn v s
     → Le (vectorOf (opAt log s (countIn v s))) v
 unfolding closed closedAt
 closed-le log v c s l u p =

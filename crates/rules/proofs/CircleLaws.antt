@@ -1,4 +1,4 @@
--- Of two moves that together close a circle, the second finds its new parent below its node. Assumes nothing.
+-- Of two moves that together close a circle, the second finds its new parent below its node.
 use Prim.Native.Nat.{ℕ, suc, _<_, _≤_, _+_, _-_, zero}
 use lib.ListN.{set, length}
 use mathlib.Core.Bool.{false, true, _&&_}

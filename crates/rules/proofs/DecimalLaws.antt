@@ -1,4 +1,4 @@
--- Laws of decimal numbers and of a line: how many digits, and that five are enough and read back. Assumes nothing.
+-- Laws of decimal numbers and of a line: how many digits, and that five are enough and read back.
 use lib.ListN.{drop, set, take, length, length-append, length-set, take-append-drop}
 use mathlib.Core.Path.{ap, refl, _≡_, _∙_}
 use mathlib.Core.List.{List, [], _∷_, _++_, append-assoc}

@@ -1,4 +1,4 @@
--- Laws of delivering: what acceptance says, and that an accepted op leaves a sound log. Assumes nothing.
+-- Laws of delivering: what acceptance says, and that an accepted op leaves a sound log.
 use mathlib.Core.Path.{_≡_, refl, _∙_}
 use mathlib.Core.Bool.{Bool, true, false, cond}
 use mathlib.Core.List.{List}
@@ -94,7 +94,7 @@ module _ (w : ℕ) (f : List ℕ) (r : Op) (n : ℕ) (h : Admitted w f r n) wher
   pub sound-new : SoundLog (append old r)
   sound-new = sound-append old r (sound-log w f (h .is-sound)) (h .admits)
 
-  pub wide-new : WideLog w (append old r)
+  wide-new : WideLog w (append old r)
   wide-new = wide-append w old r (sound-wide w f (h .is-sound)) (h .long)
 
   -- the log of the new buffer, and its file end
@@ -102,7 +102,7 @@ module _ (w : ℕ) (f : List ℕ) (r : Op) (n : ℕ) (h : Admitted w f r n) wher
   unfolding appended
   appended-log = logOf-fileOf w (append old r) rest (sound-new .good .eight) wide-new
 
-  pub end-new : endOf w (countsOf (append old r)) ≡ fileEnd w f + w
+  end-new : endOf w (countsOf (append old r)) ≡ fileEnd w f + w
   unfolding endOf fileEnd
   end-new =
       let i = in-range old r good-old (h .admits) in

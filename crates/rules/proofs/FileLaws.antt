@@ -1,4 +1,4 @@
--- Laws of the layout: bytes to log and back. Assumes nothing.
+-- Laws of the layout: bytes to log and back.
 use mathlib.Core.Path.{_≡_, refl, sym, ap, _∙_}
 use mathlib.Core.List.{List, _∷_, _++_, map, append-assoc, []}
 use Prim.Native.Nat.{ℕ, zero, suc, _+_, _*_, _-_, _≤_, _<_}
@@ -6,12 +6,12 @@ use native.Mathlib.Nat.{mul-zero, mul-add, div-add-mod', not-suc-le-zero, le-of-
 use native.Mathlib.Numerals.{unary-clauses}
 use native.Mathlib.Omega.{arith}
 use lib.ListN.{length, take, drop, getD, set, length-append, length-take, length-drop, length-map}
-use lib.Seq.{take-add, drop-drop, getD-take, getD-drop, take-at, drop-at, drop-cons}
+use lib.Seq.{take-add, drop-drop, take-at, drop-at, drop-cons}
 use lib.Arith.{digits-div, digits-mod}
 use Rattle.rules.specs.Bytes.{byte, wordAt, word}
 use Rattle.lists.specs.Lists.{upFrom, sum, concat}
 use Rattle.rules.specs.Op.{Op, Vector, replicas, countIn}
-use Rattle.rules.specs.File.{Log, opsOf, opAt, countsOf, countAt, startAt, headerCounts, startOf, endOf, fileEnd, chunks, chunksOf, logOf, headerEntry, headerOf, fileOf}
+use Rattle.rules.specs.File.{Log, opsOf, countsOf, countAt, startAt, headerCounts, startOf, endOf, fileEnd, chunks, chunksOf, logOf, headerEntry, headerOf, fileOf}
 use Rattle.lists.proofs.ListLaws.{concat-append}
 use Rattle.lists.proofs.RangeLaws.{map-getD}
 use Rattle.lists.proofs.NumberLaws.{mul-step}
@@ -19,12 +19,12 @@ use Rattle.rules.proofs.ReplicaLaws.{map-replicas, replica-cases}
 
 ---- chunks
 
-pub length-chunks : (w n : ℕ) (bs : List ℕ) → length (chunks w n bs) ≡ n
+length-chunks : (w n : ℕ) (bs : List ℕ) → length (chunks w n bs) ≡ n
 unfolding chunks
 length-chunks w zero bs = refl
 length-chunks w (suc n) bs = ap suc (length-chunks w n (drop w bs))
 
-pub concat-chunks : (w n : ℕ) (bs : List ℕ) → concat (chunks w n bs) ≡ take (w * n) bs
+concat-chunks : (w n : ℕ) (bs : List ℕ) → concat (chunks w n bs) ≡ take (w * n) bs
 unfolding chunks concat
 concat-chunks w zero bs = rw mul-zero
 concat-chunks w (suc n) bs = rw (mul-step, take-add, concat-chunks w n (drop w bs))
@@ -35,7 +35,7 @@ chunk-at w zero bs i h = absurd (not-suc-le-zero h)
 chunk-at w (suc n) bs zero h = rw mul-zero
 chunk-at w (suc n) bs (suc i) h = rw (chunk-at w n (drop w bs) i (le-of-suc-le-suc h), drop-drop, mul-step)
 
-pub counts-chunksOf : (w : ℕ) (ns bs : List ℕ) → map length (chunksOf w ns bs) ≡ ns
+counts-chunksOf : (w : ℕ) (ns bs : List ℕ) → map length (chunksOf w ns bs) ≡ ns
 unfolding chunksOf
 counts-chunksOf w [] bs = refl
 counts-chunksOf w (n ∷ ns) bs = rw (length-chunks, counts-chunksOf w ns (drop (w * n) bs))
@@ -92,15 +92,15 @@ abbrev pub WideLog : ℕ → Log → Type 0
 WideLog w [] = Unit {0}
 WideLog w (ops ∷ rest) = Wide w ops × WideLog w rest
 
-pub header-counts : (w : ℕ) (c t : List ℕ) → headerCounts (headerOf w c ++ t) ≡ map (countIn c) replicas
+header-counts : (w : ℕ) (c t : List ℕ) → headerCounts (headerOf w c ++ t) ≡ map (countIn c) replicas
 unfolding headerCounts countAt wordAt replicas upFrom headerOf headerEntry concat word
 header-counts w c t = simp div-add-mod'
 
-pub header-drop : (w : ℕ) (c t : List ℕ) → drop 32 (headerOf w c ++ t) ≡ t
+header-drop : (w : ℕ) (c t : List ℕ) → drop 32 (headerOf w c ++ t) ≡ t
 unfolding replicas upFrom headerOf headerEntry concat word
 header-drop w c t = refl
 
-pub chunks-concat : (w : ℕ) (ops : List Op) (t : List ℕ) → Wide w ops → chunks w (length ops) (concat ops ++ t) ≡ ops
+chunks-concat : (w : ℕ) (ops : List Op) (t : List ℕ) → Wide w ops → chunks w (length ops) (concat ops ++ t) ≡ ops
 unfolding chunks concat
 chunks-concat w [] t h = refl
 chunks-concat w (r ∷ rs) t h = rw (
@@ -111,7 +111,7 @@ chunks-concat w (r ∷ rs) t h = rw (
       rs t (h .1),
 )
 
-pub drop-concat : (w : ℕ) (ops : List Op) (t : List ℕ) → Wide w ops → drop (w * length ops) (concat ops ++ t) ≡ t
+drop-concat : (w : ℕ) (ops : List Op) (t : List ℕ) → Wide w ops → drop (w * length ops) (concat ops ++ t) ≡ t
 unfolding concat
 drop-concat w [] t h = rw mul-zero
 drop-concat w (r ∷ rs) t h = rw (
@@ -123,7 +123,7 @@ drop-concat w (r ∷ rs) t h = rw (
       rs t (h .1),
 )
 
-pub chunksOf-bodies : (w : ℕ) (log : Log) (t : List ℕ) → WideLog w log → chunksOf w (map length log) (concat (concat log) ++ t) ≡ log
+chunksOf-bodies : (w : ℕ) (log : Log) (t : List ℕ) → WideLog w log → chunksOf w (map length log) (concat (concat log) ++ t) ≡ log
 unfolding chunksOf concat
 chunksOf-bodies w [] t h = refl
 chunksOf-bodies w (ops ∷ rest) t h =
@@ -141,33 +141,15 @@ unfolding logOf fileOf countsOf
 logOf-fileOf w log t e h =
     rw (append-assoc, header-counts, header-drop, vector-eta (map length log) (length-map log length ∙ e), chunksOf-bodies w log t h)
 
----- a byte of an op
-
-pub op-byte : (w : ℕ) (f : List ℕ) (s q j : ℕ) → 1 ≤ s → s ≤ 8 → 1 ≤ q → q ≤ countAt f s → j < w
-    → byte (opAt (logOf w f) s q) j ≡ byte f (startOf w (headerCounts f) s + w * (q - 1) + j)
-unfolding opAt opsOf logOf startOf countIn
-op-byte w f s q j ls us lq uq hj =
-    let c : q - 1 < getD (headerCounts f) (s - 1) 0 = rw (counts-at f s ls us) (omega arith) in
-    rw (
-      ops-chunksOf w (headerCounts f) (drop 32 f) (s - 1) (omega (arith, length-counts f)),
-      chunk-at w (getD (headerCounts f) (s - 1) 0) _
-          (q - 1) c,
-      getD-take,
-      getD-drop,
-      getD-drop,
-      getD-drop,
-    )
-    (ap (byte f) (omega arith))
-
 ---- a sound file is its log's
 
 -- n bytes from i on, one by one
-pub take-bytes : (f : List ℕ) (n i : ℕ) → i + n ≤ length f → take n (drop i f) ≡ map (byte f) (upFrom i n)
+take-bytes : (f : List ℕ) (n i : ℕ) → i + n ≤ length f → take n (drop i f) ≡ map (byte f) (upFrom i n)
 unfolding upFrom
 take-bytes f zero i h = refl
 take-bytes f (suc n) i h = rw (drop-cons f i 0 (omega arith), take-bytes f n (suc i) (omega arith))
 
-pub word-wordAt : (f : List ℕ) (i : ℕ) → byte f (i + 1) < 256 → word (wordAt f i) ≡ byte f i ∷ byte f (i + 1) ∷ []
+word-wordAt : (f : List ℕ) (i : ℕ) → byte f (i + 1) < 256 → word (wordAt f i) ≡ byte f i ∷ byte f (i + 1) ∷ []
 unfolding word wordAt
 word-wordAt f i h = rw (digits-div (byte f i) h, digits-mod (byte f i) h)
 
@@ -190,13 +172,13 @@ fileOf-logOf w f t = rw (take-add, counts-chunksOf, bodies-chunksOf, t)
 
 ---- widths and lengths
 
-pub wide-chunks : (w n : ℕ) (bs : List ℕ) → w * n ≤ length bs → Wide w (chunks w n bs)
+wide-chunks : (w n : ℕ) (bs : List ℕ) → w * n ≤ length bs → Wide w (chunks w n bs)
 unfolding chunks
 wide-chunks w zero bs h = tt
 wide-chunks w (suc n) bs h =
     (simp length-take (omega (arith, mul-step w n)), wide-chunks w n (drop w bs) (simp length-drop (omega (arith, mul-step w n))))
 
-pub wide-chunksOf : (w : ℕ) (ns bs : List ℕ) → w * sum ns ≤ length bs → WideLog w (chunksOf w ns bs)
+wide-chunksOf : (w : ℕ) (ns bs : List ℕ) → w * sum ns ≤ length bs → WideLog w (chunksOf w ns bs)
 unfolding chunksOf sum
 wide-chunksOf w [] bs h = tt
 wide-chunksOf w (n ∷ ns) bs h = (
@@ -219,12 +201,12 @@ wide-set w [] i ops h e = tt
 wide-set w (x ∷ log) zero ops h e = (e, h .1)
 wide-set w (x ∷ log) (suc i) ops h e = (h .0, wide-set w log i ops (h .1) e)
 
-pub length-ops : (w : ℕ) (ops : List Op) → Wide w ops → length (concat ops) ≡ w * length ops
+length-ops : (w : ℕ) (ops : List Op) → Wide w ops → length (concat ops) ≡ w * length ops
 unfolding concat
 length-ops w [] h = sym (mul-zero w)
 length-ops w (r ∷ rs) h = rw (length-append, mul-step, length-ops w rs (h .1), h .0)
 
-pub length-bodies : (w : ℕ) (log : Log) → WideLog w log → length (concat (concat log)) ≡ w * sum (map length log)
+length-bodies : (w : ℕ) (log : Log) → WideLog w log → length (concat (concat log)) ≡ w * sum (map length log)
 unfolding concat sum
 length-bodies w [] h = sym (mul-zero w)
 length-bodies w (ops ∷ log) h = rw (concat-append, length-append, length-ops w ops (h .0), length-bodies w log (h .1), mul-add)

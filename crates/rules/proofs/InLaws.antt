@@ -39,10 +39,10 @@ op-in log h s q l u lq uq = let x = h s q l u lq uq in record {
 
 module _ (log : Log) (r : Op) (eight : length log ≡ 8) (lo : 1 ≤ replicaOf r) (hi : replicaOf r ≤ 8)
     (next : ownCount r ≡ length (opsOf log (replicaOf r))) where
-  pub count-new : countIn (countsOf (append log r)) (replicaOf r) ≡ length (opsOf log (replicaOf r)) + 1
+  count-new : countIn (countsOf (append log r)) (replicaOf r) ≡ length (opsOf log (replicaOf r)) + 1
   count-new = rw (count-held, ops-same log r eight lo hi, length-append)
 
-  pub at-new : (q : ℕ) → q ≡ seqOf r → opAt (append log r) (replicaOf r) q ≡ r
+  at-new : (q : ℕ) → q ≡ seqOf r → opAt (append log r) (replicaOf r) q ≡ r
   unfolding opAt seqOf
   at-new q e =
       let k : q - 1 ≡ length (opsOf log (replicaOf r)) = omega arith in

@@ -13,20 +13,20 @@ use Rattle.rules.specs.File.{Log, opsOf, countsOf, append, headerCounts,
 use Rattle.rules.proofs.FileLaws.{bodies-chunksOf, length-logOf}
 use Rattle.lists.proofs.ListLaws.{concat-append}
 
-pub take-chunksOf : (w k : ℕ) (ns bs : List ℕ) → take k (chunksOf w ns bs) ≡ chunksOf w (take k ns) bs
+take-chunksOf : (w k : ℕ) (ns bs : List ℕ) → take k (chunksOf w ns bs) ≡ chunksOf w (take k ns) bs
 unfolding chunksOf
 take-chunksOf w zero ns bs = refl
 take-chunksOf w (suc k) [] bs = refl
 take-chunksOf w (suc k) (n ∷ ns) bs = rw (take-chunksOf w k ns (drop (w * n) bs))
 
-pub drop-chunksOf : (w k : ℕ) (ns bs : List ℕ) → drop k (chunksOf w ns bs) ≡ chunksOf w (drop k ns) (drop (w * sum (take k ns)) bs)
+drop-chunksOf : (w k : ℕ) (ns bs : List ℕ) → drop k (chunksOf w ns bs) ≡ chunksOf w (drop k ns) (drop (w * sum (take k ns)) bs)
 unfolding chunksOf sum
 drop-chunksOf w zero ns bs = rw mul-zero
 drop-chunksOf w (suc k) [] bs = refl
 drop-chunksOf w (suc k) (n ∷ ns) bs = rw (drop-chunksOf w k ns (drop (w * n) bs), drop-drop, ← mul-add w n (sum (take k ns)))
 
 -- the bodies of a log with r last in its list i
-pub bodies-set : (log : Log) (i : ℕ) (r : Op) → i < length log → concat (concat (set log i (getD log i [] ++ (r ∷ [])))) ≡ concat
+bodies-set : (log : Log) (i : ℕ) (r : Op) → i < length log → concat (concat (set log i (getD log i [] ++ (r ∷ [])))) ≡ concat
     (concat (take (suc i) log)) ++ (r ++ concat (concat (drop (suc i) log)))
 unfolding concat
 bodies-set [] i r h = absurd (not-suc-le-zero h)

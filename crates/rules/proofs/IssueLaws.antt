@@ -1,4 +1,4 @@
--- An issued op passes the tests of a delivered one at the log that issued it. Assumes nothing.
+-- An issued op passes the tests of a delivered one at the log that issued it.
 use mathlib.Core.Path.{_≡_, refl, ap, _∙_}
 use mathlib.Core.Bool.{Bool, true, false, cond, _&&_, _||_, not, and-eq-true-iff}
 use mathlib.Core.List.{List}
@@ -105,7 +105,7 @@ module _ (log : Log) (g : GoodLog log) where
 
   -- an op that the tests of issuing let through
   module _ (s : ℕ) (ls : isReplica s ≡ true) (full : countIn (countsOf log) s < 255) where
-    pub issued-admits : (q : Request) → requestKnown log q ≡ true → Admits log (issued log s q)
+    issued-admits : (q : Request) → requestKnown log q ≡ true → Admits log (issued log s q)
     unfolding issued requestKnown moveKind
     issued-admits (add p) h = issue-admits 1 s _ p ls full refl refl (names-add s _ p h refl)
     issued-admits (remove n) h = issue-admits 2 s n 0 ls full refl refl (names-remove s n 0 h)
@@ -122,7 +122,7 @@ module _ (log : Log) (g : GoodLog log) where
   unfolding opBytes word
   bytes-long k s n p = omega (arith, counts-eight)
 
-  pub issued-long : (s : ℕ) (q : Request) → length (issued log s q) ≡ width
+  issued-long : (s : ℕ) (q : Request) → length (issued log s q) ≡ width
   unfolding issued
   issued-long s (add p) = bytes-long _ s _ p
   issued-long s (remove n) = bytes-long _ s n _

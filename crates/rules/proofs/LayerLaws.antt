@@ -44,10 +44,10 @@ Local T =
     → covered more (vectorOf r) ≡ true → SameWithin log more (vectorOf r) → T more r ≡ T log r
 
 module _ (T : Log → Op → Bool) (local : Local T) (log more : Log) (g : GoodLog log) (h : Every (T log) log) (x : Extends log more) where
-  pub layer-same : (r : Op) → covered log (vectorOf r) ≡ true → closed log (vectorOf r) ≡ true → T more r ≡ T log r
+  layer-same : (r : Op) → covered log (vectorOf r) ≡ true → closed log (vectorOf r) ≡ true → T more r ≡ T log r
   layer-same r c cl = local log more (good-ops g) r c cl (covered-more log more x (vectorOf r) c) (same-within log more x (vectorOf r) c)
 
-  pub layer-more : (s q : ℕ) → 1 ≤ s → s ≤ 8 → 1 ≤ q → q ≤ countIn (countsOf log) s → T more (opAt more s q) ≡ true
+  layer-more : (s q : ℕ) → 1 ≤ s → s ≤ 8 → 1 ≤ q → q ≤ countIn (countsOf log) s → T more (opAt more s q) ≡ true
   layer-more s q l u lq uq =
       let o = good-ops g s q l u lq uq in
       rw (x .ops s q l u lq uq) (layer-same (opAt log s q) (o .is-covered) (o .is-closed) ∙ h s q l u lq uq)

@@ -1,4 +1,4 @@
--- Offering an op of one log to a buffer whose log agrees with it: the answer is acceptance, "had it" or 5. Assumes nothing.
+-- Offering an op of one log to a buffer whose log agrees with it: the answer is acceptance, "had it" or 5.
 use mathlib.Core.Path.{_≡_, refl, sym, ap}
 use mathlib.Core.Bool.{Bool, true, false, cond}
 use mathlib.Core.List.{List, _∷_, []}
@@ -45,7 +45,7 @@ sum-eight : (v : Vector) → length v ≡ 8
 unfolding sum replicas upFrom
 sum-eight v e = ap sum (sym (vector-eta v e))
 
-pub sum-below : (v : Vector) → length v ≡ 8 → ((t : ℕ) → 1 ≤ t → t ≤ 8 → countIn v t ≤ 255) → (s : ℕ) → 1 ≤ s → s ≤ 8 → countIn v s < 255
+sum-below : (v : Vector) → length v ≡ 8 → ((t : ℕ) → 1 ≤ t → t ≤ 8 → countIn v t ≤ 255) → (s : ℕ) → 1 ≤ s → s ≤ 8 → countIn v s < 255
     → sum v < 2040
 sum-below v e b =
     let b₁ = b 1 (lit≤ tt) (lit≤ tt) in

@@ -1,4 +1,4 @@
--- What issuing puts out: the issued op, and where it is accepted. Assumes nothing.
+-- What issuing puts out: the issued op, and where it is accepted.
 use lib.Seq.{take-at}
 use mathlib.Core.Path.{_≡_, refl}
 use mathlib.Core.Bool.{true, false}
@@ -17,13 +17,13 @@ use Rattle.rules.proofs.IssueLaws.{counts-eight, issue-admitted, bytes-
 use Rattle.rules.proofs.SoundLaws.{sound-good}
 use Rattle.rules.proofs.StructureLaws.{GoodLog}
 
-pub issued-origin : (log : Log) (s : ℕ) (q : Request) → replicaOf (issued log s q) ≡ s
+issued-origin : (log : Log) (s : ℕ) (q : Request) → replicaOf (issued log s q) ≡ s
 unfolding issued opBytes replicaOf
 issued-origin log s (add p) = refl
 issued-origin log s (remove n) = refl
 issued-origin log s (move n p) = refl
 
-pub issued-vector : (log : Log) → GoodLog log → (s : ℕ) (q : Request) → vectorOf (issued log s q) ≡ countsOf log
+issued-vector : (log : Log) → GoodLog log → (s : ℕ) (q : Request) → vectorOf (issued log s q) ≡ countsOf log
 unfolding issued
 issued-vector log g s (add p) = bytes-vector _ s _ _ (countsOf log) (counts-eight log g)
 issued-vector log g s (remove n) = bytes-vector _ s _ _ (countsOf log) (counts-eight log g)

@@ -1,4 +1,4 @@
--- Laws of soundness: callers use these and not what soundness is made of. Assumes nothing.
+-- Laws of soundness: callers use these and not what soundness is made of.
 use Rattle.rules.specs.File.{append, emptyLog, Log, countsOf, fileOf, opsOf, logOf}
 use Prim.Native.Nat.{ℕ, _≤_}
 use mathlib.Core.List.{List, _++_}

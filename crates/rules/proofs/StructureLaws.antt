@@ -1,4 +1,4 @@
--- Laws of structural soundness: what it says of a file, and of every op of its log. Assumes nothing.
+-- Laws of structural soundness: what it says of a file, and of every op of its log.
 use Prim.Native.Nat.{zero, ℕ, _≤_, _-_, _<_, _+_, suc}
 use mathlib.Core.List.{List, _∷_, _++_, append-assoc, []}
 use lib.ListN.{length, List·getD-map, getD, length-append}
@@ -78,7 +78,7 @@ module _ (w : ℕ) (f : List ℕ) where
         ops = replica-passes _ (and-right (laid w f) _ e);
       }
 
-  pub structural-of : Laid w f → GoodLog (logOf w f) → structural w f ≡ true
+  structural-of : Laid w f → GoodLog (logOf w f) → structural w f ≡ true
   unfolding structural soundLog
   structural-of h g = and-both (laid-of h) (all-replicas _ (g .ops))
 

@@ -1,4 +1,4 @@
--- The timestamp's equation: in a sound log the bound on the depth does not matter. Assumes nothing.
+-- The timestamp's equation: in a sound log the bound on the depth does not matter.
 use mathlib.Core.Path.{_≡_, refl, ap, ap₂}
 use mathlib.Core.Bool.{true}
 use mathlib.Core.List.{List, [], _∷_, map, map-append}
@@ -41,7 +41,7 @@ module _ {A : Type 0} (g h : Op → A) where
 
 module _ (log : Log) (ops : HeldOps log) where
   -- bounds above the number of ops counted give the same
-  pub enough : (k j : ℕ) (r : Op) → covered log (vectorOf r) ≡ true → closed log (vectorOf r) ≡ true → total (vectorOf r) < k
+  enough : (k j : ℕ) (r : Op) → covered log (vectorOf r) ≡ true → closed log (vectorOf r) ≡ true → total (vectorOf r) < k
       → total (vectorOf r) < j → timestampIn k log r ≡ timestampIn j log r
   unfolding timestampIn
   enough zero j r cv cl a b = absurd (not-suc-le-zero a)

@@ -1,4 +1,4 @@
--- Equal logs, and the union of two logs that agree. Assumes nothing.
+-- Equal logs, and the union of two logs that agree.
 use mathlib.Core.Path.{_≡_, refl, sym, _∙_}
 use mathlib.Core.Bool.{Bool, true, false, cond}
 use mathlib.Core.List.{List, [], map}

@@ -1,8 +1,9 @@
--- What a call hands back (the table "Numbers handed back"): one type for all calls. Assumes nothing.
+-- What a call hands back (the table "Numbers handed back"): one type for all calls.
 use Prim.Native.Nat.{ℕ}
 use mathlib.Core.Bool.{Bool, true, false}
 
--- refused with the paper's number; "had it"; judging is done; or accepted, with the number handed back: the new file end, the entries of a
+-- refused with the document's number; "had it"; judging is done; or accepted, with the number handed back: the new file end, the entries of
+-- a
 -- path, the bytes of a listing
 pub data Answer : Type 0 where
   refused : ℕ → Answer

@@ -1,4 +1,4 @@
--- Bytes and numbers: what the rules compute with. Assumes nothing.
+-- Bytes and numbers: what the rules compute with.
 use Prim.Native.Nat.{ℕ, _+_, _*_, _/_, _%_}
 use mathlib.Core.List.{List, [], _∷_}
 use lib.ListN.{getD}

@@ -1,4 +1,4 @@
--- Making an empty log, and delivering an op: what is answered, and what the buffer holds afterwards. Assumes nothing.
+-- Making an empty log, and delivering an op: what is answered, and what the buffer holds afterwards.
 use Prim.Native.Nat.{ℕ, _+_}
 use mathlib.Core.Bool.{Bool, cond}
 use mathlib.Core.List.{List, _++_}

@@ -1,4 +1,4 @@
--- The paper's worked examples P1 to P12 but P4, as rows of one table that one theorem covers. Assumes nothing.
+-- The document's worked examples P1 to P12 but P4, as rows of one table that one theorem covers.
 use Prim.Native.Nat.{ℕ, zero, suc, _-_, _<_}
 use lib.ListN.{length, getD, set, replicate}
 use mathlib.Core.Bool.{true}
@@ -151,16 +151,16 @@ unfoldable pub p12All : Log
 p12All = p12 (opBytes 3 1 258 0 (vector 4 0 0) ∷ []) (opBytes 4 2 258 260 (vector 4 0 0) ∷ [])
 
 -- siblings n, p and q by replica 1, and one move by each replica, of one context
-unfoldable pub clash : Op → Op → Op → Log
-clash one two three′ = three [] (siblings 1 (λ k. vector k 0 0) ++ (one ∷ [])) (two ∷ []) (three′ ∷ [])
+unfoldable pub rivals : Op → Op → Op → Log
+rivals one two three′ = three [] (siblings 1 (λ k. vector k 0 0) ++ (one ∷ [])) (two ∷ []) (three′ ∷ [])
 
 -- replica 3 puts p under n, replica 2 n under q, replica 1 n under p: outcome 2 comes before 3
-unfoldable pub clash2 : Log
-clash2 = clash (opBytes 4 1 257 258 (vector 3 0 0)) (opBytes 4 2 257 259 (vector 3 0 0)) (opBytes 4 3 258 257 (vector 3 0 0))
+unfoldable pub rivals2 : Log
+rivals2 = rivals (opBytes 4 1 257 258 (vector 3 0 0)) (opBytes 4 2 257 259 (vector 3 0 0)) (opBytes 4 3 258 257 (vector 3 0 0))
 
 -- replica 3 puts p under n, replica 2 n under p, replica 1 n under q: a move that was passed over has not placed its node
-unfoldable pub clash3 : Log
-clash3 = clash (opBytes 4 1 257 259 (vector 3 0 0)) (opBytes 4 2 257 258 (vector 3 0 0)) (opBytes 4 3 258 257 (vector 3 0 0))
+unfoldable pub rivals3 : Log
+rivals3 = rivals (opBytes 4 1 257 259 (vector 3 0 0)) (opBytes 4 2 257 258 (vector 3 0 0)) (opBytes 4 3 258 257 (vector 3 0 0))
 
 -- replicas 1 and 2 add, and replica 3, which has both adds, adds below the first: its timestamp is 2 and not 3
 unfoldable pub chain : Log
@@ -244,9 +244,9 @@ table =
     ∷ puts (p12 [] []) 1 (move 258 0) (opBytes 3 1 258 0 (vector 4 0 0))
     ∷ puts (p12 [] []) 2 (move 258 260) (opBytes 4 2 258 260 (vector 4 0 0))
     ∷ outcomes p12All (three [] (1 ∷ 1 ∷ 1 ∷ 1 ∷ 1 ∷ []) (2 ∷ []) [])
-    -- beside the paper's examples: clashing moves, and a timestamp that is no count of ops
-    ∷ outcomes clash2 (three [] (1 ∷ 1 ∷ 1 ∷ 2 ∷ []) (1 ∷ []) (1 ∷ []))
-    ∷ outcomes clash3 (three [] (1 ∷ 1 ∷ 1 ∷ 1 ∷ []) (3 ∷ []) (1 ∷ []))
+    -- beside the document's examples: clashing moves, and a timestamp that is no count of ops
+    ∷ outcomes rivals2 (three [] (1 ∷ 1 ∷ 1 ∷ 2 ∷ []) (1 ∷ []) (1 ∷ []))
+    ∷ outcomes rivals3 (three [] (1 ∷ 1 ∷ 1 ∷ 1 ∷ []) (3 ∷ []) (1 ∷ []))
     ∷ times chain (three [] (1 ∷ []) (1 ∷ []) (2 ∷ []))
     -- removes: the keeping view shows 257 for 258 below it, as removed, and not 259; the skipping view shows neither 257 nor 258
     ∷ puts p10Adds 2 (remove 257) (opBytes 2 2 257 0 (vector 3 0 0))
@@ -276,7 +276,7 @@ _&_ a b = (a, b)
 
 -- every row of the table holds
 pub table-holds : AllHold table
-unfolding ofOps table p1 p1File p1Buffer emptyFile p10 p11 p11All p12 p12All clash clash2 clash3 chain pruned prunedFile require wordAt
+unfolding ofOps table p1 p1File p1Buffer emptyFile p10 p11 p11All p12 p12All rivals rivals2 rivals3 chain pruned prunedFile require wordAt
     word upFrom downFrom sum greatest same concat all any filter isIn replicas isReplica countIn kindOf replicaOf nodeOf parentOf
     vectorOf ownCount seqOf nodeNumber isAdd isRemove isMove wellFormed emptyLog opsOf opAt countsOf append countAt startAt headerCounts
     startOf endOf fileEnd chunks chunksOf logOf headerEntry headerOf fileOf within covered closedAt closed nodeWithin known knownParent

@@ -42,7 +42,7 @@ pub record Extends (log more : Log) : Type 0 where
 abbrev pub width : ℕ
 width = 14
 
--- the count and the start that the header (the paper's table of contents) gives for replica s
+-- the count and the start that the header (the document's table of contents) gives for replica s
 unfoldable pub countAt : List ℕ → ℕ → ℕ
 countAt f s = wordAt f (4 * (s - 1))
 

@@ -1,4 +1,4 @@
--- Issuing an op at a replica. Tests 1, 2, 3, 9, 7, 10, 8. Assumes nothing.
+-- Issuing an op at a replica. Tests 1, 2, 3, 9, 7, 10, 8.
 use Prim.Native.Nat.{ℕ, _+_}
 use mathlib.Core.Bool.{Bool, true, cond, _&&_, not}
 use mathlib.Core.List.{List, _∷_, _++_}

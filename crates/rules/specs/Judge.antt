@@ -1,4 +1,4 @@
--- Judging: replay into lent tables. Tests 1 and 2. Assumes nothing.
+-- Judging: replay into lent tables. Tests 1 and 2.
 use Prim.Native.Nat.{ℕ}
 use mathlib.Core.Bool.{_&&_}
 use mathlib.Core.List.{List, _++_}

@@ -1,4 +1,4 @@
--- The listing of a view, and what the program `outline` prints. Tests 1, 8. Assumes nothing.
+-- The listing of a view, and what the program `outline` prints. Tests 1, 8.
 use Rattle.rules.specs.File.{countsOf, Log, fileEnd, logOf}
 use Prim.Native.Nat.{ℕ, zero, suc, _+_, _/_, _%_}
 use mathlib.Core.Bool.{Bool, cond, _&&_}

@@ -1,6 +1,6 @@
--- An op (the paper's record): its fields, and the test of its form (number 3). An op is the list of its bytes; a version vector (the
--- paper's
--- context) is a list of eight counts. "The record, 14 bytes". Assumes nothing.
+-- An op (the document's record): its fields, and the test of its form (number 3). An op is the list of its bytes; a version vector (the
+-- document's
+-- context) is a list of eight counts. "The record, 14 bytes".
 use Prim.Native.Nat.{ℕ, _+_, _*_, _-_}
 use mathlib.Core.Bool.{Bool, _&&_, _||_, not}
 use mathlib.Core.List.{List}
@@ -16,7 +16,7 @@ Op = List ℕ
 abbrev pub Vector : Type 0
 Vector = List ℕ
 
--- the replicas (the paper's seats)
+-- the replicas (the document's seats)
 unfoldable pub replicas : List ℕ
 replicas = upFrom 1 8
 

@@ -1,4 +1,4 @@
--- The path of a node. Tests 1, 7, 8. Assumes nothing.
+-- The path of a node. Tests 1, 7, 8.
 use Prim.Native.Nat.{ℕ}
 use mathlib.Core.List.{List, _++_}
 use lib.ListN.{length, drop}

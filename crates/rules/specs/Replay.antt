@@ -1,6 +1,7 @@
--- Replay (the paper's judging) of the ops within a cut, which is a version vector: timestamps, the order of the ops, and what each op does
+-- Replay (the document's judging) of the ops within a cut, which is a version vector: timestamps, the order of the ops, and what each op
+-- does
 -- to
--- the tree. Assumes nothing.
+-- the tree.
 use Prim.Native.Nat.{ℕ, zero, suc, _+_}
 use mathlib.Core.Bool.{cond, _&&_, _||_, not}
 use mathlib.Core.List.{List, [], _∷_, map, foldl}
@@ -24,7 +25,7 @@ addedIn log v = map nodeOf (filter isAdd (opsWithin log v))
 unfoldable pub removedIn : Log → Vector → List ℕ
 removedIn log v = map nodeOf (filter isRemove (opsWithin log v))
 
--- the timestamp (the paper's stamp): "1 plus the greatest stamp within its context". k bounds how deep vectors lie within each other; a
+-- the timestamp (the document's stamp): "1 plus the greatest stamp within its context". k bounds how deep vectors lie within each other; a
 -- log has at most 2,040 ops, so they lie no deeper
 unfoldable pub timestampIn : ℕ → Log → Op → ℕ
 timestampIn zero log r = 0
@@ -66,7 +67,8 @@ ordered log cut = byTime (stamped log cut)
 
 ---- effects
 
--- the parent table, the outcome table (the paper's fates), and for the slot of each node the timestamp of the applied move that placed it
+-- the parent table, the outcome table (the document's fates), and for the slot of each node the timestamp of the applied move that placed
+-- it
 -- last
 pub record State : Type 0 where
   pub parents : List ℕ

@@ -1,5 +1,4 @@
 -- When a buffer holds a sound log (number 1). Reading bodies and replaying ask for structural soundness alone; the calls ask for this.
--- Assumes nothing.
 use Prim.Native.Nat.{ℕ}
 use mathlib.Core.Bool.{Bool}
 use mathlib.Core.List.{List}

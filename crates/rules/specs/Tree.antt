@@ -1,4 +1,4 @@
--- The tree that a parent table holds: slots, paths to the root, depth, what lies below. Assumes nothing.
+-- The tree that a parent table holds: slots, paths to the root, depth, what lies below.
 use Prim.Native.Nat.{ℕ, zero, suc, _+_, _*_, _-_, _/_, _%_}
 use mathlib.Core.Bool.{Bool, cond}
 use mathlib.Core.List.{List, [], _∷_}

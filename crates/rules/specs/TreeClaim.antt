@@ -1,4 +1,4 @@
--- The tree theorem (the last sentence of demand 3): what the parent table is after a replay. Assumes nothing.
+-- The tree theorem (the last sentence of demand 3): what the parent table is after a replay.
 use Prim.Native.Nat.{ℕ, suc, _<_}
 use mathlib.Core.Path.{_≡_}
 use mathlib.Core.Bool.{true}

@@ -1,4 +1,4 @@
--- The two views: which nodes are shown. Assumes nothing.
+-- The two views: which nodes are shown.
 use Prim.Native.Nat.{ℕ}
 use mathlib.Core.Bool.{Bool, _&&_, _||_, not}
 use mathlib.Core.List.{List}

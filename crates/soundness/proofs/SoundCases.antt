@@ -1,8 +1,8 @@
 -- What a sound buffer gives to the code.
-use Rattle.oplog.specs.Spots.{Counted}
+use Rattle.oplog.specs.Places.{Held}
 use Rattle.soundness.specs.Asked.{Tallied}
 use Rattle.rules.specs.Op.{Vector}
-use Rattle.oplog.proofs.FieldLaws.{counted-of}
+use Rattle.oplog.proofs.FieldLaws.{held-of}
 use Rattle.rules.proofs.StructureLaws.{counts-covered, structural-laid}
 use Rattle.rules.proofs.FileLaws.{counts-logOf}
 use Rattle.rules.specs.Log.{covered, laid, soundHeader}
@@ -30,8 +30,8 @@ module _ (f : List ℕ) (a : sound width f ≡ true) where
   pub tallied : (u : Vector) → u ≡ headerCounts f → Tallied f u
   tallied u e = record { is-sound = a; counts = e ∙ sym (counts-logOf width f) }
 
-pub counted : (f : List ℕ) (u : Vector) → Tallied f u → Counted width f u
+pub tallied-held : (f : List ℕ) (u : Vector) → Tallied f u → Held width f u
 unfolding covered
-counted f u t =
-    counted-of width f u (omega arith) (laid-of f (t .is-sound))
+tallied-held f u t =
+    held-of width f u (omega arith) (laid-of f (t .is-sound))
     (rw (t .counts, ← counts-logOf width f) (counts-covered (logOf width f)))

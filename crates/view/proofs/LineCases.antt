@@ -1,4 +1,4 @@
--- The returns and turns of the lines of a tour, as the code meets them. Assumes nothing.
+-- The returns and turns of the lines of a tour, as the code meets them.
 use Prim.Native.Nat.{_*_, _+_, _-_, _<_, ℕ, _≤_}
 use lib.Dec.{eqb}
 use lib.ListN.{drop, getD, length, length-append, take}

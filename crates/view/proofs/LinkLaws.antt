@@ -1,4 +1,4 @@
--- The first children and next siblings that linking leaves: chains of the children that are not hidden. Assumes nothing.
+-- The first children and next siblings that linking leaves: chains of the children that are not hidden.
 use Prim.Native.Nat.{_+_, _-_, _<_, suc, zero, ℕ, _≤_}
 use borrow.Author.Tests.{eq-eqb, ne-eqb}
 use lib.Dec.{eqb, lit≤}

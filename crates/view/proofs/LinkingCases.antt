@@ -1,4 +1,4 @@
--- The returns and turns of linking, as the code meets them. Assumes nothing.
+-- The returns and turns of linking, as the code meets them.
 use Prim.Native.Nat.{_+_, _-_, _<_, _≤_, ℕ}
 use borrow.Author.Needs.{needs}
 use borrow.Author.Tests.{eq-eqb, ne-eqb}

@@ -1,4 +1,4 @@
--- The cases of the listing call, as the code meets them. Assumes nothing.
+-- The cases of the listing call, as the code meets them.
 use Prim.Native.Nat.{_+_, _-_, _<_, ℕ, _≤_}
 use borrow.Author.Needs.{needs}
 use lib.ListN.{drop, length, length-append, length-replicate, replicate, take}

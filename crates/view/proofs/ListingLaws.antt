@@ -1,4 +1,4 @@
--- The tables of a log give its listing. Assumes nothing.
+-- The tables of a log give its listing.
 use Prim.Native.Nat.{_%_, _*_, _+_, _-_, _/_, suc, ℕ, _≤_}
 use lib.Dec.{eqb}
 use lib.ListN.{getD, length, length-map}
@@ -94,7 +94,7 @@ module _ (log : Log) (good : GoodLog log) where
     kids-under : (n : ℕ) → Each (Under log good n) (kidsOf n)
     kids-under n = each-filter _ unhidden (children log P n) (children-under log good n)
 
-    pub order-short : length (pre kidsOf slots 0) ≤ 2041
+    order-short : length (pre kidsOf slots 0) ≤ 2041
     order-short = rw (← shown-order) (le-trans (filter-length (shown view log P) (preorder slots log P 0)) (preorder-length log good slots))
 
     order-nodes : Each Node (pre kidsOf slots 0)

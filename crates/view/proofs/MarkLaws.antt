@@ -1,4 +1,4 @@
--- The marks are the tombstones. Assumes nothing.
+-- The marks are the tombstones.
 use Prim.Native.Nat.{ℕ}
 use borrow.Author.Tests.{eq-eqb, ne-eqb}
 use lib.Dec.{eqb}

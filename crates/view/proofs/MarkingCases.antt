@@ -1,4 +1,4 @@
--- The returns and turns of marking, as the code meets them. Assumes nothing.
+-- The returns and turns of marking, as the code meets them.
 use Prim.Native.Nat.{_+_, _<_, _≤_, ℕ}
 use borrow.Author.Needs.{needs}
 use borrow.Author.Tests.{eqb-false, leb-true, ne-eqb}
@@ -16,7 +16,7 @@ use Rattle.rules.specs.Op.{Op, isRemove, kindOf}
 use Rattle.rules.specs.Log.{laid}
 use Rattle.rules.proofs.FileLaws.{length-logOf}
 use Rattle.rules.proofs.StructureLaws.{laid-reads}
-use Rattle.oplog.specs.Spots.{nextOf, placeOf}
+use Rattle.oplog.specs.Places.{nextMarker, placeOf}
 use Rattle.oplog.specs.declared.marker.Marker.{Marker}
 use Rattle.oplog.proofs.FieldLaws.{kind-is, node-is}
 use Rattle.oplog.proofs.MarkerLaws.{Onward, Walk, left, left-end, left-next, left-ops, onward, togo}
@@ -30,13 +30,13 @@ module _ (f : List ℕ) (s q : ℕ) (t : List ℕ) (a : MarkableAt f s q t) (at 
   op = opAt (logOf width f) s q
 
   kind-read : kindOf op ≡ getD f at 0
-  kind-read = rw is (kind-is width f s q (a .spot))
+  kind-read = rw is (kind-is width f s q (a .in-file))
 
   -- k is the slot of the node that it names
   pub mark-remove : getD f at 0 ≡ 2 → (n : ℕ) → n ≡ wordAt f (at + 2) → (k : ℕ) → k ≡ slotIn n
       → set t k 1 ≡ mark t (opAt (logOf width f) s q)
   unfolding mark isRemove
-  mark-remove e n en k ek = rw (kind-read ∙ e, ek, en, is, ← node-is width f s q (a .spot))
+  mark-remove e n en k ek = rw (kind-read ∙ e, ek, en, is, ← node-is width f s q (a .in-file))
 
   pub mark-other : (getD f at 0 ≡ 2 → ⊥) → t ≡ mark t (opAt (logOf width f) s q)
   unfolding mark isRemove
@@ -60,7 +60,7 @@ module _ (f : List ℕ) (m : Marker) (t : List ℕ) (a : MarkableFrom f m t) whe
 
     pub held-asks : h ≡ true → MarkableAt f (m .replica) (m .sequence) t
     held-asks e = record {
-      spot = record {
+      in-file = record {
         wide = omega arith;
         is-laid = a .table .is-laid;
         low = a .low;
@@ -99,7 +99,7 @@ module _ (f t₀ t : List ℕ) (m : Marker) (r : Marking f t₀ t m) where
     pub marking-asks : MarkableFrom f m t
     marking-asks = record { table = r .table; low = r .at .low; high = u; first = r .at .first }
 
-    module _ (m′ : Marker) (is : m′ ≡ nextOf f m) where
+    module _ (m′ : Marker) (is : m′ ≡ nextMarker f m) where
       going : Onward m m′
       going = onward width f (r .table .is-laid) m m′ is (r .at) u
 

@@ -1,4 +1,4 @@
--- The added nodes are those of the slots in rising order; each slot has an added node with a parent, or no parent. Assumes nothing.
+-- The added nodes are those of the slots in rising order; each slot has an added node with a parent, or no parent.
 use Rattle.lists.proofs.RangeLaws.{blocks, map-upFrom}
 use Prim.Native.Nat.{_%_, _*_, _+_, _-_, _/_, _<_, suc, zero, ℕ, _≤_}
 use borrow.Author.Tests.{eqb-true, ne-eqb}
@@ -115,7 +115,7 @@ module _ (log : Log) (good : GoodLog log) where
       ∙ ap (λ ks. map nodeAt (filter held ks)) (blocks 255 8 1 (omega arith))
 
   -- a slot's parent entry
-  pub slot-parent : (k : ℕ) → 0 < k → k < 2041 → parentIn (parentsOf log) (nodeAt k) ≡ getD (parentsOf log) k 0
+  slot-parent : (k : ℕ) → 0 < k → k < 2041 → parentIn (parentsOf log) (nodeAt k) ≡ getD (parentsOf log) k 0
   slot-parent k l u = parent-read (parentsOf log) (nodeAt k) k (sym (slot-node k l u)) (table-size log good) (rw (slot-node k l u) u)
 
   pub held-parent : (k : ℕ) → 0 < k → k < 2041 → held k ≡ true → Named log (countsOf log) (getD (parentsOf log) k 0)

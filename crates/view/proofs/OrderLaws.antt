@@ -1,4 +1,4 @@
--- What a preorder has. Assumes nothing.
+-- What a preorder has.
 use Prim.Native.Nat.{suc, zero, ℕ}
 use mathlib.Core.List.{List}
 use Rattle.view.proofs.LinkLaws.{kids}

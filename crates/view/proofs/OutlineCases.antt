@@ -1,4 +1,4 @@
--- The cases of the program's output, as the code meets them. Assumes nothing.
+-- The cases of the program's output, as the code meets them.
 use Prim.Native.Nat.{ℕ, _<_, _≤_}
 use borrow.Author.Needs.{needs}
 use borrow.Author.Tests.{eq-eqb, ne-eqb}

@@ -1,4 +1,4 @@
--- The cases of the path call, as the code meets them. Assumes nothing.
+-- The cases of the path call, as the code meets them.
 use Prim.Native.Nat.{_+_, _<_, ℕ, _≤_}
 use borrow.Author.Needs.{needs}
 use lib.ListN.{getD, length, length-set, set}
@@ -7,7 +7,7 @@ use mathlib.Core.List.{List}
 use mathlib.Core.Path.{ap, refl, sym, _∙_, _≡_}
 use native.Mathlib.Omega.{arith}
 use Rattle.rules.proofs.KnownLaws.{parent-reads}
-use Rattle.soundness.proofs.SoundCases.{counted, tallied}
+use Rattle.soundness.proofs.SoundCases.{tallied-held, tallied}
 use Rattle.lists.proofs.BoolLaws.{tested}
 use Rattle.rules.proofs.FileLaws.{counts-logOf}
 use Rattle.rules.proofs.SoundLaws.{sound-good, sound-structural}
@@ -122,6 +122,6 @@ module _ (t : List ℕ) (n steps : ℕ) (out₀ out : List ℕ) (at i : ℕ) (w 
 ---- what the code of paths needs: search paths
 pub ruleset writing = (writing-starts, writing-inside, writing-on, writing-ends)
 
-pub ruleset asking = (sound-structural, tallied, counted, path-asks, present, way-now)
+pub ruleset asking = (sound-structural, tallied, tallied-held, path-asks, present, way-now)
 
 pub ruleset paths = (needs, tested, writing, asking, path-short, path-put, path-unsound, path-unknown, path-now)

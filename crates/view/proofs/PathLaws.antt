@@ -1,4 +1,4 @@
--- The path of a known node, entry by entry. Assumes nothing.
+-- The path of a known node, entry by entry.
 use Prim.Native.Nat.{_+_, _-_, _<_, suc, ℕ}
 use lib.ListN.{drop, getD, length, set, take}
 use lib.Seq.{take-all}

@@ -1,4 +1,4 @@
--- What a view shows of the preorder is the preorder of what it shows. Assumes nothing.
+-- What a view shows of the preorder is the preorder of what it shows.
 use Rattle.lists.proofs.EachLaws.{kept-children, Each, each-map}
 use Prim.Native.Nat.{suc, zero, ℕ}
 use mathlib.Core.Bool.{_&&_, Bool, cond, false, true}

@@ -1,4 +1,4 @@
--- The cases of putting a text or a path into lent memory, as the code meets them. Assumes nothing.
+-- The cases of putting a text or a path into lent memory, as the code meets them.
 use Prim.Native.Nat.{_<_, _≤_, ℕ}
 use borrow.Author.Tests.{le-leb, lt-leb}
 use lib.ListN.{length}

@@ -1,4 +1,4 @@
--- Revealing every unmarked node and what is above it leaves hidden what the keeping view hides. Assumes nothing.
+-- Revealing every unmarked node and what is above it leaves hidden what the keeping view hides.
 use Rattle.lists.proofs.BoolLaws.{and-turn, and-both, and-left, and-right, never, or-cases, not-not}
 use Prim.Native.Nat.{_+_, _-_, _<_, suc, zero, ℕ, _≤_}
 use borrow.Author.Tests.{eq-eqb, eqb-true, ne-eqb}

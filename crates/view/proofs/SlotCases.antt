@@ -1,4 +1,4 @@
--- The cases of slots and their nodes, as the code meets them. Assumes nothing.
+-- The cases of slots and their nodes, as the code meets them.
 use Prim.Native.Nat.{_%_, _*_, _+_, _-_, _/_, _<_, _≤_, ℕ}
 use borrow.Author.Needs.{needs}
 use borrow.Author.Tests.{eq-eqb, le-ltb, lt-ltb, ne-eqb}

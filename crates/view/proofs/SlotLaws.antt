@@ -1,4 +1,4 @@
--- Slots and their nodes. Assumes nothing.
+-- Slots and their nodes.
 use Prim.Native.Nat.{_%_, _*_, _+_, _-_, _/_, _<_, ℕ, _≤_}
 use borrow.Author.Tests.{lt-ltb, ltb-true, ne-eqb}
 use lib.Dec.{lit≤, ltb}

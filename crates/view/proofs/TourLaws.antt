@@ -1,4 +1,4 @@
--- The tour of linked nodes is their preorder. Assumes nothing.
+-- The tour of linked nodes is their preorder.
 use Prim.Native.Nat.{_%_, _*_, _+_, _/_, _<_, suc, zero, ℕ, _≤_}
 use borrow.Author.Tests.{eq-eqb, ne-eqb}
 use lib.ListN.{length}

@@ -1,4 +1,4 @@
--- The returns and turns of the tour, as the code meets them. Assumes nothing.
+-- The returns and turns of the tour, as the code meets them.
 use Prim.Native.Nat.{_%_, _*_, _+_, _-_, _/_, _<_, suc, zero, ℕ, _≤_}
 use borrow.Author.Needs.{needs}
 use borrow.Author.Tests.{eq-eqb, ne-eqb}

@@ -1,4 +1,4 @@
--- What each view shows of a node, by what it shows of the node's parent. Assumes nothing.
+-- What each view shows of a node, by what it shows of the node's parent.
 use Prim.Native.Nat.{ℕ}
 use borrow.Author.Tests.{ne-eqb}
 use lib.Dec.{eqb}

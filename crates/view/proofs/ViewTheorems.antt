@@ -1,4 +1,4 @@
--- The claims about the two views hold. Assumes nothing.
+-- The claims about the two views hold.
 use Prim.Native.Nat.{ℕ}
 use borrow.Author.Tests.{eq-eqb, not-true}
 use lib.Dec.{eqb}

@@ -1,4 +1,4 @@
--- What the views answer. Assumes nothing.
+-- What the views answer.
 use Prim.Native.Nat.{ℕ}
 use mathlib.Core.List.{List, _++_}
 use lib.ListN.{length, drop}

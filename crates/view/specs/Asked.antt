@@ -1,4 +1,4 @@
--- What the inner functions of the views ask. Assumes nothing.
+-- What the inner functions of the views ask.
 use Prim.Native.Nat.{ℕ, _+_, _<_, _≤_}
 use mathlib.Core.Path.{_≡_}
 use mathlib.Core.Bool.{true}
@@ -8,7 +8,7 @@ use Rattle.rules.specs.File.{width, countsOf, logOf}
 use Rattle.rules.specs.Log.{knownParent, laid}
 use Rattle.rules.specs.Sound.{sound}
 use Rattle.rules.specs.Tree.{slotOf, slots, parentIn, path}
-use Rattle.oplog.specs.Spots.{Spot}
+use Rattle.oplog.specs.Places.{InFile}
 use Rattle.oplog.specs.declared.marker.Marker.{Marker}
 use Rattle.view.specs.Tables.{noMarks, linesOf}
 
@@ -40,7 +40,7 @@ pub record Markable (f marks : List ℕ) : Type 0 where
   pub marks-size : length marks ≡ slots
 
 pub record MarkableAt (f : List ℕ) (s q : ℕ) (marks : List ℕ) : Type 0 where
-  pub spot : Spot width f s q
+  pub in-file : InFile width f s q
   pub marks-size : length marks ≡ slots
 
 -- and a marker on its way

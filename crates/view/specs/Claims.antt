@@ -1,4 +1,4 @@
--- What the two views of a sound log show, and how long the program's output can be. Assumes nothing.
+-- What the two views of a sound log show, and how long the program's output can be.
 use Prim.Native.Nat.{ℕ, _≤_}
 use mathlib.Core.Path.{_≡_}
 use mathlib.Core.Bool.{true}

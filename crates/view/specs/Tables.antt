@@ -1,4 +1,4 @@
--- The tables from which a listing is made, as the code fills them. Assumes nothing.
+-- The tables from which a listing is made, as the code fills them.
 use Prim.Native.Nat.{ℕ, zero, suc, _+_, _*_, _-_, _/_, _%_}
 use mathlib.Core.Bool.{cond, not}
 use mathlib.Core.List.{List, [], _∷_, _++_, map, foldl}

@@ -37,7 +37,7 @@ fn mark_held(file: &[u8], m: Marker, marks: &mut [u8])
     requires { ⌜ MarkableFrom (now file) m (now marks) ⌝ }
     ensures { λ _. ⌜ now (marks .exit) ≡ markAt (now (file .entry)) (now (marks .entry)) (m .replica) (m .sequence) ⌝ }
 {
-    if !m.held(file) {
+    if !m.in_file(file) {
         return;
     }
     mark_op(file, m.replica, m.sequence, marks);

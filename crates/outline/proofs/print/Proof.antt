@@ -1,4 +1,4 @@
--- `outline::print` meets its contract. Assumes nothing.
+-- `outline::print` meets its contract.
 use borrow.Author.Needs.{needs}
 use lib.Seq.{length-take-le}
 use mathlib.Core.Path.{sym}

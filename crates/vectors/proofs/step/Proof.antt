@@ -1,4 +1,4 @@
--- `vectors::step` meets its contract. Assumes nothing.
+-- `vectors::step` meets its contract.
 use mathlib.Core.Path.{sym}
 use native.Mathlib.Omega.{arith}
 use borrow.Author.Needs.{needs}
@@ -6,16 +6,13 @@ use lib.Seq.{length-take-le}
 use Rattle.vectors.proofs.step.Statement.{statement}
 use Rattle.vectors.proofs.step.Tie as tie
 
-slice-aggregate-run : tie.Need-slice-aggregate-run
-slice-aggregate-run c = sym (length-take-le _ _ (omega (arith, c .before .if2 .left)))
-
 pub step-spec : {M : Type 1} → statement M
 step-spec =
     tie.close
     (tie.spec
     (λ c. search needs)
     (λ c. search needs)
-    slice-aggregate-run
+    (λ c. sym (length-take-le _ _ (omega (arith, c .before .if2 .left))))
     (λ c κs. search needs)
     (λ c. search needs)
     (λ c. search needs)

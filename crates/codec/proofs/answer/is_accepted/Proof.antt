@@ -1,6 +1,6 @@
--- `codec::answer::is_accepted` meets its contract. Assumes nothing.
+-- `codec::answer::is_accepted` meets its contract.
 use borrow.Author.Needs.{needs}
-use Rattle.codec.specs.Answers.{isAccepted}
+use Rattle.codec.specs.Asked.{isAccepted}
 use Rattle.codec.proofs.answer.is_accepted.Statement.{statement}
 use Rattle.codec.proofs.answer.is_accepted.Tie as tie
 

@@ -1,4 +1,4 @@
--- `codec::field::node_at` meets its contract. Assumes nothing.
+-- `codec::field::node_at` meets its contract.
 use borrow.Author.Needs.{needs}
 use Rattle.codec.proofs.AccessLaws.{fields}
 use Rattle.codec.proofs.field.node_at.Statement.{statement}

@@ -1,4 +1,4 @@
--- `codec::field::parent_at` meets its contract. Assumes nothing.
+-- `codec::field::parent_at` meets its contract.
 use borrow.Author.Needs.{needs}
 use Rattle.codec.proofs.AccessLaws.{fields}
 use Rattle.codec.proofs.field.parent_at.Statement.{statement}

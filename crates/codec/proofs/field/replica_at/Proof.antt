@@ -1,4 +1,4 @@
--- `codec::field::replica_at` meets its contract. Assumes nothing.
+-- `codec::field::replica_at` meets its contract.
 use borrow.Author.Needs.{needs}
 use Rattle.codec.proofs.AccessLaws.{fields}
 use Rattle.codec.proofs.field.replica_at.Statement.{statement}

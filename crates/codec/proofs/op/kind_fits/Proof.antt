@@ -1,4 +1,4 @@
--- `codec::op::kind_fits` meets its contract. Assumes nothing.
+-- `codec::op::kind_fits` meets its contract.
 use native.Mathlib.Omega.{arith}
 use borrow.Author.Tests.{le-leb, lt-leb, ne-eqb}
 use Rattle.codec.proofs.op.kind_fits.Statement.{statement}

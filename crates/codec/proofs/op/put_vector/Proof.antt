@@ -1,4 +1,4 @@
--- `codec::op::put_vector` meets its contract. Assumes nothing.
+-- `codec::op::put_vector` meets its contract.
 use mathlib.Core.Path.{_≡_, refl, sym, ap, _∙_}
 use mathlib.Core.List.{List, _++_}
 use Prim.Native.Nat.{ℕ, _+_, _-_, _≤_}
@@ -13,7 +13,8 @@ use Rattle.codec.proofs.WriteLaws.{vector-step}
 use Rattle.codec.proofs.op.put_vector.Tie as tie
 
 abbrev Inv-loop : tie.InvT-loop
-Inv-loop out₀ at vector i₀ out i = (i ≤ 8) × (length vector ≡ 8) × (length out ≡ length out₀) × (out ≡ take at out₀ ++ (take i vector ++ drop (at + i) out₀))
+Inv-loop out₀ at vector i₀ out i =
+    (i ≤ 8) × (length vector ≡ 8) × (length out ≡ length out₀) × (out ≡ take at out₀ ++ (take i vector ++ drop (at + i) out₀))
 
 abbrev μ-loop : tie.MeasureT-loop
 μ-loop out₀ at vector i₀ out i = 8 - i
@@ -27,11 +28,13 @@ loop-holds c =
 
 loop-again : tie.Need-loop-again Inv-loop μ-loop
 loop-again c =
-    let l = c .before .loop in (
+    let l = c .before .loop in
+    let a = c .before .before .args in (
       omega arith,
       l .inv .1,
       length-set (l .out) _ _ ∙ l .inv .2,
-      ap (λ (x : List ℕ). set x (c .before .before .args .at + l .i) (getD (c .before .before .args .t3) (l .i) 0)) (l .inv .3) ∙ vector-step (now (c .before .before .args .out)) (c .before .before .args .t3) (c .before .before .args .at) (l .i) (omega arith) (omega arith),
+      ap (λ (x : List ℕ). set x (a .at + l .i) (getD (a .t3) (l .i) 0)) (l .inv .3)
+          ∙ vector-step (now (a .out)) (a .t3) (a .at) (l .i) (omega arith) (omega arith),
     )
 
 same-length : tie.Need-same-length Inv-loop μ-loop

@@ -18,17 +18,36 @@ put-word-requires : tie.Need-put-word-requires
 put-word-requires c κs = omega (arith, long (c .before .before))
 
 put-word-requires-2 : tie.Need-put-word-requires-2
-put-word-requires-2 c κs = omega (arith, long (c .before .before .before .before .before .before), c .before .before .before .put-word .kept .0)
+put-word-requires-2 c κs =
+    let first = c .before .before .before in
+    omega (arith, long (first .before .before .before), first .put-word .kept .0)
 
 put-vector-requires : tie.Need-put-vector-requires
-put-vector-requires c κs = omega (arith, long (c .before .before .before .before .before .before .before .before .before .before), c .before .before .before .before .before .before .before .put-word .kept .0, c .before .before .before .put-word2 .kept .0)
+put-vector-requires c κs =
+    let second = c .before .before .before in
+    let lent = second .before .before in
+    let first = lent .before .before in
+    omega (arith, long (first .before .before .before), first .put-word .kept .0, second .put-word2 .kept .0)
 
 same-length : tie.Need-same-length
-same-length c = c .before .before .put-vector .kept .0 ∙ c .before .before .before .before .before .before .put-word2 .kept .0 ∙ c .before .before .before .before .before .before .before .before .before .before .put-word .kept .0 ∙ long (c .before .before .before .before .before .before .before .before .before .before .before .before .before)
+same-length c =
+    let third = c .before .before in
+    let lent = third .before .before in
+    let second = lent .before .before in
+    let lent′ = second .before .before in
+    let first = lent′ .before .before in
+    third .put-vector .kept .0 ∙ second .put-word2 .kept .0 ∙ first .put-word .kept .0 ∙ long (first .before .before .before)
 
 returns : tie.Need-returns
 returns c =
-    op-written (now (c .before .before .before .before .before .before .before .before .before .before .before .before .before .args .out)) (c .before .before .before .before .before .before .put-word2 .last .0) _ (c .before .before .before .before .before .before .before .before .before .before .before .before .before .args .vector) (c .before .before .before .before .before .before .before .before .before .before .before .before .before .args .kind) (c .before .before .before .before .before .before .before .before .before .before .before .before .before .args .replica) (c .before .before .before .before .before .before .before .before .before .before .before .before .before .args .node) (c .before .before .before .before .before .before .before .before .before .before .before .before .before .args .parent) (omega arith) (c .before .before .before .before .before .before .put-word2 .ensures ∙ rw (c .before .before .before .before .before .before .before .before .before .before .put-word .ensures)) (c .before .before .put-vector .ensures)
+    let third = c .before .before in
+    let lent = third .before .before in
+    let second = lent .before .before in
+    let lent′ = second .before .before in
+    let first = lent′ .before .before in
+    let a = first .before .before .before .args in
+    op-written (now (a .out)) (second .put-word2 .last .0) _ (a .vector) (a .kind) (a .replica) (a .node) (a .parent) (omega arith)
+    (second .put-word2 .ensures ∙ rw (first .put-word .ensures)) (third .put-vector .ensures)
 
 pub write-op-spec : {M : Type 1} → statement M
 write-op-spec =

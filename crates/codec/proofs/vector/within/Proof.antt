@@ -1,19 +1,25 @@
--- `codec::vector::within` meets its contract. Assumes nothing.
+-- `codec::vector::within` meets its contract.
+use Rattle.codec.proofs.VectorLaws.{evenReach, oddReach, within-halves, spread-most, four-reach}
 use borrow.Author.Needs.{needs}
-use mathlib.Core.Bool.{_&&_}
 use mathlib.Core.Path.{sym, _≡_, _∙_}
 use native.Mathlib.Omega.{arith}
-use Rattle.codec.proofs.VectorLaws.{within-halves, spread-most, four-reach, reachesAt}
 use Rattle.codec.proofs.vector.within.Statement.{statement}
 use Rattle.codec.proofs.vector.within.Tie as tie
 
-even-is : (c : tie.After-all-marked) → let v = c .before .before .before .before .before .args .t1 in let u = c .before .before .before .before .before .args .t2 in c .all-marked .result ≡ (reachesAt v u 0 && (reachesAt v u 2 && (reachesAt v u 4 && reachesAt v u 6)))
+even-is : (c : tie.After-all-marked) → let apart = c .before .before in
+    let a = apart .before .before .before .args in
+    c .all-marked .result ≡ evenReach (a .t1) (a .t2)
+unfolding evenReach
 even-is c =
-    let e = c .before .before .before .before .spread .ensures in
-    let e′ = c .before .before .before .spread2 .ensures in
+    let apart = c .before .before in
+    let e = apart .before .before .spread .ensures in
+    let e′ = apart .before .spread2 .ensures in
     c .all-marked .ensures ∙ rw (e .0, e′ .0) (four-reach _ _ _ _ _ _ _ _ (e .1) (e′ .1))
 
-odd-is : (c : tie.After-all-marked2) → let v = c .before .before .before .before .before .before .args .t1 in let u = c .before .before .before .before .before .before .args .t2 in c .all-marked2 .result ≡ (reachesAt v u 1 && (reachesAt v u 3 && (reachesAt v u 5 && reachesAt v u 7)))
+odd-is : (c : tie.After-all-marked2) → let apart = c .before .before .before in
+    let a = apart .before .before .before .args in
+    c .all-marked2 .result ≡ oddReach (a .t1) (a .t2)
+unfolding oddReach
 odd-is c =
     let e = c .before .before .before .spread3 .ensures in
     let e′ = c .before .before .spread4 .ensures in

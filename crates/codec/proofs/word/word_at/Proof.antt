@@ -1,4 +1,4 @@
--- `codec::word::word_at` meets its contract. Assumes nothing.
+-- `codec::word::word_at` meets its contract.
 use borrow.Author.Needs.{needs}
 use Rattle.rules.specs.Bytes.{wordAt}
 use Rattle.codec.proofs.word.word_at.Statement.{statement}

@@ -1,4 +1,4 @@
--- `oplog::append::append_op` meets its contract. Assumes nothing.
+-- `oplog::append::append_op` meets its contract.
 use borrow.Author.Needs.{needs}
 use Rattle.oplog.proofs.InsertLaws.{appending}
 use Rattle.oplog.proofs.append.append_op.Statement.{statement}

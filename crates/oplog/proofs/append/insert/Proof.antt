@@ -1,4 +1,4 @@
--- `oplog::append::insert` meets its contract. Assumes nothing.
+-- `oplog::append::insert` meets its contract.
 use Rattle.oplog.proofs.InsertLaws.{appending}
 use Rattle.oplog.proofs.append.insert.Statement.{statement}
 use Rattle.oplog.proofs.append.insert.Tie as tie

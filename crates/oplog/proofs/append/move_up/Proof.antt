@@ -1,4 +1,4 @@
--- `oplog::append::move_up` meets its contract. Assumes nothing.
+-- `oplog::append::move_up` meets its contract.
 use Rattle.oplog.proofs.InsertLaws.{MovedUp, appending}
 use Rattle.oplog.proofs.append.move_up.Statement.{statement}
 use Rattle.oplog.proofs.append.move_up.Tie as tie

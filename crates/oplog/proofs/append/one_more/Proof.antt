@@ -1,4 +1,4 @@
--- `oplog::append::one_more` meets its contract. Assumes nothing.
+-- `oplog::append::one_more` meets its contract.
 use borrow.Author.Needs.{needs}
 use Rattle.oplog.proofs.InsertLaws.{appending}
 use Rattle.oplog.proofs.append.one_more.Statement.{statement}

@@ -1,4 +1,4 @@
--- `oplog::append::put_front` meets its contract. Assumes nothing.
+-- `oplog::append::put_front` meets its contract.
 use Prim.Native.Nat.{_-_}
 use lib.ListN.{length}
 use Rattle.oplog.proofs.InsertLaws.{Fronted, appending}

@@ -1,4 +1,4 @@
--- `oplog::append::put_op` meets its contract. Assumes nothing.
+-- `oplog::append::put_op` meets its contract.
 use borrow.Author.Needs.{needs}
 use Rattle.oplog.proofs.InsertLaws.{appending}
 use Rattle.oplog.proofs.append.put_op.Statement.{statement}

@@ -1,4 +1,4 @@
--- `oplog::append::shift_in` meets its contract. Assumes nothing.
+-- `oplog::append::shift_in` meets its contract.
 use Rattle.oplog.proofs.InsertLaws.{appending}
 use Rattle.oplog.proofs.append.shift_in.Statement.{statement}
 use Rattle.oplog.proofs.append.shift_in.Tie as tie

@@ -1,4 +1,4 @@
--- `oplog::check::closed_at` meets its contract. Assumes nothing.
+-- `oplog::check::closed_at` meets its contract.
 use borrow.Author.Needs.{needs}
 use Rattle.oplog.proofs.TestLaws.{testing}
 use Rattle.oplog.proofs.check.closed_at.Statement.{statement}

@@ -1,4 +1,4 @@
--- `oplog::check::closed_in` meets its contract. Assumes nothing.
+-- `oplog::check::closed_in` meets its contract.
 use Prim.Native.Nat.{_-_}
 use Rattle.rules.specs.File.{logOf}
 use Rattle.oplog.proofs.TestLaws.{ClosedTo, testing}

@@ -1,4 +1,4 @@
--- `oplog::check::here_sound` meets its contract. Assumes nothing.
+-- `oplog::check::here_sound` meets its contract.
 use Rattle.oplog.proofs.MarkerLaws.{walking}
 use Rattle.oplog.proofs.check.here_sound.Statement.{statement}
 use Rattle.oplog.proofs.check.here_sound.Tie as tie

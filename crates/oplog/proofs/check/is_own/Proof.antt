@@ -1,4 +1,4 @@
--- `oplog::check::is_own` meets its contract. Assumes nothing.
+-- `oplog::check::is_own` meets its contract.
 use borrow.Author.Needs.{needs}
 use Rattle.oplog.proofs.TestLaws.{testing}
 use Rattle.oplog.proofs.check.is_own.Statement.{statement}

@@ -1,4 +1,4 @@
--- `oplog::check::known_in` meets its contract. Assumes nothing.
+-- `oplog::check::known_in` meets its contract.
 use borrow.Author.Needs.{needs}
 use Rattle.oplog.proofs.TestLaws.{testing}
 use Rattle.oplog.proofs.check.known_in.Statement.{statement}

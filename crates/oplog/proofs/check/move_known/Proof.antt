@@ -1,4 +1,4 @@
--- `oplog::check::move_known` meets its contract. Assumes nothing.
+-- `oplog::check::move_known` meets its contract.
 use borrow.Author.Needs.{needs}
 use Rattle.oplog.proofs.TestLaws.{testing}
 use Rattle.oplog.proofs.check.move_known.Statement.{statement}

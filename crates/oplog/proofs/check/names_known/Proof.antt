@@ -1,4 +1,4 @@
--- `oplog::check::names_known` meets its contract. Assumes nothing.
+-- `oplog::check::names_known` meets its contract.
 use mathlib.Core.Logic.{inl, inr, ⊎-elim}
 use native.Mathlib.Omega.{arith}
 use Rattle.oplog.proofs.TestLaws.{move-names, testing}

@@ -1,4 +1,4 @@
--- `oplog::check::node_within` meets its contract. Assumes nothing.
+-- `oplog::check::node_within` meets its contract.
 use borrow.Author.Needs.{needs}
 use Rattle.oplog.proofs.TestLaws.{testing}
 use Rattle.oplog.proofs.check.node_within.Statement.{statement}

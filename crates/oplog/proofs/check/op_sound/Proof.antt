@@ -1,4 +1,4 @@
--- `oplog::check::op_sound` meets its contract. Assumes nothing.
+-- `oplog::check::op_sound` meets its contract.
 use borrow.Author.Needs.{needs}
 use Rattle.oplog.proofs.TestLaws.{testing}
 use Rattle.oplog.proofs.check.op_sound.Statement.{statement}

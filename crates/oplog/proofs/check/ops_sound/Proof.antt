@@ -1,4 +1,4 @@
--- `oplog::check::ops_sound` meets its contract. Assumes nothing.
+-- `oplog::check::ops_sound` meets its contract.
 use Rattle.oplog.proofs.MarkerLaws.{Walked, togo, walking}
 use Rattle.oplog.proofs.check.ops_sound.Statement.{statement}
 use Rattle.oplog.proofs.check.ops_sound.Tie as tie

@@ -1,4 +1,4 @@
--- `oplog::check::passes` meets its contract. Assumes nothing.
+-- `oplog::check::passes` meets its contract.
 use borrow.Author.Needs.{needs}
 use Rattle.oplog.proofs.TestLaws.{testing}
 use Rattle.oplog.proofs.check.passes.Statement.{statement}

@@ -1,4 +1,4 @@
--- `oplog::check::structural` meets its contract. Assumes nothing.
+-- `oplog::check::structural` meets its contract.
 use Rattle.oplog.proofs.TestLaws.{header-of, testing}
 use borrow.Author.Needs.{needs}
 use Rattle.oplog.proofs.check.structural.Statement.{statement}

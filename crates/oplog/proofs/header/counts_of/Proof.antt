@@ -1,4 +1,4 @@
--- `oplog::header::counts_of` meets its contract. Assumes nothing.
+-- `oplog::header::counts_of` meets its contract.
 use Prim.Native.Nat.{_-_}
 use Rattle.oplog.proofs.HeaderLaws.{CountsRead, heading}
 use Rattle.oplog.proofs.header.counts_of.Statement.{statement}

@@ -1,4 +1,4 @@
--- `oplog::header::end_of` meets its contract. Assumes nothing.
+-- `oplog::header::end_of` meets its contract.
 use borrow.Author.Needs.{needs}
 use Rattle.oplog.proofs.HeaderLaws.{heading}
 use Rattle.oplog.proofs.header.end_of.Statement.{statement}

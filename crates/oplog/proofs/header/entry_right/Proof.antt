@@ -1,4 +1,4 @@
--- `oplog::header::entry_right` meets its contract. Assumes nothing.
+-- `oplog::header::entry_right` meets its contract.
 use borrow.Author.Needs.{needs}
 use Rattle.oplog.proofs.HeaderLaws.{heading}
 use Rattle.oplog.proofs.header.entry_right.Statement.{statement}

@@ -1,4 +1,4 @@
--- `oplog::header::header_right` meets its contract. Assumes nothing.
+-- `oplog::header::header_right` meets its contract.
 use Prim.Native.Nat.{_-_}
 use Rattle.oplog.proofs.HeaderLaws.{EntriesRight, heading}
 use Rattle.oplog.proofs.header.header_right.Statement.{statement}

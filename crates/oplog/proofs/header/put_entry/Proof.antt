@@ -1,4 +1,4 @@
--- `oplog::header::put_entry` meets its contract. Assumes nothing.
+-- `oplog::header::put_entry` meets its contract.
 use borrow.Author.Needs.{needs}
 use Rattle.oplog.proofs.HeaderLaws.{heading}
 use Rattle.oplog.proofs.header.put_entry.Statement.{statement}

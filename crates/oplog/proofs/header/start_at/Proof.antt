@@ -1,4 +1,4 @@
--- `oplog::header::start_at` meets its contract. Assumes nothing.
+-- `oplog::header::start_at` meets its contract.
 use borrow.Author.Needs.{needs}
 use Rattle.oplog.proofs.HeaderLaws.{heading}
 use Rattle.oplog.proofs.header.start_at.Statement.{statement}

@@ -1,4 +1,4 @@
--- `oplog::header::write_header` meets its contract. Assumes nothing.
+-- `oplog::header::write_header` meets its contract.
 use Prim.Native.Nat.{_-_}
 use Rattle.oplog.proofs.HeaderLaws.{HeaderWritten, heading}
 use Rattle.oplog.proofs.header.write_header.Statement.{statement}

@@ -1,4 +1,4 @@
--- `outline_c::answer::number` meets its contract. Assumes nothing.
+-- `outline_c::answer::number` meets its contract.
 use native.Mathlib.Omega.{arith}
 use borrow.Author.Needs.{needs}
 use Rattle.outline_c.proofs.NumberCases.{numbering, accepted-fits}

@@ -1,4 +1,4 @@
--- `outline_c::calls::outline_deliver` meets its contract. Assumes nothing.
+-- `outline_c::calls::outline_deliver` meets its contract.
 use native.Mathlib.Omega.{arith}
 use borrow.Author.Needs.{needs}
 use Rattle.outline_c.proofs.NumberCases.{numbering, delivered-fits}

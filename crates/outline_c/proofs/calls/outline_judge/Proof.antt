@@ -1,4 +1,4 @@
--- `outline_c::calls::outline_judge` meets its contract. Assumes nothing.
+-- `outline_c::calls::outline_judge` meets its contract.
 use borrow.Author.Needs.{needs}
 use Rattle.outline_c.proofs.NumberCases.{numbering}
 use Rattle.outline_c.proofs.calls.outline_judge.Statement.{statement}

@@ -1,4 +1,4 @@
--- `outline_c::calls::view_for` meets its contract. Assumes nothing.
+-- `outline_c::calls::view_for` meets its contract.
 use mathlib.Core.Path.{refl}
 use Rattle.outline_c.specs.Number.{viewFor}
 use Rattle.outline_c.proofs.calls.view_for.Statement.{statement}

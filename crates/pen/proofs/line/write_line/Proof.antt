@@ -1,4 +1,4 @@
--- `pen::line::write_line` meets its contract. Assumes nothing.
+-- `pen::line::write_line` meets its contract.
 use mathlib.Core.Path.{_≡_, _∙_}
 use Prim.Native.Nat.{_+_, _≤_}
 use native.Mathlib.Omega.{arith}
@@ -17,17 +17,22 @@ fits c = omega (arith, length-line (c .args .depth) (c .args .node) (c .args .re
 
 -- the depth, and a space
 first : (c : tie.After-put-decimal) → let a = c .before .before .before .args in
-    (c .put-decimal .result + length (decimal (a .node)) + 4 ≤ length (now (a .out))) × (length (c .put-decimal .last .0) ≡ length (now (a .out)))
+    (c .put-decimal .result + length (decimal (a .node)) + 4 ≤ length (now (a .out))) × (length (c .put-decimal .last .0) ≡ length
+    (now (a .out)))
 first c = (omega (arith, fits (c .before .before .before), c .put-decimal .ensures .0), c .put-decimal .kept .0)
 
 -- the node number
 second : (c : tie.After-put-decimal2) → let spaced = c .before .before .before in
-    let a = spaced .before .before .before .before .args in
+    let depth = spaced .before in
+    let a = depth .before .before .before .args in
     (c .put-decimal2 .result + 3 ≤ length (now (a .out))) × (length (c .put-decimal2 .last .0) ≡ length (now (a .out)))
 second c =
     let depth = c .before .before .before in
-    let f = first (depth .before) in
-    (omega (arith, f .0, c .put-decimal2 .ensures .0), c .put-decimal2 .kept .0 ∙ length-set (depth .before .put-decimal .last .0) _ _ ∙ f .1)
+    let f = first (depth .before) in (
+      omega (arith, f .0, c .put-decimal2 .ensures .0),
+      c .put-decimal2 .kept .0 ∙ length-set (depth .before .put-decimal .last .0) _ _
+          ∙ f .1,
+    )
 
 put-decimal-requires-2 : tie.Need-put-decimal-requires-2
 put-decimal-requires-2 c κs =

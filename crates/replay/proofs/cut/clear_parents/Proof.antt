@@ -1,4 +1,4 @@
--- `replay::cut::clear_parents` meets its contract. Assumes nothing.
+-- `replay::cut::clear_parents` meets its contract.
 use Rattle.replay.proofs.CutLaws.{cutting}
 use Rattle.lists.proofs.ListLaws.{Filled}
 use Prim.Native.Nat.{_-_}

@@ -1,4 +1,4 @@
--- `replay::cut::replay_all` meets its contract. Assumes nothing.
+-- `replay::cut::replay_all` meets its contract.
 use Rattle.replay.proofs.CutLaws.{cutting}
 use Rattle.replay.proofs.cut.replay_all.Statement.{statement}
 use Rattle.replay.proofs.cut.replay_all.Tie as tie

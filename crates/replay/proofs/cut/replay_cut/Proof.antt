@@ -1,4 +1,4 @@
--- `replay::cut::replay_cut` meets its contract. Assumes nothing.
+-- `replay::cut::replay_cut` meets its contract.
 use Rattle.replay.proofs.CutLaws.{cutting}
 use Rattle.replay.proofs.cut.replay_cut.Statement.{statement}
 use Rattle.replay.proofs.cut.replay_cut.Tie as tie

@@ -1,4 +1,4 @@
--- `replay::effect::apply_op` meets its contract. Assumes nothing.
+-- `replay::effect::apply_op` meets its contract.
 use Rattle.replay.proofs.EffectLaws.{effects}
 use Rattle.replay.proofs.effect.apply_op.Statement.{statement}
 use Rattle.replay.proofs.effect.apply_op.Tie as tie

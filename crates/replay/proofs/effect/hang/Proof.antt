@@ -1,4 +1,4 @@
--- `replay::effect::hang` meets its contract. Assumes nothing.
+-- `replay::effect::hang` meets its contract.
 use Rattle.replay.proofs.EffectLaws.{effects, hang-add, hang-move}
 use mathlib.Core.Logic.{⊎-elim}
 use native.Mathlib.Omega.{arith}

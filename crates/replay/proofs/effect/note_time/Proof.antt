@@ -1,4 +1,4 @@
--- `replay::effect::note_time` meets its contract. Assumes nothing.
+-- `replay::effect::note_time` meets its contract.
 use Rattle.replay.proofs.EffectLaws.{effects}
 use Rattle.replay.proofs.effect.note_time.Statement.{statement}
 use Rattle.replay.proofs.effect.note_time.Tie as tie

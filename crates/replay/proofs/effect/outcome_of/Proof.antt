@@ -1,4 +1,4 @@
--- `replay::effect::outcome_of` meets its contract. Assumes nothing.
+-- `replay::effect::outcome_of` meets its contract.
 use Rattle.replay.proofs.EffectLaws.{effects}
 use Rattle.replay.proofs.effect.outcome_of.Statement.{statement}
 use Rattle.replay.proofs.effect.outcome_of.Tie as tie

@@ -1,4 +1,4 @@
--- `replay::level::class_of` meets its contract. Assumes nothing.
+-- `replay::level::class_of` meets its contract.
 use Rattle.replay.proofs.TurnLaws.{levelling}
 use native.Mathlib.Omega.{arith}
 use Rattle.replay.proofs.DueLaws.{class-high}

@@ -1,4 +1,4 @@
--- `replay::level::due` meets its contract. Assumes nothing.
+-- `replay::level::due` meets its contract.
 use Rattle.replay.proofs.TurnLaws.{levelling}
 use Rattle.replay.proofs.level.due.Statement.{statement}
 use Rattle.replay.proofs.level.due.Tie as tie

@@ -1,4 +1,4 @@
--- `replay::level::highest` meets its contract. Assumes nothing.
+-- `replay::level::highest` meets its contract.
 use Rattle.replay.proofs.TurnLaws.{levelling}
 use Prim.Native.Nat.{_-_}
 use Rattle.replay.specs.Tables.{Top}

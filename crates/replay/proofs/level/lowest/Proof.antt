@@ -1,4 +1,4 @@
--- `replay::level::lowest` meets its contract. Assumes nothing.
+-- `replay::level::lowest` meets its contract.
 use Rattle.replay.proofs.TurnLaws.{levelling}
 use Prim.Native.Nat.{_+_, _-_}
 use Rattle.replay.specs.Tables.{Bottom}

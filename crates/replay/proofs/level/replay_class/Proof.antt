@@ -1,11 +1,10 @@
--- `replay::level::replay_class` meets its contract. Assumes nothing.
-use Rattle.replay.proofs.TurnLaws.{levelling}
+-- `replay::level::replay_class` meets its contract.
+use Rattle.replay.proofs.TurnLaws.{levelling, Left, kindFrom, due-asks}
 use Prim.Native.Nat.{_-_}
 use Rattle.rules.specs.File.{logOf}
 use Rattle.replay.specs.Tables.{tables}
 use native.Mathlib.Omega.{arith}
 use Rattle.order.specs.Levels.{levelKind}
-use Rattle.replay.proofs.TurnLaws.{Left, kindFrom, due-asks}
 use Rattle.replay.proofs.level.replay_class.Statement.{statement}
 use Rattle.replay.proofs.level.replay_class.Tie as tie
 

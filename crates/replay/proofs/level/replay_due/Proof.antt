@@ -1,4 +1,4 @@
--- `replay::level::replay_due` meets its contract. Assumes nothing.
+-- `replay::level::replay_due` meets its contract.
 use Rattle.replay.proofs.TurnLaws.{levelling}
 use Rattle.replay.proofs.level.replay_due.Statement.{statement}
 use Rattle.replay.proofs.level.replay_due.Tie as tie

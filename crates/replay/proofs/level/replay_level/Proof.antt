@@ -1,10 +1,9 @@
--- `replay::level::replay_level` meets its contract. Assumes nothing.
-use Rattle.replay.proofs.TurnLaws.{levelling}
+-- `replay::level::replay_level` meets its contract.
+use Rattle.replay.proofs.TurnLaws.{levelling, Left, levelFrom}
 use Prim.Native.Nat.{_-_}
 use Rattle.rules.specs.File.{logOf}
 use Rattle.replay.specs.Tables.{tables}
 use Rattle.order.specs.Levels.{level}
-use Rattle.replay.proofs.TurnLaws.{Left, levelFrom}
 use Rattle.replay.proofs.level.replay_level.Statement.{statement}
 use Rattle.replay.proofs.level.replay_level.Tie as tie
 

@@ -1,11 +1,10 @@
--- `replay::level::replay_levels` meets its contract. Assumes nothing.
-use Rattle.replay.proofs.TurnLaws.{levelling}
+-- `replay::level::replay_levels` meets its contract.
+use Rattle.replay.proofs.TurnLaws.{levelling, AtTime}
 use Prim.Native.Nat.{_+_, _-_}
 use Rattle.rules.specs.File.{logOf}
 use Rattle.replay.specs.Tables.{tables}
 use Rattle.rules.specs.Tree.{slots}
 use Rattle.order.specs.Levels.{levels, nothing}
-use Rattle.replay.proofs.TurnLaws.{AtTime}
 use Rattle.replay.proofs.level.replay_levels.Statement.{statement}
 use Rattle.replay.proofs.level.replay_levels.Tie as tie
 

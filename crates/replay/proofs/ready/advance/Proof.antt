@@ -1,4 +1,4 @@
--- `replay::ready::advance` meets its contract. Assumes nothing.
+-- `replay::ready::advance` meets its contract.
 use Rattle.replay.proofs.ReadyLaws.{readies}
 use Prim.Native.Nat.{_-_}
 use Rattle.codec.proofs.VectorLaws.{Built}

@@ -1,4 +1,4 @@
--- `replay::ready::later_of` meets its contract. Assumes nothing.
+-- `replay::ready::later_of` meets its contract.
 use Rattle.replay.proofs.ReadyLaws.{readies}
 use Rattle.replay.proofs.ready.later_of.Statement.{statement}
 use Rattle.replay.proofs.ready.later_of.Tie as tie

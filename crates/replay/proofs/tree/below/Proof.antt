@@ -1,4 +1,4 @@
--- `replay::tree::below` meets its contract. Assumes nothing.
+-- `replay::tree::below` meets its contract.
 use Rattle.replay.proofs.ClimbLaws.{climbing, Climbing}
 use Prim.Native.Nat.{_-_}
 use Rattle.rules.specs.Tree.{slots}

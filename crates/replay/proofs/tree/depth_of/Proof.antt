@@ -1,4 +1,4 @@
--- `replay::tree::depth_of` meets its contract. Assumes nothing.
+-- `replay::tree::depth_of` meets its contract.
 use Rattle.replay.proofs.ClimbLaws.{climbing, Rising}
 use Prim.Native.Nat.{_-_}
 use Rattle.rules.specs.Tree.{slots}

@@ -1,4 +1,4 @@
--- `replay::tree::move_kind` meets its contract. Assumes nothing.
+-- `replay::tree::move_kind` meets its contract.
 use Rattle.replay.proofs.ClimbLaws.{climbing}
 use Rattle.replay.proofs.tree.move_kind.Statement.{statement}
 use Rattle.replay.proofs.tree.move_kind.Tie as tie

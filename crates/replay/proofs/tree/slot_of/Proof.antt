@@ -1,4 +1,4 @@
--- `replay::tree::slot_of` meets its contract. Assumes nothing.
+-- `replay::tree::slot_of` meets its contract.
 use Rattle.replay.proofs.ClimbLaws.{climbing}
 use Rattle.replay.proofs.tree.slot_of.Statement.{statement}
 use Rattle.replay.proofs.tree.slot_of.Tie as tie

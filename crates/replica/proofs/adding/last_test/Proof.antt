@@ -1,4 +1,4 @@
--- `replica::adding::last_test` meets its contract. Assumes nothing.
+-- `replica::adding::last_test` meets its contract.
 use native.Mathlib.Omega.{arith}
 use borrow.Author.Needs.{needs}
 use Rattle.replica.proofs.AddCases.{adding, end-small}

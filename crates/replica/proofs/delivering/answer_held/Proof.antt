@@ -1,4 +1,4 @@
--- `replica::delivering::answer_held` meets its contract. Assumes nothing.
+-- `replica::delivering::answer_held` meets its contract.
 use borrow.Author.Needs.{needs}
 use Rattle.replica.proofs.DeliverCases.{delivering}
 use Rattle.replica.proofs.delivering.answer_held.Statement.{statement}

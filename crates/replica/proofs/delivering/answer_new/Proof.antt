@@ -1,4 +1,4 @@
--- `replica::delivering::answer_new` meets its contract. Assumes nothing.
+-- `replica::delivering::answer_new` meets its contract.
 use borrow.Author.Needs.{needs}
 use Rattle.replica.proofs.DeliverCases.{delivering}
 use Rattle.replica.proofs.delivering.answer_new.Statement.{statement}

@@ -1,6 +1,5 @@
--- `replica::delivering::answer_read` meets its contract. Assumes nothing.
+-- `replica::delivering::answer_read` meets its contract.
 use borrow.Author.Needs.{needs}
-use Rattle.soundness.proofs.SoundCases.{header-of}
 use Rattle.replica.proofs.DeliverCases.{delivering}
 use Rattle.replica.proofs.delivering.answer_read.Statement.{statement}
 use Rattle.replica.proofs.delivering.answer_read.Tie as tie
@@ -9,7 +8,6 @@ pub answer-read-spec : {M : Type 1} → statement M
 answer-read-spec =
     tie.close
     (tie.spec
-    (λ c κs. header-of _ (search delivering))
     (λ c κs. search delivering)
     (λ c κs. search delivering)
     (λ c. search needs)

@@ -1,4 +1,4 @@
--- `replica::delivering::deliver` meets its contract. Assumes nothing.
+-- `replica::delivering::deliver` meets its contract.
 use mathlib.Core.Path.{_∙_}
 use borrow.Author.Needs.{needs}
 use Rattle.replica.proofs.DeliverCases.{delivering, unread}

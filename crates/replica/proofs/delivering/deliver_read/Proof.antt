@@ -1,5 +1,6 @@
--- `replica::delivering::deliver_read` meets its contract. Assumes nothing.
+-- `replica::delivering::deliver_read` meets its contract.
 use borrow.Author.Needs.{needs}
+use Rattle.soundness.proofs.SoundCases.{header-of}
 use Rattle.replica.proofs.DeliverCases.{delivering}
 use Rattle.replica.proofs.delivering.deliver_read.Statement.{statement}
 use Rattle.replica.proofs.delivering.deliver_read.Tie as tie
@@ -8,7 +9,8 @@ pub deliver-read-spec : {M : Type 1} → statement M
 deliver-read-spec =
     tie.close
     (tie.spec
-    (λ c κs. search needs)
+    (λ c κs. header-of _ (search delivering))
+    (λ c κs. search delivering)
     (λ c κs. search needs)
     (λ c. search needs)
     (λ c. search delivering)

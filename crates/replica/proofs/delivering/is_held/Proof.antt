@@ -1,4 +1,4 @@
--- `replica::delivering::is_held` meets its contract. Assumes nothing.
+-- `replica::delivering::is_held` meets its contract.
 use native.Mathlib.Omega.{arith}
 use borrow.Author.Needs.{needs}
 use Rattle.rules.specs.Op.{countIn}

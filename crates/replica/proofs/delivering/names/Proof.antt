@@ -1,4 +1,4 @@
--- `replica::delivering::names` meets its contract. Assumes nothing.
+-- `replica::delivering::names` meets its contract.
 use Rattle.rules.specs.Op.{nodeNumber}
 use Rattle.replica.specs.Delivering.{namesIn}
 use mathlib.Core.Path.{_∙_}

@@ -1,4 +1,4 @@
--- `replica::issuing::draft` meets its contract. Assumes nothing.
+-- `replica::issuing::draft` meets its contract.
 use borrow.Author.Needs.{needs}
 use Rattle.lists.proofs.BoolLaws.{so-by-not}
 use Rattle.soundness.proofs.SoundCases.{header-of}

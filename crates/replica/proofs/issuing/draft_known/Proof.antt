@@ -1,4 +1,4 @@
--- `replica::issuing::draft_known` meets its contract. Assumes nothing.
+-- `replica::issuing::draft_known` meets its contract.
 use borrow.Author.Needs.{needs}
 use Rattle.replica.proofs.IssueCases.{issuing}
 use Rattle.replica.proofs.issuing.draft_known.Statement.{statement}

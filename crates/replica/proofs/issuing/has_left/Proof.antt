@@ -1,4 +1,4 @@
--- `replica::issuing::has_left` meets its contract. Assumes nothing.
+-- `replica::issuing::has_left` meets its contract.
 use native.Mathlib.Omega.{arith}
 use borrow.Author.Needs.{needs}
 use Rattle.rules.specs.Op.{countIn}

@@ -1,4 +1,4 @@
--- `replica::issuing::is_replica` meets its contract. Assumes nothing.
+-- `replica::issuing::is_replica` meets its contract.
 use borrow.Author.Tests.{lt-leb, le-leb}
 use Rattle.rules.specs.Op.{isReplica}
 use Rattle.replica.proofs.issuing.is_replica.Statement.{statement}

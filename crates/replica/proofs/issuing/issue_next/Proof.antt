@@ -1,4 +1,4 @@
--- `replica::issuing::issue_next` meets its contract. Assumes nothing.
+-- `replica::issuing::issue_next` meets its contract.
 use borrow.Author.Needs.{needs}
 use Rattle.replica.proofs.IssueCases.{issuing}
 use Rattle.replica.proofs.issuing.issue_next.Statement.{statement}

@@ -1,4 +1,4 @@
--- `replica::issuing::knows` meets its contract. Assumes nothing.
+-- `replica::issuing::knows` meets its contract.
 use borrow.Author.Needs.{needs}
 use Rattle.replica.proofs.IssueCases.{issuing}
 use Rattle.replica.proofs.issuing.knows.Statement.{statement}

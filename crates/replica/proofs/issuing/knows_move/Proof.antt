@@ -1,4 +1,4 @@
--- `replica::issuing::knows_move` meets its contract. Assumes nothing.
+-- `replica::issuing::knows_move` meets its contract.
 use Rattle.replica.proofs.IssueCases.{issuing}
 use Rattle.replica.proofs.issuing.knows_move.Statement.{statement}
 use Rattle.replica.proofs.issuing.knows_move.Tie as tie

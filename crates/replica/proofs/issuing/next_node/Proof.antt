@@ -1,4 +1,4 @@
--- `replica::issuing::next_node` meets its contract. Assumes nothing.
+-- `replica::issuing::next_node` meets its contract.
 use native.Mathlib.Omega.{arith}
 use mathlib.Core.Path.{_≡_}
 use Prim.Native.Nat.{_-_}

@@ -1,4 +1,4 @@
--- `replica::issuing::put_out` meets its contract. Assumes nothing.
+-- `replica::issuing::put_out` meets its contract.
 use borrow.Author.Needs.{needs}
 use Rattle.replica.proofs.IssueCases.{issuing}
 use Rattle.replica.proofs.issuing.put_out.Statement.{statement}

@@ -1,4 +1,4 @@
--- `replica::issuing::write_out` meets its contract. Assumes nothing.
+-- `replica::issuing::write_out` meets its contract.
 use native.Mathlib.Omega.{arith}
 use lib.ListN.{length-take}
 use borrow.Author.Needs.{needs}

@@ -1,4 +1,4 @@
--- `replica::judging::judge` meets its contract. Assumes nothing.
+-- `replica::judging::judge` meets its contract.
 use native.Mathlib.Omega.{arith}
 use lib.ListN.{length-take}
 use borrow.Author.Needs.{needs}

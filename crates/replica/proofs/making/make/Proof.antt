@@ -1,4 +1,4 @@
--- `replica::making::make` meets its contract. Assumes nothing.
+-- `replica::making::make` meets its contract.
 use borrow.Author.Needs.{needs}
 use Rattle.replica.proofs.MakeCases.{making}
 use Rattle.replica.proofs.making.make.Statement.{statement}

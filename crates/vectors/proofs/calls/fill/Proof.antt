@@ -1,4 +1,4 @@
--- `vectors::calls::fill` meets its contract. Assumes nothing.
+-- `vectors::calls::fill` meets its contract.
 use mathlib.Core.Path.{_≡_}
 use Prim.Native.Nat.{_-_}
 use lib.ListN.{length}

@@ -1,13 +1,9 @@
--- `vectors::calls::issue_part` meets its contract. Assumes nothing.
+-- `vectors::calls::issue_part` meets its contract.
 use mathlib.Core.Path.{sym}
 use borrow.Author.Needs.{needs}
 use lib.Seq.{length-take-le}
-use denote.Ref.{now}
 use Rattle.vectors.proofs.calls.issue_part.Statement.{statement}
 use Rattle.vectors.proofs.calls.issue_part.Tie as tie
-
-slice-aggregate-issue-into : tie.Need-slice-aggregate-issue-into
-slice-aggregate-issue-into c = sym (length-take-le (c .before .before .before .before .before .before .args .n) (now (c .before .before .before .before .before .before .args .out)) (c .before .before .if1 .left))
 
 pub issue-part-spec : {M : Type 1} → statement M
 issue-part-spec =
@@ -15,7 +11,7 @@ issue-part-spec =
     (tie.spec
     (λ c. search needs)
     (λ c. search needs)
-    slice-aggregate-issue-into
+    (λ c. sym (length-take-le _ _ (c .before .before .if1 .left)))
     (λ c κs. search needs)
     (λ c. search needs)
     (λ c. search needs)

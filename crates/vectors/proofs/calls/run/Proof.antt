@@ -1,13 +1,10 @@
--- `vectors::calls::run` meets its contract. Assumes nothing.
+-- `vectors::calls::run` meets its contract.
 use mathlib.Core.Path.{sym}
 use native.Mathlib.Omega.{arith}
 use borrow.Author.Needs.{needs}
 use lib.Seq.{length-take-le}
 use Rattle.vectors.proofs.calls.run.Statement.{statement}
 use Rattle.vectors.proofs.calls.run.Tie as tie
-
-slice-aggregate-dispatch : tie.Need-slice-aggregate-dispatch
-slice-aggregate-dispatch c = sym (length-take-le _ _ (omega (arith, c .before .before .if2 .left)))
 
 pub run-spec : {M : Type 1} → statement M
 run-spec =
@@ -19,7 +16,7 @@ run-spec =
     (λ c. search needs)
     (λ c. search needs)
     (λ c. search needs)
-    slice-aggregate-dispatch
+    (λ c. sym (length-take-le _ _ (omega (arith, c .before .before .if2 .left))))
     (λ c κs. search needs)
     (λ c. search needs)
     (λ c κs. search needs)

@@ -1,4 +1,4 @@
--- `vectors::print::digest_words` meets its contract. Assumes nothing.
+-- `vectors::print::digest_words` meets its contract.
 use mathlib.Core.Path.{_≡_}
 use Prim.Native.Nat.{_-_, _≤_, _<_}
 use lib.ListN.{length}

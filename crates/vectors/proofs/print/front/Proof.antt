@@ -1,4 +1,4 @@
--- `vectors::print::front` meets its contract. Assumes nothing.
+-- `vectors::print::front` meets its contract.
 use mathlib.Core.Path.{sym}
 use borrow.Author.Needs.{needs}
 use lib.Seq.{length-take-le}

@@ -1,4 +1,4 @@
--- `vectors::print::memory_front` meets its contract. Assumes nothing.
+-- `vectors::print::memory_front` meets its contract.
 use borrow.Author.Needs.{needs}
 use lib.Seq.{length-take-le}
 use mathlib.Core.Path.{sym}

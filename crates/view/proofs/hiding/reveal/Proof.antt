@@ -1,4 +1,4 @@
--- `view::hiding::reveal` meets its contract. Assumes nothing.
+-- `view::hiding::reveal` meets its contract.
 use Prim.Native.Nat.{_-_}
 use Rattle.rules.specs.Tree.{slots}
 use Rattle.view.proofs.HidingCases.{Revealing, hiding}

@@ -1,4 +1,4 @@
--- `view::hiding::reveal_all` meets its contract. Assumes nothing.
+-- `view::hiding::reveal_all` meets its contract.
 use Prim.Native.Nat.{_-_}
 use Rattle.rules.specs.Tree.{slots}
 use Rattle.view.proofs.HidingCases.{HidingFrom, hiding}

@@ -1,4 +1,4 @@
--- `view::hiding::reveal_slot` meets its contract. Assumes nothing.
+-- `view::hiding::reveal_slot` meets its contract.
 use Rattle.view.proofs.HidingCases.{hiding}
 use Rattle.view.proofs.hiding.reveal_slot.Statement.{statement}
 use Rattle.view.proofs.hiding.reveal_slot.Tie as tie

@@ -1,4 +1,4 @@
--- `view::lines::size_of` meets its contract. Assumes nothing.
+-- `view::lines::size_of` meets its contract.
 use Prim.Native.Nat.{_-_}
 use Rattle.view.proofs.LineCases.{Sizing, lining}
 use Rattle.view.proofs.lines.size_of.Statement.{statement}

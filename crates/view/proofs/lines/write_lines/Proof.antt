@@ -1,4 +1,4 @@
--- `view::lines::write_lines` meets its contract. Assumes nothing.
+-- `view::lines::write_lines` meets its contract.
 use Prim.Native.Nat.{_-_}
 use Rattle.view.proofs.LineCases.{Lining, lining}
 use Rattle.view.proofs.lines.write_lines.Statement.{statement}

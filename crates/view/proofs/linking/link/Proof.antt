@@ -1,4 +1,4 @@
--- `view::linking::link` meets its contract. Assumes nothing.
+-- `view::linking::link` meets its contract.
 use Prim.Native.Nat.{_-_}
 use Rattle.rules.specs.Tree.{slots}
 use Rattle.view.proofs.LinkingCases.{LinkingFrom, linking}

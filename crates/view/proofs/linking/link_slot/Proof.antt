@@ -1,4 +1,4 @@
--- `view::linking::link_slot` meets its contract. Assumes nothing.
+-- `view::linking::link_slot` meets its contract.
 use Rattle.view.proofs.LinkingCases.{linking}
 use Rattle.view.proofs.linking.link_slot.Statement.{statement}
 use Rattle.view.proofs.linking.link_slot.Tie as tie

@@ -1,4 +1,4 @@
--- `view::linking::link_view` meets its contract. Assumes nothing.
+-- `view::linking::link_view` meets its contract.
 use Rattle.view.proofs.LinkingCases.{linking}
 use Rattle.view.proofs.linking.link_view.Statement.{statement}
 use Rattle.view.proofs.linking.link_view.Tie as tie

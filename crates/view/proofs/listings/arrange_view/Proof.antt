@@ -1,4 +1,4 @@
--- `view::listings::arrange_view` meets its contract. Assumes nothing.
+-- `view::listings::arrange_view` meets its contract.
 use Rattle.view.proofs.ListingCases.{listings}
 use Rattle.view.proofs.listings.arrange_view.Statement.{statement}
 use Rattle.view.proofs.listings.arrange_view.Tie as tie

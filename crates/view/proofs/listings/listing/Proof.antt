@@ -1,4 +1,4 @@
--- `view::listings::listing` meets its contract. Assumes nothing.
+-- `view::listings::listing` meets its contract.
 use Rattle.view.proofs.ListingCases.{listings}
 use Rattle.view.proofs.listings.listing.Statement.{statement}
 use Rattle.view.proofs.listings.listing.Tie as tie

@@ -1,4 +1,4 @@
--- `view::listings::order_view` meets its contract. Assumes nothing.
+-- `view::listings::order_view` meets its contract.
 use Rattle.view.proofs.ListingCases.{listings}
 use Rattle.view.proofs.listings.order_view.Statement.{statement}
 use Rattle.view.proofs.listings.order_view.Tie as tie

@@ -1,4 +1,4 @@
--- `view::listings::put_lines` meets its contract. Assumes nothing.
+-- `view::listings::put_lines` meets its contract.
 use Rattle.view.proofs.ListingCases.{listings}
 use Rattle.view.proofs.listings.put_lines.Statement.{statement}
 use Rattle.view.proofs.listings.put_lines.Tie as tie

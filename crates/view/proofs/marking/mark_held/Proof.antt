@@ -1,4 +1,4 @@
--- `view::marking::mark_held` meets its contract. Assumes nothing.
+-- `view::marking::mark_held` meets its contract.
 use Rattle.view.proofs.MarkingCases.{marking}
 use Rattle.view.proofs.marking.mark_held.Statement.{statement}
 use Rattle.view.proofs.marking.mark_held.Tie as tie

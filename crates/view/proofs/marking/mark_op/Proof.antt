@@ -1,4 +1,4 @@
--- `view::marking::mark_op` meets its contract. Assumes nothing.
+-- `view::marking::mark_op` meets its contract.
 use Rattle.view.proofs.MarkingCases.{marking}
 use Rattle.view.proofs.marking.mark_op.Statement.{statement}
 use Rattle.view.proofs.marking.mark_op.Tie as tie

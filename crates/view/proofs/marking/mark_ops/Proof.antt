@@ -1,4 +1,4 @@
--- `view::marking::mark_ops` meets its contract. Assumes nothing.
+-- `view::marking::mark_ops` meets its contract.
 use Rattle.oplog.proofs.MarkerLaws.{togo}
 use Rattle.view.proofs.MarkingCases.{Marking, marking}
 use Rattle.view.proofs.marking.mark_ops.Statement.{statement}

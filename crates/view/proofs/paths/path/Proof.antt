@@ -1,4 +1,4 @@
--- `view::paths::path` meets its contract. Assumes nothing.
+-- `view::paths::path` meets its contract.
 use borrow.Author.Needs.{needs}
 use Rattle.soundness.proofs.SoundCases.{header-of}
 use Rattle.view.proofs.PathCases.{paths}

@@ -1,4 +1,4 @@
--- `view::paths::put_path` meets its contract. Assumes nothing.
+-- `view::paths::put_path` meets its contract.
 use Rattle.view.proofs.PathCases.{paths}
 use Rattle.view.proofs.paths.put_path.Statement.{statement}
 use Rattle.view.proofs.paths.put_path.Tie as tie

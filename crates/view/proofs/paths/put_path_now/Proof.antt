@@ -1,4 +1,4 @@
--- `view::paths::put_path_now` meets its contract. Assumes nothing.
+-- `view::paths::put_path_now` meets its contract.
 use borrow.Author.Needs.{needs}
 use Rattle.view.proofs.PathCases.{paths}
 use Rattle.view.proofs.paths.put_path_now.Statement.{statement}

@@ -1,4 +1,4 @@
--- `view::paths::write_path` meets its contract. Assumes nothing.
+-- `view::paths::write_path` meets its contract.
 use Prim.Native.Nat.{_-_}
 use Rattle.view.proofs.PathCases.{Pathing, paths}
 use Rattle.view.proofs.paths.write_path.Statement.{statement}

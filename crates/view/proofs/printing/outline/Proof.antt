@@ -1,4 +1,4 @@
--- `view::printing::outline` meets its contract. Assumes nothing.
+-- `view::printing::outline` meets its contract.
 use borrow.Author.Needs.{needs}
 use Rattle.soundness.proofs.SoundCases.{end-asks}
 use Rattle.view.proofs.OutlineCases.{printing}

@@ -1,4 +1,4 @@
--- `view::printing::refuse` meets its contract. Assumes nothing.
+-- `view::printing::refuse` meets its contract.
 use mathlib.Core.Path.{refl}
 use lib.ListN.{length-set}
 use native.Mathlib.Omega.{arith}

@@ -1,4 +1,4 @@
--- `view::slots::node_at` meets its contract. Assumes nothing.
+-- `view::slots::node_at` meets its contract.
 use Rattle.view.proofs.SlotCases.{slotting}
 use Rattle.view.proofs.slots.node_at.Statement.{statement}
 use Rattle.view.proofs.slots.node_at.Tie as tie

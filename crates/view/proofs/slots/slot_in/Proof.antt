@@ -1,4 +1,4 @@
--- `view::slots::slot_in` meets its contract. Assumes nothing.
+-- `view::slots::slot_in` meets its contract.
 use Rattle.view.proofs.SlotCases.{slotting}
 use Rattle.view.proofs.slots.slot_in.Statement.{statement}
 use Rattle.view.proofs.slots.slot_in.Tie as tie

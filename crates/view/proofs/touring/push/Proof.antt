@@ -1,4 +1,4 @@
--- `view::touring::push` meets its contract. Assumes nothing.
+-- `view::touring::push` meets its contract.
 use Rattle.view.proofs.TouringCases.{touring}
 use Rattle.view.proofs.touring.push.Statement.{statement}
 use Rattle.view.proofs.touring.push.Tie as tie

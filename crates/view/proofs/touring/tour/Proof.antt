@@ -1,4 +1,4 @@
--- `view::touring::tour` meets its contract. Assumes nothing.
+-- `view::touring::tour` meets its contract.
 use Prim.Native.Nat.{_-_}
 use Rattle.rules.specs.Tree.{slots}
 use Rattle.view.proofs.TouringCases.{Touring, touring}

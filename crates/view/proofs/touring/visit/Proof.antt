@@ -1,4 +1,4 @@
--- `view::touring::visit` meets its contract. Assumes nothing.
+-- `view::touring::visit` meets its contract.
 use Rattle.view.proofs.TouringCases.{touring}
 use Rattle.view.proofs.touring.visit.Statement.{statement}
 use Rattle.view.proofs.touring.visit.Tie as tie

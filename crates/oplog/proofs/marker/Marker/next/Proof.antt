@@ -1,4 +1,4 @@
--- `oplog::marker::Marker::next` meets its contract. Assumes nothing.
+-- `oplog::marker::Marker::next` meets its contract.
 use borrow.Author.Needs.{needs}
 use Rattle.oplog.proofs.MarkerLaws.{stepping}
 use Rattle.oplog.proofs.marker.Marker.next.Statement.{statement}

@@ -1,9 +1,9 @@
--- `oplog::spot::same_op` meets its contract. Assumes nothing.
+-- `oplog::places::same_op` meets its contract.
 use Prim.Native.Nat.{_-_}
 use lib.ListN.{length}
 use Rattle.oplog.proofs.FieldLaws.{Compared, placing}
-use Rattle.oplog.proofs.spot.same_op.Statement.{statement}
-use Rattle.oplog.proofs.spot.same_op.Tie as tie
+use Rattle.oplog.proofs.places.same_op.Statement.{statement}
+use Rattle.oplog.proofs.places.same_op.Tie as tie
 
 abbrev Inv-loop : tie.InvT-loop
 Inv-loop file at op i₀ i-end i = Compared file at op i-end i

@@ -1,8 +1,8 @@
--- `oplog::spot::place` meets its contract. Assumes nothing.
+-- `oplog::places::place` meets its contract.
 use borrow.Author.Needs.{needs}
 use Rattle.oplog.proofs.FieldLaws.{placing}
-use Rattle.oplog.proofs.spot.place.Statement.{statement}
-use Rattle.oplog.proofs.spot.place.Tie as tie
+use Rattle.oplog.proofs.places.place.Statement.{statement}
+use Rattle.oplog.proofs.places.place.Tie as tie
 
 pub place-spec : {M : Type 1} → statement M
 place-spec =

@@ -3,11 +3,11 @@ ghost use mathlib.Core.Path.{_≡_};
 ghost use Prim.Native.Nat.{_+_, _≤_};
 ghost use lib.ListN.{length, take, drop};
 ghost use Rattle.lists.specs.Lists.{same};
-ghost use Rattle.oplog.specs.Spots.{placeOf, Spot};
+ghost use Rattle.oplog.specs.Places.{placeOf, InFile};
 
 // Where the op number q of replica s starts.
 pub fn place(file: &[u8], s: usize, q: usize, width: usize) -> usize
-    requires { ⌜ Spot width (now file) s q ⌝ }
+    requires { ⌜ InFile width (now file) s q ⌝ }
     ensures { λ r. ⌜ (r ≡ placeOf width (now (file .entry)) s q) × (r + width ≤ length (now (file .entry))) ⌝ }
 {
     start_at(file, s) + width * (q - 1)

@@ -1,4 +1,4 @@
--- What the contracts over a file ask and say: places of ops in a laid-out file of ops of w bytes. Assumes nothing.
+-- What the contracts over a file ask and say: places of ops in a laid-out file of ops of w bytes.
 use Prim.Native.Nat.{ℕ, _+_, _*_, _-_, _≤_}
 use mathlib.Core.Path.{_≡_}
 use mathlib.Core.Bool.{true, cond}
@@ -14,7 +14,7 @@ abbrev pub placeOf : ℕ → List ℕ → ℕ → ℕ → ℕ
 placeOf w f s q = startOf w (headerCounts f) s + w * (q - 1)
 
 -- a laid-out file has an op number q of replica s
-pub record Spot (w : ℕ) (f : List ℕ) (s q : ℕ) : Type 0 where
+pub record InFile (w : ℕ) (f : List ℕ) (s q : ℕ) : Type 0 where
   pub wide : 14 ≤ w
   pub is-laid : laid w f ≡ true
   pub low : 1 ≤ s
@@ -23,14 +23,14 @@ pub record Spot (w : ℕ) (f : List ℕ) (s q : ℕ) : Type 0 where
   pub last : q ≤ countAt f s
 
 -- a laid-out file has the ops that a vector counts
-pub record Counted (w : ℕ) (f : List ℕ) (v : Vector) : Type 0 where
+pub record Held (w : ℕ) (f : List ℕ) (v : Vector) : Type 0 where
   pub wide : 14 ≤ w
   pub is-laid : laid w f ≡ true
   pub each : (s : ℕ) → 1 ≤ s → s ≤ 8 → countIn v s ≤ countAt f s
 
 -- the next marker in file order
-unfoldable pub nextOf : List ℕ → Marker → Marker
-nextOf f m =
+unfoldable pub nextMarker : List ℕ → Marker → Marker
+nextMarker f m =
     cond (ltb (m .sequence) (countAt f (m .replica)))
     (record { replica = m .replica; sequence = m .sequence + 1 })
     (record { replica = m .replica + 1; sequence = 1 })
