@@ -3,6 +3,7 @@ use codec::Refusal;
 ghost use mathlib.Core.Path.{_≡_};
 ghost use Rattle.codec.specs.Answers.{numberOf, answerOf};
 ghost use Rattle.outline_c.specs.Number as specs;
+ghost use Rattle.outline_c.specs.Fits.{fits};
 
 // A refusal by the document's number.
 fn refusal_number(why: Refusal) -> usize
@@ -24,7 +25,7 @@ fn refusal_number(why: Refusal) -> usize
 
 // One number for an answer.
 pub(crate) fn number(answer: Answer) -> usize
-    requires { ⌜ specs.fits (answerOf answer) ⌝ }
+    requires { ⌜ fits (answerOf answer) ⌝ }
     ensures { λ r. ⌜ r ≡ specs.number (answerOf answer) ⌝ }
 {
     match answer {
