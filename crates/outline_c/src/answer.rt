@@ -2,8 +2,8 @@ use codec::Answer;
 use codec::Refusal;
 ghost use mathlib.Core.Path.{_≡_};
 ghost use Rattle.codec.specs.Answers.{numberOf, answerOf};
-ghost use Rattle.outline_c.specs.Number as specs;
 ghost use Rattle.outline_c.specs.Fits.{fits};
+ghost use Rattle.outline_c.specs.Number as specs;
 
 // A refusal by the document's number.
 fn refusal_number(why: Refusal) -> usize
