@@ -1,6 +1,5 @@
--- What a run of offers comes to: both sides stay files of ops of the union, the answers are those of a round, and each acceptance makes one
--- op
--- less missing.
+-- What a run of offers comes to: both sides stay files of ops of the union, the answers are those of a round, and
+-- each acceptance makes one op less missing.
 use mathlib.Core.Path.{_≡_, refl, sym, ap, _∙_}
 use mathlib.Core.Logic.{⊎-elim}
 use mathlib.Core.Bool.{Bool, true, false, cond, _&&_, or-true}

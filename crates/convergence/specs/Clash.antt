@@ -47,8 +47,8 @@ beats parents x y =
 unfoldable pub nextSlot : Log → ℕ → ℕ
 nextSlot log s = slot s (countIn (countsOf log) s + 1)
 
--- of the two moves that more has and log has not, x is applied and y is not: 2 if they take the same node, 3 if they close a circle; the
--- tree is the old one with x
+-- of the two moves that more has and log has not, x is applied and y is not: 2 if they take the same node, 3 if they
+-- close a circle; the tree is the old one with x
 pub record Wins (log more : Log) (x y : Move) : Type 0 where
   pub winner : getD (outcomesOf more) (nextSlot log (x .replica)) 0 ≡ 1
   pub loser : getD (outcomesOf more) (nextSlot log (y .replica)) 0 ≡ cond (eqb (x .node) (y .node)) 2 3

@@ -1,6 +1,5 @@
--- "Two collections that meet": lists of calls and what is held after them; rounds of offers, their answers, and what is missing (the
--- document's
--- lacking).
+-- "Two collections that meet": lists of calls and what is held after them; rounds of offers, their answers,
+-- and what is missing (the document's lacking).
 use Prim.Native.Nat.{ℕ}
 use mathlib.Core.Path.{_≡_}
 use mathlib.Core.Bool.{Bool, true, false, cond, _&&_, not}

@@ -41,9 +41,8 @@ SameOpsSameFile =
     (f g : List ℕ) (a b : List Call) → 32 ≤ length f → 32 ≤ length g
     → SameHeld (run f a) (run g b) → fileIn (run f a) ≡ fileIn (run g b)
 
--- "each answer and each issued record follow by the rules above from the call and the records held before it"; the buffer's length is part
--- of
--- the call
+-- "each answer and each issued record follow by the rules above from the call and the records held before it"; the
+-- buffer's length is part of the call
 abbrev pub HeldSettles : Type 0
 HeldSettles =
     (f g : List ℕ) (a b : List Call) → 32 ≤ length f → length f ≡ length g
@@ -66,9 +65,9 @@ ReadsSettle =
     (f g : List ℕ) (a b : List Call) → 32 ≤ length f → 32 ≤ length g
     → SameHeld (run f a) (run g b) → ReadAlike (run f a .buffer) (run g b .buffer)
 
--- "bytes past the end are neither read nor changed, but for the 14 that an accepted record adds": that they are not read is said above;
--- what
--- lies past the end that a call answers is as before, and a call that is not accepted changes nothing
+-- "bytes past the end are neither read nor changed, but for the 14 that an accepted record adds": that they are not
+-- read is said above; what lies past the end that a call answers is as before, and a call that is not accepted
+-- changes nothing
 pub record PastKept (f after : List ℕ) (a : Answer) : Type 0 where
   pub size : length after ≡ length f
   pub end : (n : ℕ) → a ≡ accepted n → fileEnd width after ≡ n

@@ -1,5 +1,5 @@
--- A walk through all ops with a marker, in file order. E says something of replica s's op number q; what is left at a marker is what E says
--- of the ops from there on.
+-- A walk through all ops with a marker, in file order. E says something of replica s's op number q; what is left at a
+-- marker is what E says of the ops from there on.
 use mathlib.Core.Path.{_≡_, refl, sym, ap, _∙_}
 use mathlib.Core.Bool.{Bool, true, false, cond, _&&_, and-assoc}
 use mathlib.Core.List.{List, [], _∷_, _++_, map}

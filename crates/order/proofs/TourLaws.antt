@@ -1,5 +1,5 @@
--- The listing's order: the root and every added node stand in it exactly once, so it has at most 2,041 entries; and how long a listing can
--- be.
+-- The listing's order: the root and every added node stand in it exactly once, so it has at most 2,041 entries; and
+-- how long a listing can be.
 use mathlib.Core.Path.{_≡_, refl, sym, ap, _∙_}
 use mathlib.Core.Logic.{inl, inr, ⊎-elim}
 use mathlib.Core.Bool.{true, or-true}

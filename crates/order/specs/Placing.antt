@@ -1,6 +1,5 @@
--- "An applied move of the same stamp already placed its node": outcome 2 in the document's words, and that the state's `placed` table
--- answers
--- it.
+-- "An applied move of the same stamp already placed its node": outcome 2 in the document's words, and that the
+-- state's `placed` table answers it.
 use Prim.Native.Nat.{ℕ}
 use lib.Dec.{eqb}
 use lib.ListN.{getD}

@@ -1,6 +1,5 @@
--- One fact for a part and for the whole: two logs that hold the same within a closed cut replay it alike. A log that holds more is one
--- case,
--- two logs that agree are another.
+-- One fact for a part and for the whole: two logs that hold the same within a closed cut replay it alike. A log that
+-- holds more is one case, two logs that agree are another.
 use Prim.Native.Nat.{ℕ, suc, zero, _≤_, _+_, _-_}
 use borrow.Author.Tests.{le-leb}
 use lib.ListN.{take}

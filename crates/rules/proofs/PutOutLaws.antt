@@ -29,9 +29,8 @@ issued-vector log g s (add p) = bytes-vector _ s _ _ (countsOf log) (counts-eigh
 issued-vector log g s (remove n) = bytes-vector _ s _ _ (countsOf log) (counts-eight log g)
 issued-vector log g s (move n p) = bytes-vector _ s _ _ (countsOf log) (counts-eight log g)
 
--- the bytes r are an op of replica s, its next one after a log, which every sound log takes that holds all of that log, and not the op,
--- where
--- there is room
+-- the bytes r are an op of replica s, its next one after a log, which every sound log takes that holds all of that
+-- log, and not the op, where there is room
 pub record NextOp (log : Log) (s : ℕ) (r : Op) : Type 0 where
   pub origin : replicaOf r ≡ s
   pub sequence : seqOf r ≡ countIn (countsOf log) s + 1

@@ -33,9 +33,8 @@ known log v n = nodeWithin v n && isAdd (opAt log (n / 256) (n % 256))
 unfoldable pub knownParent : Log → Vector → ℕ → Bool
 knownParent log v n = eqb n 0 || known log v n
 
--- number 7: of an add the parent is known and the node has its number; of a remove the node is known; of a move node and parent are known,
--- and
--- the parent is not the node
+-- number 7: of an add the parent is known and the node has its number; of a remove the node is known; of a move node
+-- and parent are known, and the parent is not the node
 unfoldable pub namesKnown : Log → Op → Bool
 namesKnown log r =
     cond (isAdd r) (knownParent log (vectorOf r) (parentOf r) && eqb (nodeOf r) (nodeNumber (replicaOf r) (seqOf r)))

@@ -1,6 +1,5 @@
--- An op (the document's record): its fields, and the test of its form (number 3). An op is the list of its bytes; a version vector (the
--- document's
--- context) is a list of eight counts. "The record, 14 bytes".
+-- "The record, 14 bytes". An op (the document's record): its fields, and the test of its form (number 3).
+-- An op is the list of its bytes; a version vector (the document's context) is a list of eight counts.
 use Prim.Native.Nat.{ℕ, _+_, _*_, _-_}
 use mathlib.Core.Bool.{Bool, _&&_, _||_, not}
 use mathlib.Core.List.{List}

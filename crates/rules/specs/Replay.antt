@@ -1,7 +1,5 @@
--- Replay (the document's judging) of the ops within a cut, which is a version vector: timestamps, the order of the ops, and what each op
--- does
--- to
--- the tree.
+-- Replay (the document's judging) of the ops within a cut, which is a version vector: timestamps, the order of the
+-- ops, and what each op does to the tree.
 use Prim.Native.Nat.{ℕ, zero, suc, _+_}
 use mathlib.Core.Bool.{cond, _&&_, _||_, not}
 use mathlib.Core.List.{List, [], _∷_, map, foldl}
@@ -67,9 +65,8 @@ ordered log cut = byTime (stamped log cut)
 
 ---- effects
 
--- the parent table, the outcome table (the document's fates), and for the slot of each node the timestamp of the applied move that placed
--- it
--- last
+-- the parent table, the outcome table (the document's fates), and for the slot of each node the timestamp of the
+-- applied move that placed it last
 pub record State : Type 0 where
   pub parents : List ℕ
   pub outcomes : List ℕ
@@ -87,8 +84,8 @@ start = record {
 unfoldable pub outcomeSlot : Op → ℕ
 outcomeSlot r = slot (replicaOf r) (seqOf r)
 
--- 1 applied; a move: 2 "if an applied move of the same stamp already placed its node", else 3 "if the new parent is the node or lies below
--- it"
+-- 1 applied; a move: 2 "if an applied move of the same stamp already placed its node", else 3 "if the new parent is
+-- the node or lies below it"
 unfoldable pub outcomeOf : State → Stamped → ℕ
 outcomeOf st x =
     cond (not (isMove (x .op))) 1

@@ -1,9 +1,6 @@
--- `pen::line::lend_line` meets its contract: a walk of its MIR, by hand. The pen is copied to a local, which is lent for a lifetime of
--- the
--- call to
--- `write_line_with`, of which the proof knows only that it meets its contract, and comes back at its last value. The slice's borrow is
--- given up for
--- good.
+-- `pen::line::lend_line` meets its contract: a walk of its MIR, by hand. The pen is copied to a local, which is lent
+-- for a lifetime of the call to `write_line_with`, of which the proof knows only that it meets its contract, and
+-- comes back at its last value. The slice's borrow is given up for good.
 use mathlib.Core.Path.{_≡_, refl}
 use mathlib.Core.Bool.{Bool}
 use Prim.Native.Nat.{ℕ, _<_, _^_}

@@ -1,9 +1,7 @@
--- `pen::line::write_line_with` meets its contract: a walk of its MIR, by hand. The pen's borrow is opened, the pen is copied and passed
--- to
--- `write_line`
--- with the slice, of which the proof knows only that it meets its contract, and the borrow is closed at the pen that comes back. The
--- slice's borrow
--- is given up for good: `write_line` is called at its own lifetime, share and ghost name.
+-- `pen::line::write_line_with` meets its contract: a walk of its MIR, by hand. The pen's borrow is opened, the pen is
+-- copied and passed to `write_line` with the slice, of which the proof knows only that it meets its contract, and the
+-- borrow is closed at the pen that comes back. The slice's borrow is given up for good: `write_line` is called at its
+-- own lifetime, share and ghost name.
 use mathlib.Core.Path.{_≡_, refl}
 use mathlib.Core.Bool.{Bool}
 use Prim.Native.Nat.{ℕ, _<_, _^_}
