@@ -12,7 +12,7 @@ ghost use Rattle.codec.specs.Answers.{answerOf};
 ghost use Rattle.replica.specs.Adding.{lastTest, Acceptable};
 
 // The last test of an op, 8: room for one more.
-pub fn last_test(file: &[u8]) -> Answer
+pub(crate) fn last_test(file: &[u8]) -> Answer
     requires { ⌜ sound width (now file) ≡ true ⌝ }
     ensures { λ r. ⌜ answerOf r ≡ lastTest (now (file .entry)) ⌝ }
 {
@@ -24,7 +24,7 @@ pub fn last_test(file: &[u8]) -> Answer
 }
 
 // Adds an op that passed every test.
-pub fn accept(buf: &mut [u8], counts: [u8; 8], replica: u8, op: &[u8])
+pub(crate) fn accept(buf: &mut [u8], counts: [u8; 8], replica: u8, op: &[u8])
     requires { ⌜ Acceptable (now buf) counts replica (now op) ⌝ }
     ensures { λ _. ⌜ now (buf .exit) ≡ appended width (now (buf .entry)) (now (op .entry)) ⌝ }
 {
