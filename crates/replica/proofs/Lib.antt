@@ -1,4 +1,3 @@
-pub mod AddCases
 pub mod DeliverCases
 pub mod IssueCases
 pub mod JudgeCases

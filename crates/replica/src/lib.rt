@@ -1,11 +1,9 @@
 // The calls on a replica's log in a lent buffer. Every call takes any bytes, and a refused call
 // changes none of them.
-mod adding;
 mod delivering;
 mod issuing;
 mod judging;
 mod making;
-mod request;
 
 pub use delivering::deliver;
 pub use issuing::issue_add;

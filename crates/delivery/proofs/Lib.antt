@@ -1,0 +1,2 @@
+pub mod AddCases
+pub mod DeliverCases

@@ -1,0 +1,14 @@
+-- `issue::drafting::knows_move` meets its contract.
+use Rattle.issue.proofs.IssueCases.{issuing}
+use Rattle.issue.proofs.drafting.knows_move.Statement.{statement}
+use Rattle.issue.proofs.drafting.knows_move.Tie as tie
+
+pub knows-move-spec : {M : Type 1} → statement M
+knows-move-spec =
+    tie.close
+    (tie.spec
+    (λ c κs. search issuing)
+    (λ c. search issuing)
+    (λ c κs. search issuing)
+    (λ c. search issuing)
+    (λ c. search issuing))
