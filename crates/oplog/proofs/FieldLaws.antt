@@ -19,7 +19,6 @@ use Rattle.rules.proofs.StructureLaws.{Laid, laid-reads}
 use Rattle.rules.proofs.FileLaws.{counts-at, counts-logOf, ops-chunksOf, length-counts, chunk-at}
 use Rattle.rules.proofs.CausalLaws.{within-le}
 use Rattle.lists.proofs.ListLaws.{sum-take, drop-take, sameFrom, same-all, same-turn, same-end}
-use Rattle.codec.proofs.AccessLaws.{kind-there, node-there, parent-there}
 use Rattle.oplog.specs.Places.{InFile, Held, placeOf}
 
 -- two ops of the same fields
@@ -92,15 +91,6 @@ module _ (w : ℕ) (f : List ℕ) (s q : ℕ) (x : InFile w f s q) where
   -- the fields of the op, where it starts
   pub fields-at : (at : ℕ) → at ≡ placeOf w f s q → SameFields (opAt (logOf w f) s q) (drop at f)
   fields-at at e = rw (op-is, e) (same-front w (drop (placeOf w f s q) f) (x .wide))
-
-  pub kind-is : kindOf (opAt (logOf w f) s q) ≡ getD f (placeOf w f s q) 0
-  kind-is = fields-at _ refl .kind ∙ sym (kind-there f _)
-
-  pub node-is : nodeOf (opAt (logOf w f) s q) ≡ wordAt f (placeOf w f s q + 2)
-  node-is = fields-at _ refl .node ∙ sym (node-there f _ _ refl)
-
-  pub parent-is : parentOf (opAt (logOf w f) s q) ≡ wordAt f (placeOf w f s q + 4)
-  parent-is = fields-at _ refl .parent ∙ sym (parent-there f _ _ refl)
 
   ---- the place as the code works it out; m is the start that was read
 

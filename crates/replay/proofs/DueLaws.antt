@@ -6,7 +6,7 @@ use Prim.Native.Nat.{ℕ, _+_, _-_, _≤_, _<_}
 use native.Mathlib.Omega.{arith}
 use native.Mathlib.Decide.{decLt}
 use native.Mathlib.Nat.{le-refl}
-use lib.ListN.{getD}
+use lib.ListN.{drop, getD}
 use lib.Dec.{eqb}
 use borrow.Author.Tests.{le-leb, lt-leb, eq-eqb, ne-eqb}
 use Rattle.lists.proofs.BoolLaws.{and-false}
@@ -16,7 +16,7 @@ use Rattle.rules.specs.Replay.{State, step}
 use Rattle.order.specs.Levels.{readyOp}
 use Rattle.rules.proofs.KnownLaws.{kinds}
 use Rattle.oplog.specs.Places.{InFile, placeOf}
-use Rattle.oplog.proofs.FieldLaws.{kind-is, in-file-of}
+use Rattle.oplog.proofs.FieldLaws.{fields-at, in-file-of}
 use Rattle.replay.specs.Tables.{Applicable, Bottom, ReplayableAt, StructuralAt, Top, classOf, dueAt, stampedAt}
 use Rattle.replay.proofs.HeldLaws.{held-op}
 
@@ -56,13 +56,13 @@ module _ (w : ℕ) (f : List ℕ) (next : Vector) (s : ℕ) (x : StructuralAt w 
   unfolding countIn
   due-in-file = let a = x .at in in-file-of w f next (a .held) s q (a .low) (a .high) (omega (arith, nz)) (omega arith)
 
-  module _ (at : ℕ) (e : at ≡ placeOf w f s q) (r : ℕ) (hr : r ≡ classOf (getD f at 0)) (k : ℕ) where
+  module _ (at : ℕ) (e : at ≡ placeOf w f s q) (c r : ℕ) (hc : c ≡ kindOf (drop at f)) (hr : r ≡ classOf c) (k : ℕ) where
     -- in a structurally sound file the class of an op is its kind
     class-so : r ≡ kindOf (opAt (logOf w f) s q)
     class-so =
         let o = opAt (logOf w f) s q in
         let n = kinds o (held-op w f (x .is-structural) s q due-in-file .formed) in
-        hr ∙ rw (e, ← kind-is w f s q due-in-file) (class-is (kindOf o) (n .0) (n .1))
+        hr ∙ rw (hc, ← fields-at w f s q due-in-file at e .kind) (class-is (kindOf o) (n .0) (n .1))
 
     pub due-other : (r ≡ k → ⊥) → 0 ≡ dueAt (logOf w f) next k s
     unfolding dueAt countIn

@@ -6,12 +6,11 @@ use mathlib.Core.List.{List}
 use Prim.Native.Nat.{ℕ, _+_, _*_, _-_, _/_, _%_, _≤_, _<_}
 use native.Mathlib.Omega.{arith}
 use native.Mathlib.Decide.{ℕ-discrete}
-use lib.ListN.{length, getD, set}
+use lib.ListN.{length, drop, getD, set}
 use borrow.Author.Tests.{eq-eqb, ne-eqb}
 use borrow.Author.Needs.{needs, fits-under}
 use mir.Syntax.{w64}
 use mir.Val.{Fits}
-use Rattle.rules.specs.Bytes.{wordAt}
 use Rattle.rules.specs.Op.{vectorOf, kindOf, parentOf, nodeNumber, isAdd, nodeOf, isMove, Op}
 use Rattle.rules.specs.Tree.{slotOf, slot, slots, atOrBelow}
 use Rattle.rules.specs.Replay.{outcomeOf, outcomeSlot, step}
@@ -19,7 +18,7 @@ use Rattle.rules.specs.File.{opAt, logOf}
 use Rattle.rules.proofs.SlotLaws.{slot-below}
 use Rattle.rules.proofs.KnownLaws.{names-add, names-node, known-reads}
 use Rattle.oplog.specs.Places.{placeOf}
-use Rattle.oplog.proofs.FieldLaws.{node-is, kind-is, parent-is, small}
+use Rattle.oplog.proofs.FieldLaws.{fields-at, small}
 use Rattle.replay.specs.Tables.{Applicable, Slotted, hungBy, moves, notedBy, outcomeBy, stampedAt, tables}
 use Rattle.replay.proofs.HeldLaws.{held-op}
 
@@ -144,9 +143,9 @@ module _ (w : ℕ) (f : List ℕ) (s q : ℕ) (p o l : List ℕ) (x : Applicable
   own-fits = fits-under w64 (255 * (s - 1) + q) slots (omega (arith, own-slot, x .sized .outcomes)) tt
 
   -- what the code has read are the op's fields
-  module _ (at : ℕ) (is : at ≡ placeOf w f s q) (n i : ℕ) (hn : n ≡ wordAt f (at + 2)) (hi : i ≡ slotOf n) where
+  module _ (at : ℕ) (is : at ≡ placeOf w f s q) (n i : ℕ) (hn : n ≡ nodeOf (drop at f)) (hi : i ≡ slotOf n) where
     node-so : n ≡ nodeOf r
-    node-so = hn ∙ rw (is, node-is w f s q (x .in-file))
+    node-so = hn ∙ sym (fields-at w f s q (x .in-file) at is .node)
 
     slot-so : i < slots
     slot-so = rw (hi, node-so) (slot-below (nodeOf r) (inr node-range))
@@ -164,16 +163,17 @@ module _ (w : ℕ) (f : List ℕ) (s q : ℕ) (p o l : List ℕ) (x : Applicable
     pub note-slot : i < length l
     note-slot = omega (arith, slot-so, x .sized .placed)
 
-    module _ (m u t : ℕ) (hm : m ≡ wordAt f (at + 4)) (hu : u ≡ outcomeBy p l (getD f at 0) n m i t) where
-      pub applied : (p′ l′ : List ℕ) → p′ ≡ hungBy p (getD f at 0) u i m → l′ ≡ notedBy l (getD f at 0) u i t
+    module _ (k m u t : ℕ) (hk : k ≡ kindOf (drop at f)) (hm : m ≡ parentOf (drop at f)) (hu : u ≡ outcomeBy p l k n m i t) where
+      pub applied : (p′ l′ : List ℕ) → p′ ≡ hungBy p k u i m → l′ ≡ notedBy l k u i t
           → tables p′ (set o (255 * (s - 1) + q) u) l′ ≡ step (tables p o l) (stampedAt t r)
       unfolding step outcomeOf outcomeBy outcomeSlot slot hungBy notedBy isAdd isMove
       applied p′ l′ hp hl =
           let h = held-op w f (x .is-structural) s q (x .in-file) in
-          let k : getD f at 0 ≡ kindOf r = rw is (sym (kind-is w f s q (x .in-file))) in
-          let e : m ≡ parentOf r = hm ∙ rw (is, parent-is w f s q (x .in-file)) in
+          let o = fields-at w f s q (x .in-file) at is in
+          let ek : k ≡ kindOf r = hk ∙ sym (o .kind) in
+          let em : m ≡ parentOf r = hm ∙ sym (o .parent) in
           let g : i ≡ slotOf (nodeOf r) = hi ∙ ap slotOf node-so in
-          rw (hp, hl, hu, k, e, g, node-so, h .origin, h .number)
+          rw (hp, hl, hu, ek, em, g, node-so, h .origin, h .number)
 
 ---- what the code of the effects needs: search effects
 

@@ -1,6 +1,8 @@
 use crate::tree::below;
 use crate::tree::slot_of;
-use codec::word_at;
+use codec::kind_at;
+use codec::node_at;
+use codec::parent_at;
 use oplog::place;
 ghost use mathlib.Core.Path.{_≡_};
 ghost use Prim.Native.Nat.{_<_};
@@ -102,9 +104,9 @@ pub fn apply_op(
         (stampedAt time (opAt (logOf width (now (file .entry))) s q)) ⌝ }
 {
     let at = place(file, s, q, width);
-    let kind = file[at];
-    let node = word_at(file, at + 2);
-    let parent = word_at(file, at + 4);
+    let kind = kind_at(file, at);
+    let node = node_at(file, at);
+    let parent = parent_at(file, at);
     let slot = slot_of(node);
     let outcome = outcome_of(parents, placed, kind, node, parent, slot, time);
     hang(parents, kind, outcome, slot, parent);

@@ -2,6 +2,7 @@ use crate::effect::apply_op;
 use crate::ready::advance;
 use crate::ready::next_ops;
 use crate::tree::SLOTS;
+use codec::kind_at;
 use codec::widen;
 use codec::within;
 use oplog::place;
@@ -47,7 +48,7 @@ fn due(file: &[u8], next: [u8; 8], class: u8, s: usize, width: usize) -> usize
         return 0;
     }
     let at = place(file, s, q, width);
-    if class_of(file[at]) != class {
+    if class_of(kind_at(file, at)) != class {
         return 0;
     }
     q

@@ -3,22 +3,21 @@ use Prim.Native.Nat.{_+_, _<_, _≤_, ℕ}
 use borrow.Author.Needs.{needs}
 use borrow.Author.Tests.{eqb-false, leb-true, ne-eqb}
 use lib.Dec.{eqb, leb}
-use lib.ListN.{getD, length, set}
+use lib.ListN.{drop, length, set}
 use mathlib.Core.Bool.{Bool, cond, false, true}
 use mathlib.Core.List.{List, _∷_, foldl}
 use mathlib.Core.Path.{ap, refl, sym, _∙_, _≡_}
 use native.Mathlib.Omega.{arith}
 use Rattle.lists.proofs.BoolLaws.{tested}
 use Rattle.lists.specs.Lists.{concat}
-use Rattle.rules.specs.Bytes.{wordAt}
 use Rattle.rules.specs.File.{countAt, logOf, opAt, width}
-use Rattle.rules.specs.Op.{Op, isRemove, kindOf}
+use Rattle.rules.specs.Op.{Op, isRemove, kindOf, nodeOf}
 use Rattle.rules.specs.Log.{laid}
 use Rattle.rules.proofs.FileLaws.{length-logOf}
 use Rattle.rules.proofs.StructureLaws.{laid-reads}
 use Rattle.oplog.specs.Places.{nextMarker, placeOf}
 use Rattle.oplog.specs.declared.marker.Marker.{Marker}
-use Rattle.oplog.proofs.FieldLaws.{kind-is, node-is}
+use Rattle.oplog.proofs.FieldLaws.{fields-at}
 use Rattle.oplog.proofs.MarkerLaws.{Onward, Walk, left, left-end, left-next, left-ops, onward, togo}
 use Rattle.view.specs.Asked.{Markable, MarkableAt, MarkableFrom}
 use Rattle.view.specs.Tables.{mark, markAt, slotIn}
@@ -29,22 +28,23 @@ module _ (f : List ℕ) (s q : ℕ) (t : List ℕ) (a : MarkableAt f s q t) (at 
   abbrev op : Op
   op = opAt (logOf width f) s q
 
-  kind-read : kindOf op ≡ getD f at 0
-  kind-read = rw is (kind-is width f s q (a .in-file))
+  -- c is the kind that the code has read
+  module _ (c : ℕ) (ec : c ≡ kindOf (drop at f)) where
+    kind-read : kindOf op ≡ c
+    kind-read = fields-at width f s q (a .in-file) at is .kind ∙ sym ec
 
-  -- k is the slot of the node that it names
-  pub mark-remove : getD f at 0 ≡ 2 → (n : ℕ) → n ≡ wordAt f (at + 2) → (k : ℕ) → k ≡ slotIn n
-      → set t k 1 ≡ mark t (opAt (logOf width f) s q)
-  unfolding mark isRemove
-  mark-remove e n en k ek = rw (kind-read ∙ e, ek, en, is, ← node-is width f s q (a .in-file))
+    -- k is the slot of the node that it names
+    pub mark-remove : c ≡ 2 → (n : ℕ) → n ≡ nodeOf (drop at f) → (k : ℕ) → k ≡ slotIn n → set t k 1 ≡ mark t (opAt (logOf width f) s q)
+    unfolding mark isRemove
+    mark-remove e n en k ek = rw (kind-read ∙ e, ek, en, ← fields-at width f s q (a .in-file) at is .node)
 
-  pub mark-other : (getD f at 0 ≡ 2 → ⊥) → t ≡ mark t (opAt (logOf width f) s q)
-  unfolding mark isRemove
-  mark-other h = rw (ne-eqb (kindOf op) 2 (λ e. h (sym kind-read ∙ e)))
+    pub mark-other : (c ≡ 2 → ⊥) → t ≡ mark t (opAt (logOf width f) s q)
+    unfolding mark isRemove
+    mark-other h = rw (ne-eqb (kindOf op) 2 (λ e. h (sym kind-read ∙ e)))
 
-  -- a kind that the code names
-  pub mark-kind : (k : ℕ) → getD f at 0 ≡ k → eqb k 2 ≡ false → t ≡ mark t (opAt (logOf width f) s q)
-  mark-kind k e h = mark-other (λ z. eqb-false k 2 h (sym e ∙ z))
+    -- a kind that the code names
+    pub mark-kind : (k : ℕ) → c ≡ k → eqb k 2 ≡ false → t ≡ mark t (opAt (logOf width f) s q)
+    mark-kind k e h = mark-other (λ z. eqb-false k 2 h (sym e ∙ z))
 
 ---- at a marker
 

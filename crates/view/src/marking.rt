@@ -1,5 +1,6 @@
 use crate::slots::slot_in;
-use codec::word_at;
+use codec::kind_at;
+use codec::node_at;
 use oplog::Marker;
 use oplog::place;
 use soundness::WIDTH;
@@ -16,10 +17,10 @@ fn mark_op(file: &[u8], s: usize, q: usize, marks: &mut [u8])
     ensures { λ _. ⌜ now (marks .exit) ≡ mark (now (marks .entry)) (opAt (logOf width (now (file .entry))) s q) ⌝ }
 {
     let at = place(file, s, q, WIDTH);
-    let kind = file[at];
+    let kind = kind_at(file, at);
     match kind {
         2 => {
-            let slot = slot_in(word_at(file, at + 2));
+            let slot = slot_in(node_at(file, at));
             marks[slot] = 1;
             return;
         }

@@ -8,10 +8,8 @@ apply-op-spec =
     tie.close
     (tie.spec
     (λ c κs. search effects)
-    (λ c. search effects)
-    (λ c. search effects)
     (λ c κs. search effects)
-    (λ c. search effects)
+    (λ c κs. search effects)
     (λ c κs. search effects)
     (λ c κs. search effects)
     (λ c κs. search effects)

@@ -8,8 +8,7 @@ mark-op-spec =
     tie.close
     (tie.spec
     (λ c κs. search marking)
-    (λ c. search marking)
-    (λ c. search marking)
+    (λ c κs. search marking)
     (λ c κs. search marking)
     (λ c κs. search marking)
     (λ c. search marking)
