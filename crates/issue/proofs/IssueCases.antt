@@ -26,7 +26,7 @@ use Rattle.codec.specs.Answers.{numberOf}
 use Rattle.codec.specs.declared.answer.Refusal.{Refusal}
 use Rattle.codec.specs.declared.answer.Refusal.the-variants.{Unknown, Exhausted, Cycle}
 use Rattle.codec.proofs.AnswerLaws.{if-accepted, if-not-accepted}
-use Rattle.replay.specs.Tables.{moveOrCycle}
+use Rattle.tree.specs.Climb.{moveOrCycle}
 use Rattle.delivery.specs.Adding.{lastTest, Acceptable}
 use Rattle.issue.specs.Issuing.{requestOf, bytesOf, movedIn, clearedOp, drafted, withOp, putOut, Lent, Ready, Writable, KnownRequest}
 use Rattle.issue.specs.declared.request.Draft.{Draft}

@@ -1,5 +1,4 @@
 pub mod HeldLaws
-pub mod ClimbLaws
 pub mod EffectLaws
 pub mod ReadyLaws
 pub mod DueLaws

@@ -114,7 +114,3 @@ notedBy placed kind outcome n time = cond (eqb outcome 1 && moves kind) (set pla
 -- the later of two numbers of ops: the new one, unless it is 0
 unfoldable pub later : ℕ → ℕ → ℕ
 later old new = cond (eqb new 0) old new
-
--- the kind of a move in a tree, 0 of one that number 10 refuses
-unfoldable pub moveOrCycle : List ℕ → ℕ → ℕ → ℕ
-moveOrCycle parents n p = cond (atOrBelow parents p n) 0 (moveKind parents n p)

@@ -1,7 +1,7 @@
 use crate::level::replay_levels;
-use crate::tree::NO_PARENT;
-use crate::tree::SLOTS;
 use oplog::counts_of;
+use tree::NO_PARENT;
+use tree::SLOTS;
 ghost use mathlib.Core.Path.{_≡_};
 ghost use mathlib.Core.Bool.{true};
 ghost use Prim.Native.Nat.{_≤_};

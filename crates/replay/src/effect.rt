@@ -1,9 +1,9 @@
-use crate::tree::below;
-use crate::tree::slot_of;
 use codec::kind_at;
 use codec::node_at;
 use codec::parent_at;
 use oplog::place;
+use tree::below;
+use tree::slot_of;
 ghost use mathlib.Core.Path.{_≡_};
 ghost use Prim.Native.Nat.{_<_};
 ghost use lib.ListN.{length};

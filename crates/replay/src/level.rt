@@ -1,11 +1,11 @@
 use crate::effect::apply_op;
 use crate::ready::advance;
 use crate::ready::next_ops;
-use crate::tree::SLOTS;
 use codec::kind_at;
 use codec::widen;
 use codec::within;
 use oplog::place;
+use tree::SLOTS;
 ghost use mathlib.Core.Path.{_≡_};
 ghost use mathlib.Core.List.{foldl};
 ghost use Rattle.rules.specs.File.{logOf};

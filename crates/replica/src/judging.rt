@@ -1,9 +1,9 @@
 use codec::Answer;
 use codec::Refusal;
-use replay::SLOTS;
 use replay::replay_all;
 use soundness::WIDTH;
 use soundness::is_sound;
+use tree::SLOTS;
 ghost use mathlib.Core.Path.{_≡_};
 ghost use Rattle.rules.specs.File.{width};
 ghost use Rattle.codec.specs.Answers.{answerOf};

@@ -11,7 +11,9 @@ use native.Mathlib.Omega.{arith}
 use Rattle.lists.proofs.ListLaws.{concat-append}
 use Rattle.lists.specs.Lists.{concat}
 use Rattle.rules.specs.Listing.{lineOf}
-use Rattle.view.specs.Tables.{depthIn, lineFor, linesOf, nodeIn, putFront, slotIn}
+use Rattle.tour.specs.Tables.{depthIn, nodeIn}
+use Rattle.view.specs.Tables.{lineFor, linesOf, putFront}
+use Rattle.tree.specs.Slots.{slotIn}
 use Rattle.view.specs.Asked.{Printable, Toured}
 use Rattle.pen.specs.Lines.{Asked, Penned, penned, written}
 use Rattle.pen.specs.declared.line.Pen.{Pen}

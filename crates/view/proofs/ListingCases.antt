@@ -22,8 +22,12 @@ use Rattle.rules.specs.Views.{View}
 use Rattle.view.proofs.ListingLaws.{listing-is}
 use Rattle.view.proofs.PutCases.{put-all, put-short}
 use Rattle.view.specs.Answers.{putAnswer, putIn}
-use Rattle.view.specs.Asked.{Arrangeable, Arranged, Markable, Orderable, Printable, Tourable}
-use Rattle.view.specs.Tables.{hiddenOf, linesOf, linkSlot, links, linksOf, mark, marksOf, noLinks, noMarks, orderBy, orderOf, putFront, tourOf}
+use Rattle.view.specs.Asked.{Arrangeable, Arranged, Orderable, Printable}
+use Rattle.marks.specs.Marking.{Markable}
+use Rattle.tour.specs.Asked.{Tourable}
+use Rattle.tour.specs.Tables.{hiddenOf, linkSlot, links, linksOf, noLinks, orderBy, tourOf}
+use Rattle.view.specs.Tables.{linesOf, orderOf, putFront}
+use Rattle.marks.specs.Marking.{mark, marksOf, noMarks}
 
 ---- the nodes that a view shows
 

@@ -23,19 +23,22 @@ use Rattle.rules.specs.Tree.{climb, depth, path, slots}
 use Rattle.rules.specs.Views.{View, keeping, shown, skipping}
 use Rattle.rules.specs.Marks.{tombstone}
 use Rattle.lists.proofs.EachLaws.{Each, each-filter, each-map, map-each}
-use Rattle.view.proofs.LinkLaws.{Chain, Linked, kids, links-right}
-use Rattle.view.proofs.MarkLaws.{mark-tombstone}
-use Rattle.view.proofs.NodesLaws.{children-slots, slot-entry}
-use Rattle.view.proofs.OrderLaws.{pre-nodes}
-use Rattle.view.proofs.PruneLaws.{pruned}
-use Rattle.view.proofs.RevealLaws.{keeping-hidden}
+use Rattle.tour.proofs.LinkLaws.{Chain, Linked, kids, links-right}
+use Rattle.marks.proofs.MarkLaws.{mark-tombstone}
+use Rattle.tour.proofs.NodesLaws.{children-slots, slot-entry}
+use Rattle.tour.proofs.OrderLaws.{pre-nodes}
+use Rattle.tour.proofs.PruneLaws.{pruned}
+use Rattle.tour.proofs.RevealLaws.{keeping-hidden}
 use Rattle.lists.proofs.ListLaws.{map-concat, map-map}
 use Rattle.lists.proofs.BoolLaws.{not-not, under-and}
-use Rattle.view.proofs.SlotLaws.{slot-in-node, slot-in-valid}
-use Rattle.view.proofs.TourLaws.{pre, tour-root}
+use Rattle.tree.proofs.SlotLaws.{slot-in-node, slot-in-valid}
+use Rattle.tour.proofs.TourLaws.{pre, tour-root}
 use Rattle.order.proofs.TreePathLaws.{Under, children-under}
 use Rattle.view.proofs.ViewLaws.{keeping-child, root-shown, skipping-child}
-use Rattle.view.specs.Tables.{Links, atNode, entryOf, hiddenOf, lineFor, linesOf, linksOf, marksOf, nodeAt, orderBy, orderOf, tourOf}
+use Rattle.tour.specs.Tables.{Links, entryOf, hiddenOf, linksOf, orderBy, tourOf}
+use Rattle.tree.specs.Slots.{atNode, slotNode}
+use Rattle.view.specs.Tables.{lineFor, linesOf, orderOf}
+use Rattle.marks.specs.Marking.{marksOf}
 
 pre-turn : (kids : ℕ → List ℕ) (k n : ℕ) → pre kids (suc k) n ≡ n ∷ concat (map (pre kids k) (kids n))
 unfolding pre
@@ -88,7 +91,7 @@ module _ (log : Log) (good : GoodLog log) where
     is-linked = links-right P hidden (slot-entry log good)
 
     kids-same : (n : ℕ) → Valid n → kidsOf n ≡ kids P hidden (slot-entry log good) 1 n
-    kids-same n v = rw (children-slots log good n v) (filter-map-filter unhidden nodeAt (λ k. eqb (getD P k 0) n) _ 2040 1
+    kids-same n v = rw (children-slots log good n v) (filter-map-filter unhidden slotNode (λ k. eqb (getD P k 0) n) _ 2040 1
         (λ k a b. rw (slot-in-node k a (omega arith))))
 
     kids-under : (n : ℕ) → Each (Under log good n) (kidsOf n)

@@ -20,7 +20,7 @@ use Rattle.rules.specs.Replay.{parentsOf}
 use Rattle.rules.specs.Sound.{sound}
 use Rattle.rules.specs.Tree.{depth, parentIn, path, slotOf, slots}
 use Rattle.oplog.proofs.InsertLaws.{front, front-step}
-use Rattle.replay.proofs.ClimbLaws.{parent-read}
+use Rattle.tree.proofs.ClimbLaws.{parent-read}
 use Rattle.view.proofs.PathLaws.{way-of, written-all}
 use Rattle.view.proofs.PutCases.{put-all, put-short}
 use Rattle.view.specs.Answers.{putAnswer, putIn}

@@ -5,12 +5,11 @@ use mathlib.Core.Bool.{true}
 use mathlib.Core.List.{List}
 use lib.ListN.{length, getD, take}
 use Rattle.rules.specs.File.{width, countsOf, logOf}
-use Rattle.rules.specs.Log.{knownParent, laid}
+use Rattle.rules.specs.Log.{knownParent}
 use Rattle.rules.specs.Sound.{sound}
 use Rattle.rules.specs.Tree.{slotOf, slots, parentIn, path}
-use Rattle.oplog.specs.Places.{InFile}
-use Rattle.oplog.specs.declared.marker.Marker.{Marker}
-use Rattle.view.specs.Tables.{noMarks, linesOf}
+use Rattle.marks.specs.Marking.{noMarks}
+use Rattle.view.specs.Tables.{linesOf}
 
 ---- paths
 
@@ -31,69 +30,6 @@ pub record Way (parents : List ℕ) (n steps : ℕ) : Type 0 where
 pub record WayOut (parents : List ℕ) (n steps : ℕ) (out : List ℕ) : Type 0 where
   pub way : Way parents n steps
   pub room : steps < length out
-
----- marks
-
--- a laid-out file, and a table for marks
-pub record Markable (f marks : List ℕ) : Type 0 where
-  pub is-laid : laid width f ≡ true
-  pub marks-size : length marks ≡ slots
-
-pub record MarkableAt (f : List ℕ) (s q : ℕ) (marks : List ℕ) : Type 0 where
-  pub in-file : InFile width f s q
-  pub marks-size : length marks ≡ slots
-
--- and a marker on its way
-pub record MarkableFrom (f : List ℕ) (m : Marker) (marks : List ℕ) : Type 0 where
-  pub table : Markable f marks
-  pub low : 1 ≤ m .replica
-  pub high : m .replica ≤ 8
-  pub first : 1 ≤ m .sequence
-
----- what is hidden
-
-pub record RevealSized (parents hidden : List ℕ) : Type 0 where
-  pub parents-size : length parents ≡ slots
-  pub hidden-size : length hidden ≡ slots
-
-pub record HidingSized (parents marks hidden : List ℕ) : Type 0 where
-  pub marks-size : length marks ≡ slots
-  pub others : RevealSized parents hidden
-
-pub record HidingAt (parents marks hidden : List ℕ) (k : ℕ) : Type 0 where
-  pub sized : HidingSized parents marks hidden
-  pub inside : k < slots
-
----- links and the tour
-
-pub record TourSized (parents marks first next : List ℕ) : Type 0 where
-  pub parents-size : length parents ≡ slots
-  pub marks-size : length marks ≡ slots
-  pub first-size : length first ≡ slots
-  pub next-size : length next ≡ slots
-
-pub record LinkableAt (parents marks first next : List ℕ) (k : ℕ) : Type 0 where
-  pub sized : TourSized parents marks first next
-  pub inside : k < slots
-
--- a stack that grows towards its front has room
-pub record Pushable (stack : List ℕ) (top : ℕ) : Type 0 where
-  pub room : 0 < top
-  pub within : top ≤ length stack
-
-pub record LinksSized (first next : List ℕ) : Type 0 where
-  pub first-size : length first ≡ slots
-  pub next-size : length next ≡ slots
-
--- a stack with an entry, and room for one more than that
-pub record Visitable (first next stack : List ℕ) (top : ℕ) : Type 0 where
-  pub links-size : LinksSized first next
-  pub room : 0 < top
-  pub within : top < length stack
-
-pub record Tourable (first next order : List ℕ) : Type 0 where
-  pub links-size : LinksSized first next
-  pub order-size : length order ≡ slots
 
 ---- lines
 

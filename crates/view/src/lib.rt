@@ -1,15 +1,11 @@
 // What users see of a log: the path of a node, and the listing of a view. Every call takes any
 // bytes, and a refused call changes nothing.
 mod answer;
-mod hiding;
 mod lines;
 mod linking;
 mod listings;
-mod marking;
 mod paths;
 mod printing;
-mod slots;
-mod touring;
 
 pub use answer::View;
 pub use listings::listing;

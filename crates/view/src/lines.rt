@@ -1,9 +1,9 @@
-use crate::slots::slot_in;
-use crate::touring::depth_in;
-use crate::touring::node_in;
 use pen::Pen;
 use pen::lend_line;
 use pen::line_size;
+use tour::depth_in;
+use tour::node_in;
+use tree::slot_in;
 ghost use mathlib.Core.Path.{_≡_};
 ghost use mathlib.Core.List.{List};
 ghost use Prim.Native.Nat.{ℕ};

@@ -2,14 +2,14 @@ use crate::answer::View;
 use crate::lines::size_of;
 use crate::lines::write_lines;
 use crate::linking::link_view;
-use crate::marking::mark_ops;
-use crate::touring::tour;
 use codec::Answer;
 use codec::Refusal;
-use replay::SLOTS;
+use marks::mark_ops;
 use replay::replay_all;
 use soundness::WIDTH;
 use soundness::is_sound;
+use tour::tour;
+use tree::SLOTS;
 ghost use mathlib.Core.Path.{_≡_};
 ghost use Prim.Native.Nat.{_≤_};
 ghost use lib.ListN.{take};
@@ -18,7 +18,9 @@ ghost use Rattle.rules.specs.Tree.{slots};
 ghost use Rattle.codec.specs.Answers.{answerOf};
 ghost use Rattle.view.specs.Answers.{viewOf, putIn};
 ghost use Rattle.view.specs.Asked.{Orderable, Arrangeable, Arranged};
-ghost use Rattle.view.specs.Tables.{marksOf, orderBy, orderOf, linesOf};
+ghost use Rattle.marks.specs.Marking.{marksOf};
+ghost use Rattle.tour.specs.Tables.{orderBy};
+ghost use Rattle.view.specs.Tables.{orderOf, linesOf};
 ghost use Rattle.rules.specs.Listing as rules;
 
 // Arranges the nodes that a view shows of a tree with marks.

@@ -1,0 +1,2 @@
+pub mod MarkingCases
+pub mod MarkLaws

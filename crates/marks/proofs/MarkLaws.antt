@@ -1,0 +1,76 @@
+-- The marks are the tombstones.
+use Prim.Native.Nat.{ℕ}
+use borrow.Author.Tests.{eq-eqb, ne-eqb}
+use lib.Dec.{eqb}
+use lib.ListN.{getD, getD-replicate, length, length-replicate, length-set, replicate, set}
+use lib.Seq.{getD-set-other, getD-set-same}
+use mathlib.Core.Bool.{Bool, cond, false, not, or-assoc, or-false, or-true, true, _||_}
+use mathlib.Core.List.{List, [], foldl, map, _∷_}
+use mathlib.Core.Logic.{inr}
+use mathlib.Core.Path.{refl, sym, _∙_, _≡_}
+use native.Mathlib.Decide.{ℕ-discrete}
+use native.Mathlib.Omega.{arith}
+use Rattle.rules.proofs.KnownLaws.{named-valid}
+use Rattle.lists.proofs.BoolLaws.{and-left, and-right}
+use Rattle.rules.proofs.StructureLaws.{GoodLog}
+use Rattle.rules.proofs.SlotLaws.{Valid, slot-below, slot-injective}
+use Rattle.lists.specs.Lists.{all, any, filter, isIn}
+use Rattle.rules.specs.File.{Log, countsOf}
+use Rattle.rules.specs.Log.{known}
+use Rattle.rules.specs.Op.{Op, isRemove, nodeOf}
+use Rattle.rules.specs.Replay.{opsWithin, removedIn}
+use Rattle.rules.specs.Tree.{slotOf, slots}
+use Rattle.rules.specs.Marks.{tombstone}
+use Rattle.tree.proofs.SlotLaws.{slot-in-valid}
+use Rattle.order.proofs.TombstoneLaws.{ops-all, removes-known, removesKnown}
+use Rattle.tree.specs.Slots.{atNode, slotIn}
+use Rattle.marks.specs.Marking.{mark, marksOf, noMarks}
+
+mark-size : (t : List ℕ) (r : Op) → length (mark t r) ≡ length t
+unfolding mark
+mark-size t r = go (isRemove r)
+  where
+    go : (b : Bool) → length (cond b (set t (slotIn (nodeOf r)) 1) t) ≡ length t
+    go true = length-set t _ _
+    go false = refl
+
+abbrev marked : List ℕ → ℕ → Bool
+marked t n = not (eqb (getD t (slotOf n) 0) 0)
+
+module _ (log : Log) (good : GoodLog log) where
+  mark-one : (t : List ℕ) (r : Op) (n : ℕ) → length t ≡ 2041 → Valid n → removesKnown log r ≡ true → isRemove r ≡ true
+      → marked (set t (slotIn (nodeOf r)) 1) n ≡ (marked t n || eqb n (nodeOf r))
+  mark-one t r n size v f e =
+      let w : known log (countsOf log) (nodeOf r) ≡ true = rw e at f in
+      let vr : Valid (nodeOf r) = named-valid log (countsOf log) (nodeOf r) (inr w) in
+      rw (slot-in-valid (nodeOf r) vr) (elim (ℕ-discrete n (nodeOf r)) [
+        | yes q ↦ rw (
+          q,
+          getD-set-same t (slotOf (nodeOf r)) 1 0 (omega (arith, slot-below (nodeOf r) vr)),
+          eq-eqb (nodeOf r)
+              (nodeOf r) refl,
+        ) (sym (or-true (marked t (nodeOf r))))
+        | no nq ↦ rw (
+          getD-set-other t (slotOf (nodeOf r)) (slotOf n) 1 0 (λ x. nq (slot-injective n (nodeOf r) v vr x)),
+          ne-eqb n
+              (nodeOf r) nq,
+        ) (sym (or-false (marked t n)))
+      ])
+
+  marks-are : (rs : List Op) (t : List ℕ) (n : ℕ) → length t ≡ 2041 → Valid n → all (removesKnown log) rs ≡ true
+      → marked (foldl mark t rs) n ≡ (marked t n || isIn n (map nodeOf (filter isRemove rs)))
+  unfolding all isIn any filter mark
+  marks-are [] t n size v f = sym (or-false (marked t n))
+  marks-are (r ∷ rs) t n size v f =
+      marks-are rs (mark t r) n (mark-size t r ∙ size) v (and-right (removesKnown log r) _ f) ∙ go (isRemove r) refl
+    where
+      go : (b : Bool) → isRemove r ≡ b → (marked (mark t r) n || any (eqb n) (map nodeOf (filter isRemove rs))) ≡ (marked t n
+          || any (eqb n) (map nodeOf (cond b (r ∷ filter isRemove rs) (filter isRemove rs))))
+      go true e = rw (e, mark-one t r n size v (and-left (removesKnown log r) _ f) e) (or-assoc (marked t n) (eqb n (nodeOf r)) _)
+      go false e = rw e
+
+  pub mark-tombstone : (n : ℕ) → Valid n → not (eqb (atNode (marksOf log) n) 0) ≡ tombstone log (countsOf log) n
+  unfolding marksOf noMarks tombstone removedIn
+  mark-tombstone n v =
+      rw (slot-in-valid n v, ← ops-all log (good .eight)) (marks-are (opsWithin log (countsOf log)) (replicate slots 0) n
+      (length-replicate {A = ℕ} slots 0) v (removes-known log good) ∙ rw (getD-replicate {A = ℕ} slots (slotOf n) 0 0 (slot-below n v)))

@@ -1,0 +1,57 @@
+use codec::kind_at;
+use codec::node_at;
+use oplog::Marker;
+use oplog::place;
+use soundness::WIDTH;
+use tree::slot_in;
+ghost use mathlib.Core.Path.{_≡_};
+ghost use mathlib.Core.List.{foldl};
+ghost use Rattle.lists.specs.Lists.{concat};
+ghost use Rattle.rules.specs.File.{width, logOf, opAt};
+ghost use Rattle.marks.specs.Marking.{Markable, MarkableAt, MarkableFrom};
+ghost use Rattle.marks.specs.Marking.{mark, markAt};
+
+// The effect of an op on the marks: a remove marks its node.
+fn mark_op(file: &[u8], s: usize, q: usize, marks: &mut [u8])
+    requires { ⌜ MarkableAt (now file) s q (now marks) ⌝ }
+    ensures { λ _. ⌜ now (marks .exit) ≡ mark (now (marks .entry)) (opAt (logOf width (now (file .entry))) s q) ⌝ }
+{
+    let at = place(file, s, q, WIDTH);
+    let kind = kind_at(file, at);
+    match kind {
+        2 => {
+            let slot = slot_in(node_at(file, at));
+            marks[slot] = 1;
+            return;
+        }
+        1 | 3 | 4 => {
+            return;
+        }
+        0 | 5..=255 => {
+            return;
+        }
+    }
+}
+
+// The effect of the op at a marker, if there is one.
+fn mark_held(file: &[u8], m: Marker, marks: &mut [u8])
+    requires { ⌜ MarkableFrom (now file) m (now marks) ⌝ }
+    ensures { λ _. ⌜ now (marks .exit) ≡ markAt (now (file .entry)) (now (marks .entry)) (m .replica) (m .sequence) ⌝ }
+{
+    if !m.in_file(file) {
+        return;
+    }
+    mark_op(file, m.replica, m.sequence, marks);
+}
+
+// Marks every node that an op of the file removes, by a marker through the file.
+pub fn mark_ops(file: &[u8], marks: &mut [u8])
+    requires { ⌜ Markable (now file) (now marks) ⌝ }
+    ensures { λ _. ⌜ now (marks .exit) ≡ foldl mark (now (marks .entry)) (concat (logOf width (now (file .entry)))) ⌝ }
+{
+    let mut m = Marker::first();
+    while m.replica <= 8 {
+        mark_held(file, m, marks);
+        m = m.next(file);
+    }
+}

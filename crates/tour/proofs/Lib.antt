@@ -1,0 +1,9 @@
+pub mod NodesLaws
+pub mod LinkLaws
+pub mod TourLaws
+pub mod PruneLaws
+pub mod OrderLaws
+pub mod RevealLaws
+pub mod HidingCases
+pub mod LinkingCases
+pub mod TouringCases

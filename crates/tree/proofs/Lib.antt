@@ -1,0 +1,3 @@
+pub mod ClimbLaws
+pub mod SlotLaws
+pub mod SlotCases

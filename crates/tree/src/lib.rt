@@ -1,0 +1,12 @@
+// The parent table of a tree: its slots, and climbs in it.
+mod climb;
+mod slots;
+
+pub use climb::below;
+pub use climb::depth_of;
+pub use climb::move_kind;
+pub use slots::NO_PARENT;
+pub use slots::SLOTS;
+pub use slots::slot_in;
+pub use slots::slot_node;
+pub use slots::slot_of;
