@@ -8,7 +8,7 @@ use Rattle.rules.specs.Answer.{accepted}
 use Rattle.rules.specs.Op.{countIn, kindOf, replicaOf, nodeOf, parentOf, vectorOf, seqOf, nodeNumber}
 use Rattle.rules.specs.File.{Log, countsOf, Extends, width, fileEnd, logOf}
 use Rattle.rules.specs.Sound.{sound}
-use Rattle.rules.specs.Deliver.{held, deliverAnswer}
+use Rattle.rules.specs.Deliver.{isHeld, deliverAnswer}
 use Rattle.rules.specs.Replay.{parentsOf}
 use Rattle.rules.specs.Issue.{Request, add, remove, move, issueAnswer, issueOut}
 use Rattle.rules.specs.Tree.{moveKind}
@@ -53,7 +53,7 @@ pub record ReadsBack (log : Log) (s : ℕ) (q : Request) (r : List ℕ) : Type 0
   -- the op reader, `read_op`, answers an op with these fields
   pub reads : readOf width r ≡ Op (fieldsMeant log s q)
   -- every sound log that holds what its vector counts, and not the op, accepts it where there is room
-  pub accepted-by : (g : List ℕ) → sound width g ≡ true → Extends log (logOf width g) → held (logOf width g) r ≡ false
+  pub accepted-by : (g : List ℕ) → sound width g ≡ true → Extends log (logOf width g) → isHeld (logOf width g) r ≡ false
       → fileEnd width g + width ≤ length g → deliverAnswer width g r ≡ accepted (fileEnd width g + width)
 
 abbrev pub IssuedReadsBack : Type 0

@@ -16,7 +16,7 @@ use Rattle.rules.proofs.IssueLaws.{allowed, issue-admitted}
 use Rattle.rules.proofs.StructureLaws.{GoodLog, count-held}
 use Rattle.rules.specs.Answer.{accepted, require}
 use Rattle.lists.specs.Lists.{any, concat, same}
-use Rattle.rules.specs.Deliver.{held, deliverAnswer, deliverBuffer}
+use Rattle.rules.specs.Deliver.{isHeld, deliverAnswer, deliverBuffer}
 use Rattle.rules.specs.Issue.{Request, issued, issueAnswer, issueBuffer}
 use Rattle.rules.specs.File.{Log, logOf, width, countsOf, fileEnd, append, appended, Extends}
 use Rattle.rules.specs.Op.{Op, countIn, replicaOf, seqOf}
@@ -52,8 +52,8 @@ module _ (f b out : List ℕ) (s : ℕ) (q : Request) (n : ℕ) (ok : issueAnswe
 -- an op that was issued at f is accepted wherever f's log lies and there is room
 module _ (f b : List ℕ) (s : ℕ) (r : Op) (back : NextOp (logOf width f) s r)
     (is-sound : sound width b ≡ true) (one-log : logOf width b ≡ logOf width f) (fits : fileEnd width b + width ≤ length b) where
-  new-there : held (logOf width f) r ≡ false
-  unfolding held
+  new-there : isHeld (logOf width f) r ≡ false
+  unfolding isHeld
   new-there =
       lt-leb (seqOf r) (countIn (countsOf (logOf width f)) (replicaOf r)) (rw (back .origin, back .sequence) (omega arith))
 
@@ -90,8 +90,8 @@ module _ (f : List ℕ) (good : GoodLog (logOf width f)) (s s′ : ℕ) (r r′ 
     holds : Extends log (append log r)
     holds = extends log r good admits
 
-    new : held (append log r) r′ ≡ false
-    unfolding held
+    new : isHeld (append log r) r′ ≡ false
+    unfolding isHeld
     new =
         let i = in-range log r good admits in
         let same-ops = ops-other log r (good .eight) (i .0) (i .1) s′ low′ (λ e. apart (sym (e ∙ back .origin))) in

@@ -25,7 +25,7 @@ use Rattle.rules.specs.Answer.{Answer, accepted, hadIt}
 use Rattle.rules.proofs.OfferLaws.{Offered, had, wide-op, early, taken}
 use Rattle.rules.proofs.ReplicaLaws.{all-replicas}
 use Rattle.lists.specs.Lists.{any, same, sum, all}
-use Rattle.rules.specs.Deliver.{deliverAnswer, held, deliverBuffer}
+use Rattle.rules.specs.Deliver.{deliverAnswer, isHeld, deliverBuffer}
 use Rattle.lists.proofs.BoolLaws.{or-cases, never}
 use Rattle.lists.proofs.ListLaws.{same-eq}
 use native.Mathlib.Omega.{arith}
@@ -122,8 +122,8 @@ module _ (u : Log) (su : SoundLog u) (wu : WideLog width u) (base : List ℕ) (b
     in-u : OpIn u r
     in-u = in-more from-y u yu r iy
 
-    held-in-x : held (logIn x) r ≡ true → has (x .held) r ≡ true
-    unfolding held
+    held-in-x : isHeld (logIn x) r ≡ true → has (x .held) r ≡ true
+    unfolding isHeld
     held-in-x h =
         let n = leb-true (seqOf r) (countIn (countsOf (logIn x)) (replicaOf r)) h in
         let same-op = s .inside .ops (replicaOf r) (seqOf r) (iy .low) (iy .high) (seq-positive r) n in

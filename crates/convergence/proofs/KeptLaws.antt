@@ -10,7 +10,7 @@ use lib.Seq.{drop-at, take-at}
 use lib.Dec.{lit≤}
 use Rattle.rules.specs.Op.{Op, countIn, replicaOf, seqOf}
 use Rattle.rules.specs.File.{Log, countsOf, append, fileEnd, logOf, fileOf, emptyLog, appended, width}
-use Rattle.rules.specs.Deliver.{makeAnswer, makeBuffer, held, deliverAnswer, deliverBuffer}
+use Rattle.rules.specs.Deliver.{makeAnswer, makeBuffer, isHeld, deliverAnswer, deliverBuffer}
 use Rattle.rules.specs.Issue.{issued, issueAnswer, issueBuffer, issueOut}
 use Rattle.convergence.specs.Exchange.{Call, make, issue, deliver, Site, answer, bufferAfter, heldThen, perform, run, standing, has, times, arrange, filed, fileIn}
 use Rattle.lists.specs.Lists.{any, filter}
@@ -84,7 +84,7 @@ module _ (x : Site) (r : Op) (n : ℕ) (k : Kept x) (h : Admitted width (x .buff
   grown = record { buffer = appended width (x .buffer) r; held = x .held ++ (r ∷ []) }
 
   pub grown-new : has (x .held) r ≡ false
-  unfolding Rattle.rules.specs.Deliver.held
+  unfolding Rattle.rules.specs.Deliver.isHeld
   grown-new = fails _ (λ e. let i = k .tracks .inside r e in let z : countIn (countsOf (logIn x)) (replicaOf r) < seqOf r = leb-false _ _
       (h .admits .new) in omega (arith, i .here))
 

@@ -133,7 +133,7 @@ module _ (log : Log) (good : GoodLog log) (x y : Move) (ax : Asked log x) (ay : 
   unfolding replay
   tree = replay-run log good (countsOf log) (record { is-covered = counts-covered log; is-closed = counts-closed log good }) .tree
 
-  size : length parents ≡ 2041
+  size : length parents ≡ slots
   unfolding parentsOf
   size = tree .size
 
@@ -173,7 +173,7 @@ module _ (log : Log) (good : GoodLog log) (x y : Move) (ax : Asked log x) (ay : 
       (valid-node log x ax) (no-root log x ax) (no-root log y ay) ip iq rp rq (ax .clear) (ay .clear) c
 
   -- the tree after x
-  size-x : length after-x ≡ 2041
+  size-x : length after-x ≡ slots
   unfolding hang
   size-x = length-set parents (slotOf (x .node)) (x .parent) ∙ size
 

@@ -14,7 +14,7 @@ use Rattle.lists.specs.Lists.{same, concat, all, any, filter}
 use Rattle.rules.specs.Op.{Op, countIn, replicaOf, vectorOf, seqOf}
 use Rattle.rules.specs.File.{Log, opAt, countsOf, fileEnd, appended, width, Extends, largest}
 use Rattle.rules.specs.Log.{covered}
-use Rattle.rules.specs.Deliver.{held, deliverAnswer}
+use Rattle.rules.specs.Deliver.{isHeld, deliverAnswer}
 use Rattle.convergence.specs.Exchange.{Site, answer, has, Side, left, right, other, isSide, Pair, missing, Offer, Round, answerTo, offered, after, Answered, answers, acceptances, acceptedBy, offers, ValidRound, EachRound, onlyIn}
 use Rattle.convergence.specs.Converges.{expected}
 use Rattle.rules.specs.Answer.{Answer, refused, hadIt, accepted, ifAccepted, done}
@@ -54,7 +54,7 @@ offered-expected (had e) = refl
 offered-expected (early e) = refl
 
 -- an answer to an op that is neither held nor early
-accepts : {log : Log} {r : Op} {m : ℕ} {a : Answer} → Offered log r m a → (held log r ≡ true → ⊥) → (covered log (vectorOf r) ≡ false → ⊥)
+accepts : {log : Log} {r : Op} {m : ℕ} {a : Answer} → Offered log r m a → (isHeld log r ≡ true → ⊥) → (covered log (vectorOf r) ≡ false → ⊥)
     → (n : ℕ) × (a ≡ accepted n)
 accepts {m = m} taken h c = (m, refl)
 accepts (had e) h c = absurd (h e)
@@ -223,7 +223,7 @@ module _ (u : Log) (su : SoundLog u) (wu : WideLog width u) (base : Side → Lis
       -- an op that d lacks, and that is not early there
       ready : (d : Side) (r : Op) → has (p (other d) .held) r ≡ true → has (p d .held) r ≡ false
           → (x : Op) × (n : ℕ) × (offers os d x ≡ true) × (deliverAnswer width (p d .buffer) x ≡ accepted n)
-      unfolding held
+      unfolding isHeld
       ready d r a b =
           let here : Log = logIn (p (other d)) in
           let there : Log = logIn (p d) in

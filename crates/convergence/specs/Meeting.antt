@@ -11,7 +11,7 @@ use Rattle.convergence.specs.Exchange.{Side, Round, left, Offer, Pair, C
 use Rattle.rules.specs.Answer.{require}
 use Rattle.rules.specs.Bytes.{wordAt, word}
 use Rattle.lists.specs.Lists.{all, upFrom, downFrom, sum, concat, greatest, same, any, filter, isIn}
-use Rattle.rules.specs.Deliver.{makeAnswer, deliverBuffer, makeBuffer, deliverAnswer, heldAnswer, admitAnswer, held}
+use Rattle.rules.specs.Deliver.{makeAnswer, deliverBuffer, makeBuffer, deliverAnswer, heldAnswer, admitAnswer, isHeld}
 use Rattle.rules.specs.Examples.{p1, adds, p1File, vector}
 use Rattle.rules.specs.Issue.{opBytes, add, move, requestKnown, issued, issueAnswer, requestClear, issueBuffer, issueOut}
 use Rattle.rules.specs.Tree.{moveKind, climb, path, atOrBelow, slot, slotOf, depth, parentIn}
@@ -86,7 +86,7 @@ pub met : Met
 unfolding p1 p1File require wordAt word upFrom downFrom sum greatest same concat all any filter isIn replicas isReplica countIn kindOf
     replicaOf nodeOf parentOf vectorOf ownCount seqOf nodeNumber isAdd isRemove isMove wellFormed emptyLog opsOf opAt countsOf append
     countAt startAt headerCounts startOf endOf fileEnd chunks chunksOf logOf headerEntry headerOf fileOf within covered closedAt closed
-    nodeWithin known knownParent namesKnown soundOp soundOps soundLog soundHeader laid structural sound makeAnswer held heldAnswer
+    nodeWithin known knownParent namesKnown soundOp soundOps soundLog soundHeader laid structural sound makeAnswer isHeld heldAnswer
     admitAnswer deliverAnswer slot slotOf parentIn climb path depth atOrBelow opsWithin timestampIn timestamp stamp stamped ofReplica ofKind
     ofTime byTime ordered start outcomeSlot outcomeOf step replay parentsOf outcomesOf opBytes moveKind issued requestKnown requestClear
     issueAnswer makeBuffer deliverBuffer appended issueBuffer issueOut answer bufferAfter heldThen perform run has opNumbered inOrder
@@ -141,7 +141,7 @@ arrived : (h : List ℕ) → h ≡ p1File → BothAdded shared h a₃ b₁
 unfolding p1 p1File require wordAt word upFrom sum same concat all any replicas isReplica countIn kindOf replicaOf nodeOf parentOf vectorOf
     ownCount seqOf nodeNumber isAdd isRemove wellFormed emptyLog opsOf opAt countsOf append countAt startAt headerCounts startOf endOf
     fileEnd chunks chunksOf logOf headerEntry headerOf fileOf within covered closedAt closed nodeWithin known knownParent namesKnown soundOp
-    soundOps soundLog soundHeader laid structural sound makeAnswer held heldAnswer admitAnswer deliverAnswer opBytes makeBuffer
+    soundOps soundLog soundHeader laid structural sound makeAnswer isHeld heldAnswer admitAnswer deliverAnswer opBytes makeBuffer
     deliverBuffer appended answer bufferAfter heldThen perform run has
 arrived h e = rw e (record {
   is-sound = refl;
@@ -152,7 +152,7 @@ pub clashed : Clashed
 unfolding p1 p1File require wordAt word upFrom downFrom sum greatest same concat all any filter isIn replicas isReplica countIn kindOf
     replicaOf nodeOf parentOf vectorOf ownCount seqOf nodeNumber isAdd isRemove isMove wellFormed emptyLog opsOf opAt countsOf append
     countAt startAt headerCounts startOf endOf fileEnd chunks chunksOf logOf headerEntry headerOf fileOf within covered closedAt closed
-    nodeWithin known knownParent namesKnown soundOp soundOps soundLog soundHeader laid structural sound makeAnswer held heldAnswer
+    nodeWithin known knownParent namesKnown soundOp soundOps soundLog soundHeader laid structural sound makeAnswer isHeld heldAnswer
     admitAnswer deliverAnswer slot slotOf parentIn climb path depth atOrBelow opsWithin timestampIn timestamp stamp stamped ofReplica ofKind
     ofTime byTime ordered start outcomeSlot outcomeOf step replay parentsOf outcomesOf opBytes moveKind issued requestKnown requestClear
     issueAnswer makeBuffer deliverBuffer appended issueBuffer issueOut answer bufferAfter heldThen perform run circle beats

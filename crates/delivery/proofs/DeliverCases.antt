@@ -10,7 +10,7 @@ use borrow.Author.Needs.{needs}
 use borrow.Author.Tests.{eq-eqb, leb-true}
 use Rattle.rules.specs.Answer.{Answer, hadIt, ifAccepted, refused, require}
 use Rattle.lists.specs.Lists.{same}
-use Rattle.rules.specs.Deliver.{Result, held, heldAnswer, admitAnswer, deliver, deliverAnswer, deliverBuffer}
+use Rattle.rules.specs.Deliver.{Result, isHeld, heldAnswer, admitAnswer, deliver, deliverAnswer, deliverBuffer}
 use Rattle.rules.specs.File.{width, appended, countsOf, headerCounts, logOf, opAt, within}
 use Rattle.rules.specs.Log.{closed, covered, namesKnown}
 use Rattle.rules.specs.Op.{Vector, countIn, isAdd, isRemove, isReplica, replicaOf, seqOf, vectorOf, wellFormed}
@@ -55,14 +55,14 @@ module _ (f op : List ℕ) (x : Fields) (d : Readable f op x) where
   replica-so = let i = replica-formed op (d .formed) in rw (← replica-is) (in-replicas _ (i .0) (i .1))
 
   -- what is left of the tests
-  answer-by : deliverAnswer width f op ≡ cond (held (logOf width f) op) (heldAnswer (logOf width f) op) (admitAnswer width f op)
+  answer-by : deliverAnswer width f op ≡ cond (isHeld (logOf width f) op) (heldAnswer (logOf width f) op) (admitAnswer width f op)
   unfolding deliverAnswer require
   answer-by = rw (d .is-sound, eq-eqb (length op) width (d .long), d .formed)
 
   -- u are the held counts
   module _ (u : Vector) (h : u ≡ headerCounts f) where
-    held-by : (b : Bool) → leb (x .sequence) (countIn u (x .replica)) ≡ b → held (logOf width f) op ≡ b
-    unfolding held
+    held-by : (b : Bool) → leb (x .sequence) (countIn u (x .replica)) ≡ b → isHeld (logOf width f) op ≡ b
+    unfolding isHeld
     held-by b is = rw (replica-is, sequence-is, counts-logOf width f, ← h) is
 
     pub again : leb (x .sequence) (countIn u (x .replica)) ≡ true → Again f op x
@@ -103,7 +103,7 @@ module _ (f op : List ℕ) (x : Fields) (d : Again f op x) (s q : ℕ) (es : s �
   sequence-as = sequence-is f op x (d .reads) ∙ sym eq
 
   pub in-file : InFile width f s q
-  unfolding held
+  unfolding isHeld
   in-file =
       let i = replica-formed op (d .reads .formed) in
       let l : 1 ≤ s = rw (← replica-as) (i .0) in

@@ -5,7 +5,7 @@ use mathlib.Core.Path.{_≡_}
 use mathlib.Core.Bool.{Bool, true, false}
 use mathlib.Core.List.{List}
 use lib.ListN.{length}
-use Rattle.rules.specs.Deliver.{held}
+use Rattle.rules.specs.Deliver.{isHeld}
 use Rattle.rules.specs.Op.{Vector, nodeNumber, wellFormed}
 use Rattle.rules.specs.Sound.{sound}
 use Rattle.oplog.specs.Tests.{namesBy}
@@ -32,10 +32,10 @@ pub record Counting (f op : List ℕ) (x : Fields) (u : Vector) : Type 0 where
 -- and its sequence is held
 pub record Again (f op : List ℕ) (x : Fields) : Type 0 where
   pub reads : Readable f op x
-  pub is-held : held (logOf width f) op ≡ true
+  pub is-held : isHeld (logOf width f) op ≡ true
 
 -- or is not; u are the held counts
 pub record Fresh (f op : List ℕ) (x : Fields) (u : Vector) : Type 0 where
   pub reads : Readable f op x
   pub tallied : Tallied f u
-  pub is-new : held (logOf width f) op ≡ false
+  pub is-new : isHeld (logOf width f) op ≡ false

@@ -66,6 +66,12 @@ all-from p (suc n) a e s l u = elim (ℕ-discrete a s) [
 ]
 
 -- one that fails
+pub all-alike-from : (p q : ℕ → Bool) (n a : ℕ) → ((s : ℕ) → a ≤ s → s < a + n → p s ≡ q s) → all p (upFrom a n) ≡ all q (upFrom a n)
+unfolding all upFrom
+all-alike-from p q zero a h = refl
+all-alike-from p q (suc n) a h =
+    rw (h a (omega arith) (omega arith), all-alike-from p q n (suc a) (λ s l u. h s (omega arith) (omega arith)))
+
 pub fails-from : (p : ℕ → Bool) (n a : ℕ) → all p (upFrom a n) ≡ false → (s : ℕ) × (a ≤ s) × (s < a + n) × (p s ≡ false)
 unfolding all upFrom
 fails-from p zero a e = never (sym e)

@@ -15,7 +15,7 @@ use lib.Seq.{getD-set-other}
 use Rattle.rules.specs.Op.{Op, Vector, countIn, kindOf, replicaOf, nodeOf, parentOf, vectorOf, seqOf, nodeNumber, isAdd, isMove}
 use Rattle.rules.specs.File.{Log, opAt, countsOf}
 use Rattle.rules.specs.Log.{known}
-use Rattle.rules.specs.Tree.{slotOf, atOrBelow, noParent}
+use Rattle.rules.specs.Tree.{slotOf, atOrBelow, noParent, slots}
 use Rattle.rules.specs.Replay.{Stamped, State, step}
 use Rattle.rules.proofs.CausalLaws.{Le}
 use Rattle.rules.proofs.SlotLaws.{Valid, slot-injective}
@@ -35,11 +35,11 @@ hung-bare parents n p i ne = getD-set-other parents (slotOf n) i p 0 (λ e. ne (
 
 -- the state's parents are a tree of the nodes that D knows
 pub record Tree (log : Log) (D : Vector) (st : State) : Type 0 where
-  pub size : length (st .parents) ≡ 2041
+  pub size : length (st .parents) ≡ slots
   pub way : (m : ℕ) → Named log D m → (i : ℕ) × Reaches (Named log D) (st .parents) i m
   pub root : getD (st .parents) 0 noParent ≡ 0
   -- a slot of none of these nodes
-  pub bare : (i : ℕ) → 0 < i → i < 2041 → ((m : ℕ) → Named log D m → slotOf m ≡ i → ⊥) → getD (st .parents) i 0 ≡ noParent
+  pub bare : (i : ℕ) → 0 < i → i < slots → ((m : ℕ) → Named log D m → slotOf m ≡ i → ⊥) → getD (st .parents) i 0 ≡ noParent
 
 -- a vector that knows the same nodes
 pub tree-same : (log : Log) (D E : Vector) (st : State) → Le D E → ((m : ℕ) → known log E m ≡ true → known log D m ≡ true) → Tree log D st

@@ -14,5 +14,6 @@ pub mod TourLaws
 pub mod PlacingLaws
 pub mod DecimalLaws
 pub mod ClaimTheorems
-pub mod TombstoneLaws
+pub mod RemoveLaws
+pub mod ViewLaws
 pub mod TreePathLaws

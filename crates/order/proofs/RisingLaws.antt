@@ -12,7 +12,7 @@ use lib.Seq.{getD-take}
 use Rattle.lists.specs.Lists.{upFrom, concat, filter, any, isIn}
 use Rattle.rules.specs.Op.{Op, Vector, replicas, countIn, nodeOf, nodeNumber, isAdd}
 use Rattle.rules.specs.File.{Log, opsOf, opAt}
-use Rattle.rules.specs.Tree.{slotOf}
+use Rattle.rules.specs.Tree.{slotOf, slots}
 use Rattle.rules.specs.Replay.{opsWithin, addedIn}
 use Rattle.lists.proofs.FilterLaws.{filter-append}
 use Rattle.rules.proofs.StructureLaws.{count-held, held-in, GoodLog, good-ops}
@@ -145,7 +145,7 @@ distinct-at (x ∷ xs) d zero (suc k) h u e = d .0 (rw e (isIn-at xs k (le-of-su
 distinct-at (x ∷ xs) d (suc j) (suc k) h u e = distinct-at xs (d .1) j k (le-of-suc-le-suc h) (le-of-suc-le-suc u) e
 
 -- there are 2,041 numbers of nodes, with the root's
-pub distinct-length : (xs : List ℕ) → Distinct xs → ((y : ℕ) → isIn y xs ≡ true → Valid y) → length xs ≤ 2041
+pub distinct-length : (xs : List ℕ) → Distinct xs → ((y : ℕ) → isIn y xs ≡ true → Valid y) → length xs ≤ slots
 distinct-length xs d v =
-    pigeonhole 2041 (length xs) (λ j. slotOf (getD xs j 0)) (λ j h. slot-below _ (v _ (isIn-at xs j h))) (λ j k h u e.
+    pigeonhole slots (length xs) (λ j. slotOf (getD xs j 0)) (λ j h. slot-below _ (v _ (isIn-at xs j h))) (λ j k h u e.
     distinct-at xs d j k h u (slot-injective _ _ (v _ (isIn-at xs j (omega arith))) (v _ (isIn-at xs k u)) e))

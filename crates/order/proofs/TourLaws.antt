@@ -16,7 +16,7 @@ use Rattle.rules.specs.Sound.{sound}
 use Rattle.rules.specs.Tree.{parentIn, slots, depth}
 use Rattle.rules.specs.Replay.{parentsOf, addedIn}
 use Rattle.rules.specs.Views.{nodes, View, shown}
-use Rattle.rules.specs.Marks.{tombstone}
+use Rattle.rules.specs.Marks.{marked}
 use Rattle.rules.specs.Listing.{children, preorder, line, listingIn, listingOf}
 use Rattle.lists.proofs.BoolLaws.{never, both-ways}
 use Rattle.rules.proofs.StructureLaws.{GoodLog, counts-covered, counts-closed}
@@ -108,7 +108,7 @@ module _ (log : Log) (good : GoodLog log) where
   preorder-once k = once k 0 0 root-depth
 
   -- at most 2,040 nodes and the root
-  pub preorder-length : (k : ℕ) → length (preorder k log parents 0) ≤ 2041
+  pub preorder-length : (k : ℕ) → length (preorder k log parents 0) ≤ slots
   preorder-length k = distinct-length (preorder k log parents 0) (preorder-once k) (λ y e. named-valid log (countsOf log) y
       (preorder-named k 0 y (inl refl) e))
 
@@ -156,7 +156,7 @@ module _ (log : Log) (good : GoodLog log) where
   unfolding line parentsOf
   line-size y w =
       let (a, b, c) = depth-added log good (countsOf log) whole y w in
-      line-short (depth parents y) y (tombstone log (countsOf log) y) (omega (arith, c)) (number (named-valid log (countsOf log) y w))
+      line-short (depth parents y) y (marked log (countsOf log) y) (omega (arith, c)) (number (named-valid log (countsOf log) y w))
     where
       number : Valid y → y < 10000
       number (inl z) = omega arith
@@ -168,7 +168,7 @@ module _ (log : Log) (good : GoodLog log) where
   listing-size view =
       let all : List ℕ = preorder slots log parents 0 in
       let xs : List ℕ = filter (shown view log parents) all in
-      let n : length xs ≤ 2041 = omega (arith, filter-length (shown view log parents) all, preorder-length slots) in
+      let n : length xs ≤ slots = omega (arith, filter-length (shown view log parents) all, preorder-length slots) in
       omega (
         arith,
         n,

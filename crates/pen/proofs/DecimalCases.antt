@@ -28,9 +28,9 @@ module _ (n : ℕ) where
   pub digits-5 : 10000 ≤ n → n < 65536 → 5 ≡ length (decimal n)
   digits-5 l h = sym (five-digits n l (omega arith))
 
-pub line-sized : (d n a b : ℕ) → a ≡ length (decimal d) → b ≡ length (decimal n) → (removed : Bool)
-    → a + b + 4 ≡ length (lineOf d n removed)
-line-sized d n a b ea eb removed = omega (arith, length-line d n removed)
+pub line-sized : (d n a b : ℕ) → a ≡ length (decimal d) → b ≡ length (decimal n) → (marked : Bool)
+    → a + b + 4 ≡ length (lineOf d n marked)
+line-sized d n a b ea eb marked = omega (arith, length-line d n marked)
 
 ---- a number of count digits, of which the first i are left to write: they are those of `left`
 

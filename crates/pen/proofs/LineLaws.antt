@@ -35,23 +35,23 @@ then : (o x y : List ℕ) (at k : ℕ) (xs ys : List ℕ) → at + length xs ≤
 then o x y at k xs ys h ex ek ey = ey ∙ rw (ex, ek) (written-next o at xs ys h)
 
 -- depth, space, node number, and the last three bytes
-pub line-written : (o x y : List ℕ) (at d n a b m : ℕ) (removed : Bool) → at + length (lineOf d n removed) ≤ length o
+pub line-written : (o x y : List ℕ) (at d n a b m : ℕ) (marked : Bool) → at + length (lineOf d n marked) ≤ length o
     → a ≡ at + length (decimal d) → x ≡ written o at (decimal d)
     → b ≡ a + 1 + length (decimal n) → y ≡ written (set x a 32) (a + 1) (decimal n)
-    → m ≡ cond removed 114 107
-    → set (set (set y b 32) (b + 1) m) (b + 2) 10 ≡ written o at (lineOf d n removed)
+    → m ≡ cond marked 114 107
+    → set (set (set y b 32) (b + 1) m) (b + 2) 10 ≡ written o at (lineOf d n marked)
 unfolding lineOf
-line-written o x y at d n a b m removed h ea ex eb ey em =
+line-written o x y at d n a b m marked h ea ex eb ey em =
     let ds : List ℕ = decimal d in
     let ns : List ℕ = decimal n in
     let tail : List ℕ = 32 ∷ m ∷ 10 ∷ [] in
-    let whole : ((ds ++ (32 ∷ [])) ++ ns) ++ tail ≡ lineOf d n removed = rw (
+    let whole : ((ds ++ (32 ∷ [])) ++ ns) ++ tail ≡ lineOf d n marked = rw (
       append-assoc (ds ++ (32 ∷ [])) ns tail,
       append-assoc ds
           (32 ∷ []) (ns ++ tail),
       em,
     ) in
-    let size : length (lineOf d n removed) ≡ length ds + length ns + 4 = length-line d n removed in
+    let size : length (lineOf d n marked) ≡ length ds + length ns + 4 = length-line d n marked in
     let lx : length x ≡ length o = rw ex (written-length o at ds (omega arith)) in
     let x′ : List ℕ = set x a 32 in
     let ex′ : x′ ≡ written o at (ds ++ (32 ∷ [])) = then o x x′ at a ds (32 ∷ []) (omega arith) ex ea (written-one x a 32 (omega arith)) in
@@ -68,11 +68,11 @@ line-written o x y at d n a b m removed h ea ex eb ey em =
 
 ---- the line writers, of bytes ys and a pen h
 
-pub line-penned : (o x : List ℕ) (h : Pen) (d n b : ℕ) (removed : Bool) → x ≡ written o (h .bytes) (lineOf d n removed)
-    → b ≡ h .bytes + length (lineOf d n removed)
-    → _≡_ {A = Penned} (record { out = x; pen = record { bytes = b; lines = h .lines + 1 } }) (penned o h (lineOf d n removed))
+pub line-penned : (o x : List ℕ) (h : Pen) (d n b : ℕ) (marked : Bool) → x ≡ written o (h .bytes) (lineOf d n marked)
+    → b ≡ h .bytes + length (lineOf d n marked)
+    → _≡_ {A = Penned} (record { out = x; pen = record { bytes = b; lines = h .lines + 1 } }) (penned o h (lineOf d n marked))
 unfolding penned
-line-penned o x h d n b removed ex eb = rw (ex, eb)
+line-penned o x h d n b marked ex eb = rw (ex, eb)
 
 abbrev pub Wants : List ℕ → Pen → ℕ → ℕ → Bool → Type 0
 Wants ys h d n t = Asked ys h (lineOf d n t)

@@ -15,31 +15,31 @@ pub struct Pen {
 
 // How many bytes a line has, whatever its mark.
 pub fn line_size(depth: u16, node: u16) -> usize
-    ensures { λ r. ⌜ ((removed : Bool) → r ≡ length (lineOf depth node removed)) × (r ≤ 14) ⌝ }
+    ensures { λ r. ⌜ ((marked : Bool) → r ≡ length (lineOf depth node marked)) × (r ≤ 14) ⌝ }
 {
     digit_count(depth) + digit_count(node) + 4
 }
 
-fn mark_byte(removed: bool) -> u8
-    ensures { λ r. ⌜ r ≡ cond removed 114 107 ⌝ }
+fn mark_byte(marked: bool) -> u8
+    ensures { λ r. ⌜ r ≡ cond marked 114 107 ⌝ }
 {
-    if removed {
+    if marked {
         return b'r';
     }
     b'k'
 }
 
 // Writes a line behind what is written, and hands the pen back with the line counted.
-pub fn write_line(out: &mut [u8], pen: Pen, depth: u16, node: u16, removed: bool) -> Pen
-    requires { ⌜ Asked (now out) pen (lineOf depth node removed) ⌝ }
-    ensures { λ r. ⌜ record { out = now (out .exit); pen = r } ≡ penned (now (out .entry)) pen (lineOf depth node removed) ⌝ }
+pub fn write_line(out: &mut [u8], pen: Pen, depth: u16, node: u16, marked: bool) -> Pen
+    requires { ⌜ Asked (now out) pen (lineOf depth node marked) ⌝ }
+    ensures { λ r. ⌜ record { out = now (out .exit); pen = r } ≡ penned (now (out .entry)) pen (lineOf depth node marked) ⌝ }
 {
     let at = pen.bytes;
     let space = put_decimal(out, at, depth);
     out[space] = b' ';
     let end = put_decimal(out, space + 1, node);
     out[end] = b' ';
-    out[end + 1] = mark_byte(removed);
+    out[end + 1] = mark_byte(marked);
     out[end + 2] = b'\n';
     let bytes = end + 3;
     let lines = pen.lines + 1;
@@ -47,20 +47,20 @@ pub fn write_line(out: &mut [u8], pen: Pen, depth: u16, node: u16, removed: bool
 }
 
 // The thin line writer: the pen is lent, and changed by the line.
-pub fn write_line_with(out: &mut [u8], pen: &mut Pen, depth: u16, node: u16, removed: bool)
-    requires { ⌜ Asked (now out) (now pen) (lineOf depth node removed) ⌝ }
+pub fn write_line_with(out: &mut [u8], pen: &mut Pen, depth: u16, node: u16, marked: bool)
+    requires { ⌜ Asked (now out) (now pen) (lineOf depth node marked) ⌝ }
     ensures { λ _. ⌜ record { out = now (out .exit); pen = now (pen .exit) }
-        ≡ penned (now (out .entry)) (now (pen .entry)) (lineOf depth node removed) ⌝ }
+        ≡ penned (now (out .entry)) (now (pen .entry)) (lineOf depth node marked) ⌝ }
 {
-    *pen = write_line(out, *pen, depth, node, removed);
+    *pen = write_line(out, *pen, depth, node, marked);
 }
 
 // A line by a pen that the caller holds by value: the pen is lent to the line, and handed back.
-pub fn lend_line(out: &mut [u8], pen: Pen, depth: u16, node: u16, removed: bool) -> Pen
-    requires { ⌜ Asked (now out) pen (lineOf depth node removed) ⌝ }
-    ensures { λ r. ⌜ record { out = now (out .exit); pen = r } ≡ penned (now (out .entry)) pen (lineOf depth node removed) ⌝ }
+pub fn lend_line(out: &mut [u8], pen: Pen, depth: u16, node: u16, marked: bool) -> Pen
+    requires { ⌜ Asked (now out) pen (lineOf depth node marked) ⌝ }
+    ensures { λ r. ⌜ record { out = now (out .exit); pen = r } ≡ penned (now (out .entry)) pen (lineOf depth node marked) ⌝ }
 {
     let mut lent = pen;
-    write_line_with(out, &mut lent, depth, node, removed);
+    write_line_with(out, &mut lent, depth, node, marked);
     lent
 }

@@ -14,7 +14,7 @@ use Rattle.lists.specs.Lists.{sum}
 use Rattle.rules.specs.Op.{Op, Vector, isReplica, countIn, replicaOf, nodeOf, parentOf, vectorOf, seqOf, ownCount, wellFormed, isAdd}
 use Rattle.rules.specs.File.{Log, opsOf, opAt, countsOf, append, Extends, within}
 use Rattle.rules.specs.Log.{covered, closedAt, closed, nodeWithin, known, knownParent, namesKnown, soundOp, soundOps}
-use Rattle.rules.specs.Deliver.{held}
+use Rattle.rules.specs.Deliver.{isHeld}
 use Rattle.lists.proofs.BoolLaws.{and-left, and-right, and-both, and-under, or-under}
 use Rattle.rules.proofs.ReplicaLaws.{all-replicas, replica-passes, all-alike}
 use Rattle.rules.proofs.FileLaws.{WideLog, wide-set, wide-last, wide-at}
@@ -133,13 +133,13 @@ sum-append log r e l u = sum-set log (replicaOf r - 1) r (omega arith)
 
 pub record Admits (log : Log) (r : Op) : Type 0 where
   pub formed : wellFormed r ≡ true
-  pub new : held log r ≡ false
+  pub new : isHeld log r ≡ false
   pub is-covered : covered log (vectorOf r) ≡ true
   pub is-closed : closed log (vectorOf r) ≡ true
   pub names : namesKnown log r ≡ true
 
 -- what passes the tests against a log passes them against one that holds more, and not the op
-pub admits-more : (log more : Log) → Extends log more → (r : Op) → Admits log r → held more r ≡ false → Admits more r
+pub admits-more : (log more : Log) → Extends log more → (r : Op) → Admits log r → isHeld more r ≡ false → Admits more r
 admits-more log more x r h new =
     let same = same-within log more x (vectorOf r) (h .is-covered) in
     record {
@@ -157,9 +157,9 @@ replica-formed r e =
     (leb-true _ _ (h .0 .0 .0 .0), leb-true _ _ (h .0 .0 .0 .1), ltb-true _ _ (h .0 .1))
 
 -- the next sequence number
-pub seq-next : (log : Log) (r : Op) → 1 ≤ replicaOf r → replicaOf r ≤ 8 → held log r ≡ false → covered log (vectorOf r) ≡ true
+pub seq-next : (log : Log) (r : Op) → 1 ≤ replicaOf r → replicaOf r ≤ 8 → isHeld log r ≡ false → covered log (vectorOf r) ≡ true
     → ownCount r ≡ length (opsOf log (replicaOf r))
-unfolding held seqOf ownCount covered within
+unfolding isHeld seqOf ownCount covered within
 seq-next log r l u h c =
     let a : countIn (countsOf log) (replicaOf r) < ownCount r + 1 = leb-false _ _ h in
     let b : ownCount r ≤ countIn (countsOf log) (replicaOf r) = leb-true _ _

@@ -26,7 +26,7 @@ Met parents q n k =
     ((i : ℕ) × (i ≤ k) × (up parents i q ≡ n) × ((j : ℕ) → j < i → up parents j q ≡ n → ⊥))
     ⊎ ((j : ℕ) → j ≤ k → up parents j q ≡ n → ⊥)
 
-module _ (P : ℕ → Type 0) (pv : (x : ℕ) → P x → Valid x) (parents : List ℕ) (size : length parents ≡ 2041)
+module _ (P : ℕ → Type 0) (pv : (x : ℕ) → P x → Valid x) (parents : List ℕ) (size : length parents ≡ slots)
     (n p m q : ℕ) (vn : Valid n) (n≢0 : n ≡ 0 → ⊥) (m≢0 : m ≡ 0 → ⊥)
     (ip iq : ℕ) (rp : Reaches P parents ip p) (rq : Reaches P parents iq q) (free : atOrBelow parents p n ≡ false) where
   abbrev hung : List ℕ
@@ -164,7 +164,7 @@ module _ (P : ℕ → Type 0) (pv : (x : ℕ) → P x → Valid x) (parents : Li
 
 ---- a node hung below itself
 
-module _ (P : ℕ → Type 0) (pv : (x : ℕ) → P x → Valid x) (parents : List ℕ) (size : length parents ≡ 2041)
+module _ (P : ℕ → Type 0) (pv : (x : ℕ) → P x → Valid x) (parents : List ℕ) (size : length parents ≡ slots)
     (m q : ℕ) (vm : Valid m) (m≢0 : m ≡ 0 → ⊥)
     (iq : ℕ) (rq : Reaches P parents iq q) (under : atOrBelow parents q m ≡ true) where
   abbrev closed-up : List ℕ

@@ -1,7 +1,7 @@
 -- Laws of climbs: steps up, ways to the root, paths, depths.
 use Rattle.rules.proofs.SlotLaws.{Valid, slot-below, slot-injective}
 use Rattle.lists.specs.Lists.{any, isIn}
-use Rattle.rules.specs.Tree.{climb, parentIn, slotOf}
+use Rattle.rules.specs.Tree.{climb, parentIn, slotOf, slots}
 use Rattle.lists.proofs.NumberLaws.{least, pigeonhole}
 use Rattle.lists.proofs.BoolLaws.{never}
 use mathlib.Core.List.{List, [], _∷_}
@@ -42,7 +42,7 @@ pub short : (P : ℕ → Type 0) → ((x : ℕ) → P x → Valid x) → (parent
     → (j : ℕ) × (j ≤ 2040) × Reaches P parents j n × ((k : ℕ) → k < j → up parents k n ≡ 0 → ⊥)
 short P pv parents i n r =
     let (j, u, z, o) = least (λ k. up parents k n) i (r .root) in
-    let bound = pigeonhole 2041 (suc j) (λ k. slotOf (up parents k n)) (λ k h. slot-below _ (pv _ (r .on k (omega arith)))) (differ j u z o)
+    let bound = pigeonhole slots (suc j) (λ k. slotOf (up parents k n)) (λ k h. slot-below _ (pv _ (r .on k (omega arith)))) (differ j u z o)
     in
     (j, omega arith, record { root = z; on = λ k h. r .on k (omega arith) }, o)
   where

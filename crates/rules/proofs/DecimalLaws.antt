@@ -75,9 +75,9 @@ five-digits n l h =
 
 ---- a line
 
-pub length-line : (d n : ℕ) (removed : Bool) → length (lineOf d n removed) ≡ length (decimal d) + length (decimal n) + 4
+pub length-line : (d n : ℕ) (marked : Bool) → length (lineOf d n marked) ≡ length (decimal d) + length (decimal n) + 4
 unfolding lineOf
-length-line d n removed = rw (length-append, length-append) (omega arith)
+length-line d n marked = rw (length-append, length-append) (omega arith)
 
 decimal-short : (n : ℕ) → n < 10000 → length (decimal n) ≤ 4
 unfolding decimal
@@ -91,8 +91,8 @@ decimal-short n h = omega (
 )
 
 -- four digits each for depth and node
-pub line-short : (d n : ℕ) (removed : Bool) → d < 10000 → n < 10000 → length (lineOf d n removed) ≤ 12
-line-short d n removed a b = omega (arith, length-line d n removed, decimal-short d a, decimal-short n b)
+pub line-short : (d n : ℕ) (marked : Bool) → d < 10000 → n < 10000 → length (lineOf d n marked) ≤ 12
+line-short d n marked a b = omega (arith, length-line d n marked, decimal-short d a, decimal-short n b)
 
 ---- digits written from the last to the first
 

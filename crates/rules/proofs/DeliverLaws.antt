@@ -11,7 +11,7 @@ use lib.Seq.{drop-at}
 use Rattle.rules.specs.Op.{Op}
 use Rattle.rules.specs.File.{Log, countsOf, append, endOf, fileEnd, logOf, fileOf, appended}
 use Rattle.rules.specs.Answer.{Answer, accepted, require}
-use Rattle.rules.specs.Deliver.{admitAnswer, held, heldAnswer, deliverAnswer}
+use Rattle.rules.specs.Deliver.{admitAnswer, isHeld, heldAnswer, deliverAnswer}
 use Rattle.rules.specs.Sound.{sound}
 use Rattle.rules.proofs.FileLaws.{WideLog, logOf-fileOf, file-end, length-file, counts-logOf}
 use Rattle.rules.proofs.AppendLaws.{wide-append, Admits, in-range, sum-append}
@@ -50,7 +50,7 @@ admitted w f r n e =
     let s = required _ _ _ n e in
     let l = required _ _ _ n (s .1) in
     let m = required _ _ _ n (l .1) in
-    let h = fresh (held (logOf w f) r) _ _ _ n (m .1) in
+    let h = fresh (isHeld (logOf w f) r) _ _ _ n (m .1) in
     let c = required _ _ _ n (h .1) in
     let d = required _ _ _ n (c .1) in
     let k = required _ _ _ n (d .1) in

@@ -13,7 +13,7 @@ use Rattle.rules.specs.Bytes.{wordAt, word}
 use Rattle.rules.specs.Op.{Op, Vector, isReplica, countIn, kindOf, replicaOf, nodeOf, parentOf, vectorOf, ownCount, seqOf, nodeNumber, isAdd, isRemove, wellFormed}
 use Rattle.rules.specs.File.{Log, countsOf, fileEnd, logOf, width}
 use Rattle.rules.specs.Log.{known, knownParent, namesKnown}
-use Rattle.rules.specs.Deliver.{held}
+use Rattle.rules.specs.Deliver.{isHeld}
 use Rattle.rules.specs.Tree.{depth, moveKind}
 use Rattle.rules.specs.Replay.{parentsOf}
 use Rattle.rules.specs.Issue.{Request, add, remove, move, opBytes, issued, requestKnown, issueAnswer, requestClear}
@@ -63,8 +63,8 @@ module _ (log : Log) (g : GoodLog log) where
         and-both (and-both (and-both ls kind) (lt-ltb (ownCount r) 255 (omega (arith, own))))
         (rw (bytes-parent k s n p (countsOf log)) parent)
 
-    new : held log r ≡ false
-    unfolding held seqOf replicaOf opBytes
+    new : isHeld log r ≡ false
+    unfolding isHeld seqOf replicaOf opBytes
     new = lt-leb (ownCount r + 1) (countIn (countsOf log) s) (omega (arith, own))
 
     issue-admits : namesKnown log r ≡ true → Admits log r

@@ -13,7 +13,7 @@ use Rattle.rules.specs.Op.{Op, Vector, replicas, countIn, replicaOf, vec
 use Rattle.rules.specs.File.{Log, opsOf, opAt, countsOf, headerCounts, endOf, fileEnd, logOf, largest}
 use Rattle.rules.specs.Log.{covered}
 use Rattle.rules.specs.Answer.{Answer, refused, hadIt, accepted, require}
-use Rattle.rules.specs.Deliver.{admitAnswer, held, heldAnswer, deliverAnswer}
+use Rattle.rules.specs.Deliver.{admitAnswer, isHeld, heldAnswer, deliverAnswer}
 use Rattle.rules.specs.Sound.{sound}
 use Rattle.rules.proofs.FileLaws.{length-counts, vector-eta, Wide, WideLog, wide-at, counts-logOf}
 use Rattle.rules.proofs.AppendLaws.{SameWithin, closed-more, names-more}
@@ -26,7 +26,7 @@ use Rattle.rules.proofs.SoundLaws.{sound-good, SoundLog}
 -- an answer of a round, to the op r at a log
 pub data Offered (log : Log) (r : Op) (n : ℕ) : Answer → Type 0 where
   taken : Offered log r n (accepted n)
-  had : held log r ≡ true → Offered log r n hadIt
+  had : isHeld log r ≡ true → Offered log r n hadIt
   early : covered log (vectorOf r) ≡ false → Offered log r n (refused 5)
 
 -- where both hold an op of a replica and number, it is the same
@@ -77,20 +77,20 @@ module _ (w : ℕ) (u : Log) (su : SoundLog u) (wu : WideLog w u) (g : List ℕ)
   unfolding opAt opsOf
   long = wide-op w (opsOf u s) (q - 1) (wide-at w u (s - 1) wu) (omega (arith, count-held u s))
 
-  is-held : held (logOf w g) r ≡ true → heldAnswer (logOf w g) r ≡ hadIt
-  unfolding held heldAnswer require
+  is-held : isHeld (logOf w g) r ≡ true → heldAnswer (logOf w g) r ≡ hadIt
+  unfolding isHeld heldAnswer require
   is-held e =
       let m : q ≤ countIn (countsOf (logOf w g)) s = rw (x .origin, x .number) at
       (leb-true (seqOf r) (countIn (countsOf (logOf w g)) (replicaOf r)) e) in
       rw (x .origin, x .number, ag s q l h lq uq m, same-refl)
 
-  pub offered : (room : held (logOf w g) r ≡ false → fileEnd w g + w ≤ length g)
+  pub offered : (room : isHeld (logOf w g) r ≡ false → fileEnd w g + w ≤ length g)
       → Offered (logOf w g) r (fileEnd w g + w) (deliverAnswer w g r)
   unfolding deliverAnswer admitAnswer require
   offered room =
-      rw (sg, eq-eqb (length r) w long, x .formed) (go (held (logOf w g) r) refl)
+      rw (sg, eq-eqb (length r) w long, x .formed) (go (isHeld (logOf w g) r) refl)
     where
-      admit : (b : Bool) → covered (logOf w g) (vectorOf r) ≡ b → held (logOf w g) r ≡ false
+      admit : (b : Bool) → covered (logOf w g) (vectorOf r) ≡ b → isHeld (logOf w g) r ≡ false
           → Offered (logOf w g) r (fileEnd w g + w) (admitAnswer w g r)
       admit false e n = rw e (early e)
       admit true e n =
@@ -100,14 +100,14 @@ module _ (w : ℕ) (u : Log) (su : SoundLog u) (wu : WideLog w u) (g : List ℕ)
           rw (e, closed-more u (logOf w g) (vectorOf r) sw, x .is-closed, names-more u (logOf w g) r sw, x .names, le-leb _ _ (room n))
           taken
 
-      go : (b : Bool) → held (logOf w g) r ≡ b
+      go : (b : Bool) → isHeld (logOf w g) r ≡ b
           → Offered (logOf w g) r (fileEnd w g + w) (cond b (heldAnswer (logOf w g) r) (admitAnswer w g r))
       go true e = rw (is-held e) (had e)
       go false e = admit (covered (logOf w g) (vectorOf r)) refl e
 
   -- in a buffer for all ops there is room for one that is not held
   pub offered-in-full : largest w ≤ length g → Offered (logOf w g) r (fileEnd w g + w) (deliverAnswer w g r)
-  unfolding held fileEnd endOf
+  unfolding isHeld fileEnd endOf
   offered-in-full big =
       let gg = sound-good w g sg in
       let c = counts-logOf w g in

@@ -9,7 +9,7 @@ use Rattle.rules.specs.Answer.{accepted}
 use Rattle.rules.specs.Op.{Op, countIn, replicaOf, seqOf, ownCount, vectorOf}
 use Rattle.rules.specs.File.{Log, Extends, logOf, countsOf, fileEnd, width}
 use Rattle.rules.specs.Sound.{sound}
-use Rattle.rules.specs.Deliver.{held, deliverAnswer}
+use Rattle.rules.specs.Deliver.{isHeld, deliverAnswer}
 use Rattle.rules.specs.Issue.{Request, add, remove, move, opBytes, issued, issueAnswer, issueOut}
 use Rattle.rules.proofs.AppendLaws.{admits-more}
 use Rattle.rules.proofs.DeliverLaws.{delivered}
@@ -34,7 +34,7 @@ issued-vector log g s (move n p) = bytes-vector _ s _ _ (countsOf log) (counts-e
 pub record NextOp (log : Log) (s : ℕ) (r : Op) : Type 0 where
   pub origin : replicaOf r ≡ s
   pub sequence : seqOf r ≡ countIn (countsOf log) s + 1
-  pub accepted-by : (g : List ℕ) → sound width g ≡ true → Extends log (logOf width g) → held (logOf width g) r ≡ false
+  pub accepted-by : (g : List ℕ) → sound width g ≡ true → Extends log (logOf width g) → isHeld (logOf width g) r ≡ false
       → fileEnd width g + width ≤ length g → deliverAnswer width g r ≡ accepted (fileEnd width g + width)
 
 module _ (f out : List ℕ) (s : ℕ) (q : Request) (n : ℕ) (e : issueAnswer width f (length out) s q ≡ accepted n) where

@@ -1,5 +1,5 @@
 -- Laws of the eight replicas.
-use lib.Dec.{leb, lit≤}
+use lib.Dec.{leb}
 use Rattle.rules.specs.Op.{isReplica, replicas}
 use mathlib.Core.Path.{_≡_, refl}
 use mathlib.Core.Bool.{Bool, true, false, _&&_}
@@ -8,7 +8,7 @@ use Prim.Native.Nat.{ℕ, zero, suc, _+_, _≤_, _<_, _-_}
 use native.Mathlib.Omega.{arith}
 use native.Mathlib.Numerals.{add-one}
 use Rattle.lists.specs.Lists.{upFrom, all}
-use Rattle.lists.proofs.RangeLaws.{all-from, fails-from}
+use Rattle.lists.proofs.RangeLaws.{all-alike-from, all-from, fails-from, map-upFrom}
 use Rattle.lists.proofs.BoolLaws.{and-both, and-left, and-right}
 use borrow.Author.Tests.{le-leb, leb-true}
 
@@ -24,39 +24,17 @@ pub in-replicas : (s : ℕ) → 1 ≤ s → s ≤ 8 → isReplica s ≡ true
 unfolding isReplica
 in-replicas s l u = and-both (le-leb 1 s l) (le-leb s 8 u)
 
+pub all-alike : (p q : ℕ → Bool) → ((s : ℕ) → 1 ≤ s → s ≤ 8 → p s ≡ q s) → all p replicas ≡ all q replicas
+unfolding replicas
+all-alike p q h = all-alike-from p q 8 1 (λ s l u. h s l (omega arith))
+
 pub all-replicas : (p : ℕ → Bool) → ((s : ℕ) → 1 ≤ s → s ≤ 8 → p s ≡ true) → all p replicas ≡ true
 unfolding all replicas upFrom
-all-replicas p h =
-    rw (
-      h 1 (lit≤ tt) (lit≤ tt),
-      h 2 (lit≤ tt) (lit≤ tt),
-      h 3 (lit≤ tt) (lit≤ tt),
-      h 4 (lit≤ tt) (lit≤ tt),
-      h 5 (lit≤ tt) (lit≤ tt),
-      h 6
-          (lit≤ tt) (lit≤ tt),
-      h 7 (lit≤ tt) (lit≤ tt),
-      h 8 (lit≤ tt) (lit≤ tt),
-    )
+all-replicas p h = all-alike p (λ _. true) h
 
 pub replica-passes : (p : ℕ → Bool) → all p replicas ≡ true → (s : ℕ) → 1 ≤ s → s ≤ 8 → p s ≡ true
 unfolding replicas
 replica-passes p e s l u = all-from p 8 1 e s l (omega arith)
-
-pub all-alike : (p q : ℕ → Bool) → ((s : ℕ) → 1 ≤ s → s ≤ 8 → p s ≡ q s) → all p replicas ≡ all q replicas
-unfolding all replicas upFrom
-all-alike p q h =
-    rw (
-      h 1 (lit≤ tt) (lit≤ tt),
-      h 2 (lit≤ tt) (lit≤ tt),
-      h 3 (lit≤ tt) (lit≤ tt),
-      h 4 (lit≤ tt) (lit≤ tt),
-      h 5 (lit≤ tt) (lit≤ tt),
-      h 6
-          (lit≤ tt) (lit≤ tt),
-      h 7 (lit≤ tt) (lit≤ tt),
-      h 8 (lit≤ tt) (lit≤ tt),
-    )
 
 pub replica-fails : (p : ℕ → Bool) → all p replicas ≡ false → (s : ℕ) × (1 ≤ s) × (s ≤ 8) × (p s ≡ false)
 unfolding replicas
@@ -76,19 +54,8 @@ replica-cases P a b c d e f g h (suc (suc (suc (suc (suc (suc (suc (suc zero))))
 replica-cases P a b c d e f g h (suc (suc (suc (suc (suc (suc (suc (suc (suc n))))))))) l u = absurd (omega arith)
 
 pub map-replicas : {A : Type 0} (g h : ℕ → A) → ((s : ℕ) → 1 ≤ s → s ≤ 8 → g s ≡ h s) → map g replicas ≡ map h replicas
-unfolding replicas upFrom
-map-replicas g h e =
-    rw (
-      e 1 (lit≤ tt) (lit≤ tt),
-      e 2 (lit≤ tt) (lit≤ tt),
-      e 3 (lit≤ tt) (lit≤ tt),
-      e 4 (lit≤ tt) (lit≤ tt),
-      e 5 (lit≤ tt) (lit≤ tt),
-      e 6
-          (lit≤ tt) (lit≤ tt),
-      e 7 (lit≤ tt) (lit≤ tt),
-      e 8 (lit≤ tt) (lit≤ tt),
-    )
+unfolding replicas
+map-replicas g h e = map-upFrom g h 8 1 (λ s l u. e s l (omega arith))
 
 ---- a test of each replica, from place i on
 

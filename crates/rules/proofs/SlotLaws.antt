@@ -1,5 +1,5 @@
 -- Laws of the slots of nodes.
-use Rattle.rules.specs.Tree.{slot, slotOf}
+use Rattle.rules.specs.Tree.{slot, slotOf, slots}
 use Prim.Native.Nat.{_%_, _*_, _+_, _-_, _/_, _<_, _≤_, ℕ}
 use mathlib.Core.Path.{_∙_, _≡_, sym}
 use mathlib.Core.Logic.{_⊎_, inl, inr}
@@ -19,7 +19,7 @@ pub slot-root : (n : ℕ) → n ≡ 0 → slotOf n ≡ 0
 unfolding slotOf
 slot-root n e = rw e
 
-pub slot-below : (n : ℕ) → Valid n → slotOf n < 2041
+pub slot-below : (n : ℕ) → Valid n → slotOf n < slots
 unfolding slotOf slot
 slot-below n (inl e) = rw e (lit≤ tt)
 slot-below n (inr h) = omega (arith, slot-node n h)

@@ -30,8 +30,8 @@ make w f = record { answer = makeAnswer f; buffer = makeBuffer w f }
 ---- delivering: tests 1, 2, 3, then whether the sequence is held already, then 5, 6, 7, 8
 
 -- the log has an op of this replica and sequence
-unfoldable pub held : Log → Op → Bool
-held log r = leb (seqOf r) (countIn (countsOf log) (replicaOf r))
+unfoldable pub isHeld : Log → Op → Bool
+isHeld log r = leb (seqOf r) (countIn (countsOf log) (replicaOf r))
 
 -- "same bytes: answer had it; else 4"
 unfoldable pub heldAnswer : Log → Op → Answer
@@ -49,7 +49,7 @@ unfoldable pub deliverAnswer : ℕ → List ℕ → List ℕ → Answer
 deliverAnswer w f r =
     require (sound w f) 1
     (require (eqb (length r) w) 2
-    (require (wellFormed r) 3 (cond (held (logOf w f) r) (heldAnswer (logOf w f) r) (admitAnswer w f r))))
+    (require (wellFormed r) 3 (cond (isHeld (logOf w f) r) (heldAnswer (logOf w f) r) (admitAnswer w f r))))
 
 unfoldable pub deliverBuffer : ℕ → List ℕ → List ℕ → List ℕ
 deliverBuffer w f r = ifAccepted (deliverAnswer w f r) (appended w f r) f

@@ -8,7 +8,7 @@ use native.Mathlib.Nat.{le-of-suc-le-suc, not-suc-le-zero}
 use Rattle.rules.specs.Answer.{Answer, refused, hadIt, done, accepted, require}
 use Rattle.rules.specs.Bytes.{wordAt, word}
 use Rattle.lists.specs.Lists.{upFrom, downFrom, sum, greatest, same, concat, all, any, filter, isIn}
-use Rattle.rules.specs.Deliver.{makeAnswer, held, heldAnswer, admitAnswer, deliverAnswer}
+use Rattle.rules.specs.Deliver.{makeAnswer, isHeld, heldAnswer, admitAnswer, deliverAnswer}
 use Rattle.rules.specs.Issue.{Request, add, remove, move, opBytes, issued, requestKnown, requestClear, issueAnswer, issueOut}
 use Rattle.rules.specs.Tree.{moveKind, slots, slot, slotOf, parentIn, climb, path, depth, atOrBelow}
 use Rattle.rules.specs.Judge.{judgeAnswer}
@@ -20,7 +20,7 @@ use Rattle.rules.specs.Path.{pathOf, pathAnswer, pathCall}
 use Rattle.rules.specs.Replay.{opsWithin, addedIn, removedIn, timestampIn, timestamp, stamp, stamped, ofReplica, ofKind, ofTime, byTime, ordered, start, outcomeSlot, outcomeOf, step, replay, parentsOf, outcomesOf}
 use Rattle.rules.specs.Sound.{sound}
 use Rattle.rules.specs.Views.{View, keeping, skipping, nodes, shown}
-use Rattle.rules.specs.Marks.{tombstone}
+use Rattle.rules.specs.Marks.{marked}
 
 -- what a function says of each op of a log, replica by replica
 unfoldable pub ofOps : (ℕ → ℕ → ℕ) → Log → List (List ℕ)
@@ -280,10 +280,10 @@ unfolding ofOps table p1 p1File p1Buffer emptyFile p10 p11 p11All p12 p12All riv
     word upFrom downFrom sum greatest same concat all any filter isIn replicas isReplica countIn kindOf replicaOf nodeOf parentOf
     vectorOf ownCount seqOf nodeNumber isAdd isRemove isMove wellFormed emptyLog opsOf opAt countsOf append countAt startAt headerCounts
     startOf endOf fileEnd chunks chunksOf logOf headerEntry headerOf fileOf within covered closedAt closed nodeWithin known knownParent
-    namesKnown soundOp soundOps soundLog soundHeader laid structural sound makeAnswer held heldAnswer admitAnswer deliverAnswer slot
+    namesKnown soundOp soundOps soundLog soundHeader laid structural sound makeAnswer isHeld heldAnswer admitAnswer deliverAnswer slot
     slotOf parentIn climb path depth atOrBelow opsWithin addedIn removedIn timestampIn timestamp stamp stamped ofReplica ofKind ofTime
     byTime ordered start outcomeSlot outcomeOf step replay parentsOf outcomesOf opBytes moveKind issued requestKnown requestClear
-    issueAnswer issueOut nodes tombstone shown children preorder digits decimal lineOf line listingIn listingOf listingAnswer listing
+    issueAnswer issueOut nodes marked shown children preorder digits decimal lineOf line listingIn listingOf listingAnswer listing
     refusedLine outline judgeAnswer pathOf pathAnswer pathCall
 table-holds =
     (refl, refl) & refl & refl & refl & refl & refl & refl & refl & refl & refl & refl & refl & refl & refl & refl

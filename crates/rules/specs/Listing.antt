@@ -12,7 +12,7 @@ use Rattle.rules.specs.Tree.{slots, parentIn, depth}
 use Rattle.rules.specs.Replay.{parentsOf}
 use Rattle.rules.specs.Path.{Written}
 use Rattle.rules.specs.Views.{nodes, View, keeping, shown}
-use Rattle.rules.specs.Marks.{tombstone}
+use Rattle.rules.specs.Marks.{marked}
 
 unfoldable pub children : Log → List ℕ → ℕ → List ℕ
 children log parents n = filter (λ m. eqb (parentIn parents m) n) (nodes log)
@@ -31,11 +31,11 @@ unfoldable pub decimal : ℕ → List ℕ
 decimal n = digits 5 n
 
 -- "depth, space, node number, space, k or r, line feed"
-unfoldable pub lineOf : (depth node : ℕ) (removed : Bool) → List ℕ
-lineOf d n removed = decimal d ++ (32 ∷ (decimal n ++ (32 ∷ cond removed 114 107 ∷ 10 ∷ [])))
+unfoldable pub lineOf : (depth node : ℕ) (marked : Bool) → List ℕ
+lineOf d n m = decimal d ++ (32 ∷ (decimal n ++ (32 ∷ cond m 114 107 ∷ 10 ∷ [])))
 
 unfoldable pub line : Log → List ℕ → ℕ → List ℕ
-line log parents n = lineOf (depth parents n) n (tombstone log (countsOf log) n)
+line log parents n = lineOf (depth parents n) n (marked log (countsOf log) n)
 
 unfoldable pub listingIn : View → Log → List ℕ → List ℕ
 listingIn view log parents = concat (map (line log parents) (filter (shown view log parents) (preorder slots log parents 0)))

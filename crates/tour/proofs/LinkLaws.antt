@@ -24,22 +24,22 @@ abbrev pub Chain : List ℕ → ℕ → List ℕ → Type 0
 Chain next x [] = x ≡ 0
 Chain next x (y ∷ ys) = (x ≡ y) × (y ≡ 0 → ⊥) × Chain next (atNode next y) ys
 
-module _ (parents hidden : List ℕ) (entries : (k : ℕ) → 0 < k → k < 2041 → (getD parents k 0 ≡ noParent) ⊎ Valid (getD parents k 0)) where
+module _ (parents hidden : List ℕ) (entries : (k : ℕ) → 0 < k → k < slots → (getD parents k 0 ≡ noParent) ⊎ Valid (getD parents k 0)) where
   abbrev under : ℕ → ℕ → Bool
   under n k = eqb (getD parents k 0) n && eqb (getD hidden k 0) 0
 
   -- the children of n that are not hidden, from slot i on
   abbrev pub kids : ℕ → ℕ → List ℕ
-  kids i n = map slotNode (filter (under n) (upFrom i (2041 - i)))
+  kids i n = map slotNode (filter (under n) (upFrom i (slots - i)))
 
   pub record Linked (i : ℕ) (l : Links) : Type 0 where
-    pub first-size : length (l .first) ≡ 2041
-    pub next-size : length (l .next) ≡ 2041
+    pub first-size : length (l .first) ≡ slots
+    pub next-size : length (l .next) ≡ slots
     pub root-last : getD (l .next) 0 0 ≡ 0
     pub chains : (n : ℕ) → Valid n → Chain (l .next) (atNode (l .first) n) (kids i n)
 
   -- a slot below those of a chain may change
-  chain-kept : (next : List ℕ) (k v : ℕ) (q : ℕ → Bool) (m i x : ℕ) → k < i → i + m ≤ 2041
+  chain-kept : (next : List ℕ) (k v : ℕ) (q : ℕ → Bool) (m i x : ℕ) → k < i → i + m ≤ slots
       → Chain next x (map slotNode (filter q (upFrom i m))) → Chain (set next k v) x (map slotNode (filter q (upFrom i m)))
   unfolding filter upFrom
   chain-kept next k v q zero i x h b c = c
@@ -55,19 +55,19 @@ module _ (parents hidden : List ℕ) (entries : (k : ℕ) → 0 < k → k < 2041
       go true x (a, b, c) ih = (a, b, rw same (ih _ c))
       go false x c ih = ih x c
 
-  kids-turn : (k n : ℕ) → k < 2041 → kids k n ≡ cond (under n k) (slotNode k ∷ kids (suc k) n) (kids (suc k) n)
+  kids-turn : (k n : ℕ) → k < slots → kids k n ≡ cond (under n k) (slotNode k ∷ kids (suc k) n) (kids (suc k) n)
   unfolding filter upFrom
-  kids-turn k n h = let e : 2041 - k ≡ suc (2041 - suc k) = omega arith in rw e (go (under n k))
+  kids-turn k n h = let e : slots - k ≡ suc (slots - suc k) = omega arith in rw e (go (under n k))
     where
-      go : (b : Bool) → map slotNode (cond b (k ∷ filter (under n) (upFrom (suc k) (2041 - suc k)))
-          (filter (under n) (upFrom (suc k) (2041 - suc k)))) ≡ cond b (slotNode k ∷ kids (suc k) n) (kids (suc k) n)
+      go : (b : Bool) → map slotNode (cond b (k ∷ filter (under n) (upFrom (suc k) (slots - suc k)))
+          (filter (under n) (upFrom (suc k) (slots - suc k)))) ≡ cond b (slotNode k ∷ kids (suc k) n) (kids (suc k) n)
       go true = refl
       go false = refl
 
-  not-under : (k n : ℕ) → k < 2041 → under n k ≡ false → kids k n ≡ kids (suc k) n
+  not-under : (k n : ℕ) → k < slots → under n k ≡ false → kids k n ≡ kids (suc k) n
   not-under k n h e = kids-turn k n h ∙ rw e
 
-  module _ (k : ℕ) (p : 0 < k) (u : k < 2041) (l : Links) (d : Linked (suc k) l) (vp : Valid (getD parents k 0))
+  module _ (k : ℕ) (p : 0 < k) (u : k < slots) (l : Links) (d : Linked (suc k) l) (vp : Valid (getD parents k 0))
       (shown : eqb (getD hidden k 0) 0 ≡ true) where
     abbrev q : ℕ
     q = getD parents k 0
@@ -76,7 +76,7 @@ module _ (parents hidden : List ℕ) (entries : (k : ℕ) → 0 < k → k < 2041
     after = links (set (l .first) (slotIn q) (slotNode k)) (set (l .next) k (getD (l .first) (slotIn q) 0))
 
     rest : (n : ℕ) → Valid n → Chain (after .next) (atNode (l .first) n) (kids (suc k) n)
-    rest n v = chain-kept (l .next) k (getD (l .first) (slotIn q) 0) (under n) (2041 - suc k) (suc k) (atNode (l .first) n) (omega arith)
+    rest n v = chain-kept (l .next) k (getD (l .first) (slotIn q) 0) (under n) (slots - suc k) (suc k) (atNode (l .first) n) (omega arith)
         (omega arith) (d .chains n v)
 
     linked-here : (n : ℕ) → Valid n → q ≡ n → Chain (after .next) (atNode (after .first) n) (kids k n)
@@ -101,7 +101,7 @@ module _ (parents hidden : List ℕ) (entries : (k : ℕ) → 0 < k → k < 2041
       chains = λ n v. elim (ℕ-discrete q n) [ yes z ↦ linked-here n v z | no nz ↦ linked-else n v nz ];
     }
 
-  link-step : (k : ℕ) → 0 < k → k < 2041 → (l : Links) → Linked (suc k) l → Linked k (linkSlot parents hidden l k)
+  link-step : (k : ℕ) → 0 < k → k < slots → (l : Links) → Linked (suc k) l → Linked k (linkSlot parents hidden l k)
   unfolding linkSlot
   link-step k p u l d = ⊎-elim bare hangs (entries k p u)
     where
@@ -125,12 +125,12 @@ module _ (parents hidden : List ℕ) (entries : (k : ℕ) → 0 < k → k < 2041
       hangs : Valid (getD parents k 0) → Linked k (linkSlot parents hidden l k)
       hangs vp = rw (ne-eqb _ _ (valid-parent (getD parents k 0) vp)) (go vp (eqb (getD hidden k 0) 0) refl)
 
-  link-all : (k : ℕ) → k < 2041 → (l : Links) → Linked (suc k) l → Linked 1 (foldl (linkSlot parents hidden) l (downFrom k))
+  link-all : (k : ℕ) → k < slots → (l : Links) → Linked (suc k) l → Linked 1 (foldl (linkSlot parents hidden) l (downFrom k))
   unfolding downFrom
   link-all zero u l d = d
   link-all (suc k) u l d = link-all k (omega arith) (linkSlot parents hidden l (suc k)) (link-step (suc k) (omega arith) u l d)
 
-  no-kids : (n : ℕ) → kids 2041 n ≡ []
+  no-kids : (n : ℕ) → kids slots n ≡ []
   unfolding filter upFrom
   no-kids n = refl
 

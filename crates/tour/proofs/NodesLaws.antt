@@ -24,7 +24,7 @@ use Rattle.rules.specs.File.{Log, countsOf, opAt, opsOf}
 use Rattle.rules.specs.Log.{known}
 use Rattle.rules.specs.Op.{Op, countIn, isAdd, nodeNumber, nodeOf, replicas}
 use Rattle.rules.specs.Replay.{addedIn, opsWithin, parentsOf}
-use Rattle.rules.specs.Tree.{noParent, parentIn}
+use Rattle.rules.specs.Tree.{noParent, parentIn, slots}
 use Rattle.rules.specs.Views.{nodes}
 use Rattle.lists.proofs.FilterLaws.{filter-map-filter, map-filter-concat, none-from}
 use Rattle.tree.proofs.SlotLaws.{node-nonzero, node-slot, seat-node, slot-node}
@@ -115,13 +115,13 @@ module _ (log : Log) (good : GoodLog log) where
       ∙ ap (λ ks. map slotNode (filter held ks)) (blocks 255 8 1 (omega arith))
 
   -- a slot's parent entry
-  slot-parent : (k : ℕ) → 0 < k → k < 2041 → parentIn (parentsOf log) (slotNode k) ≡ getD (parentsOf log) k 0
+  slot-parent : (k : ℕ) → 0 < k → k < slots → parentIn (parentsOf log) (slotNode k) ≡ getD (parentsOf log) k 0
   slot-parent k l u = parent-read (parentsOf log) (slotNode k) k (sym (slot-node k l u)) (table-size log good) (rw (slot-node k l u) u)
 
-  pub held-parent : (k : ℕ) → 0 < k → k < 2041 → held k ≡ true → Named log (countsOf log) (getD (parentsOf log) k 0)
+  pub held-parent : (k : ℕ) → 0 < k → k < slots → held k ≡ true → Named log (countsOf log) (getD (parentsOf log) k 0)
   held-parent k l u h = rw (← slot-parent k l u) (named-parent log good (slotNode k) (inr h) (node-nonzero k l))
 
-  pub unheld-parent : (k : ℕ) → 0 < k → k < 2041 → held k ≡ false → getD (parentsOf log) k 0 ≡ noParent
+  pub unheld-parent : (k : ℕ) → 0 < k → k < slots → held k ≡ false → getD (parentsOf log) k 0 ≡ noParent
   unfolding parentsOf
   unheld-parent k l u h = is-tree log good (countsOf log) (whole log good) .bare k l u (λ n e q.
       let w : known log (countsOf log) n ≡ true = sym (added-is log good (countsOf log) (whole log good) n) ∙ e in
@@ -129,7 +129,7 @@ module _ (log : Log) (good : GoodLog log) where
       never (sym (rw m at h) ∙ w))
 
   -- the table has a known node, the root, or no parent
-  pub slot-entry : (k : ℕ) → 0 < k → k < 2041 → (getD (parentsOf log) k 0 ≡ noParent) ⊎ Valid (getD (parentsOf log) k 0)
+  pub slot-entry : (k : ℕ) → 0 < k → k < slots → (getD (parentsOf log) k 0 ≡ noParent) ⊎ Valid (getD (parentsOf log) k 0)
   slot-entry k l u = go (held k) refl
     where
       go : (b : Bool) → held k ≡ b → (getD (parentsOf log) k 0 ≡ noParent) ⊎ Valid (getD (parentsOf log) k 0)
@@ -143,7 +143,7 @@ module _ (log : Log) (good : GoodLog log) where
   children-slots n v = rw nodes-slots (filter-map-filter (λ m. eqb (parentIn (parentsOf log) m) n) slotNode held
       (λ k. eqb (getD (parentsOf log) k 0) n) 2040 1 (λ k l u. same k (omega arith) (omega arith)))
     where
-      same : (k : ℕ) → 0 < k → k < 2041 → (held k && eqb (parentIn (parentsOf log) (slotNode k)) n) ≡ eqb (getD (parentsOf log) k 0) n
+      same : (k : ℕ) → 0 < k → k < slots → (held k && eqb (parentIn (parentsOf log) (slotNode k)) n) ≡ eqb (getD (parentsOf log) k 0) n
       same k l u = rw (slot-parent k l u) (go (held k) refl)
         where
           go : (b : Bool) → held k ≡ b → (b && eqb (getD (parentsOf log) k 0) n) ≡ eqb (getD (parentsOf log) k 0) n

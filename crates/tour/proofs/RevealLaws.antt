@@ -23,8 +23,8 @@ use Rattle.rules.specs.Log.{known}
 use Rattle.rules.specs.Replay.{parentsOf}
 use Rattle.rules.specs.Tree.{atOrBelow, climb, noParent, parentIn, path, slotOf, slots}
 use Rattle.rules.specs.Views.{keeping, shown}
-use Rattle.rules.specs.Marks.{tombstone}
-use Rattle.marks.proofs.MarkLaws.{mark-tombstone}
+use Rattle.rules.specs.Marks.{marked}
+use Rattle.marks.proofs.MarkLaws.{marks-say}
 use Rattle.tour.proofs.NodesLaws.{held-parent, nodes-slots, unheld-parent, valid-parent}
 use Rattle.lists.proofs.FilterLaws.{any-map-filter}
 use Rattle.tree.proofs.SlotLaws.{node-valid, slot-positive, slot-in-below, slot-in-node, slot-in-valid}
@@ -33,7 +33,7 @@ use Rattle.tour.specs.Tables.{allHidden, hiddenOf, reveal, revealSlot}
 use Rattle.tree.specs.Slots.{atNode, slotNode, slotIn}
 use Rattle.marks.specs.Marking.{marksOf}
 
-module _ (parents : List ℕ) (size : length parents ≡ 2041) where
+module _ (parents : List ℕ) (size : length parents ≡ slots) where
   abbrev shows : List ℕ → ℕ → Bool
   shows hidden n = eqb (atNode hidden n) 0
 
@@ -57,7 +57,7 @@ module _ (parents : List ℕ) (size : length parents ≡ 2041) where
       (λ t w. c (suc t) (omega arith)) (c 0 (omega arith) s) q)
       (or-cases (eqb m n) _ (rw (ne-eqb n 0 nz) at i))
 
-  show-one : (hidden : List ℕ) (n m : ℕ) → length hidden ≡ 2041 → Valid n → Valid m
+  show-one : (hidden : List ℕ) (n m : ℕ) → length hidden ≡ slots → Valid n → Valid m
       → shows (set hidden (slotIn n) 0) m ≡ (shows hidden m || eqb m n)
   show-one hidden n m l vn vm = elim (ℕ-discrete m n) [
     | yes e ↦ rw (e, getD-set-same hidden (slotIn n) 0 0 (omega (arith, slot-in-below n)), eq-eqb n n refl) (sym (or-true (shows hidden n)))
@@ -83,11 +83,11 @@ module _ (parents : List ℕ) (size : length parents ≡ 2041) where
       go false e = e
 
   abbrev Reveals : ℕ → Type 0
-  Reveals k = (j : ℕ) (hidden : List ℕ) (n m : ℕ) → length hidden ≡ 2041 → Depth parents j n → ((i : ℕ) → i ≤ j → Valid (up parents i n))
+  Reveals k = (j : ℕ) (hidden : List ℕ) (n m : ℕ) → length hidden ≡ slots → Depth parents j n → ((i : ℕ) → i ≤ j → Valid (up parents i n))
       → j < k → shows hidden 0 ≡ true → Closed hidden j n → Valid m
       → shows (reveal k parents hidden n) m ≡ (shows hidden m || isIn m (climb k parents n))
 
-  reveals-above : (k : ℕ) → Reveals k → (j : ℕ) (hidden : List ℕ) (n m : ℕ) → length hidden ≡ 2041 → Depth parents j n
+  reveals-above : (k : ℕ) → Reveals k → (j : ℕ) (hidden : List ℕ) (n m : ℕ) → length hidden ≡ slots → Depth parents j n
       → ((i : ℕ) → i ≤ j → Valid (up parents i n)) → j < suc k → shows hidden 0 ≡ true → Closed hidden j n → Valid m
       → shows hidden n ≡ false → shows (reveal k parents (set hidden (slotIn n) 0) (atNode parents n)) m ≡ (shows hidden m
       || isIn m (climb (suc k) parents n))
@@ -160,7 +160,7 @@ module _ (log : Log) (good : GoodLog log) where
     has-root : S 0 ≡ true
     upward : (c : ℕ) → Named log (countsOf log) c → (c ≡ 0 → ⊥) → S c ≡ true → S (parentIn P c) ≡ true
 
-  reveal-node : (n : ℕ) → Named log (countsOf log) n → (hidden : List ℕ) (S : ℕ → Bool) → length hidden ≡ 2041
+  reveal-node : (n : ℕ) → Named log (countsOf log) n → (hidden : List ℕ) (S : ℕ → Bool) → length hidden ≡ slots
       → ((m : ℕ) → Valid m → shows-in hidden m ≡ S m) → Upward S → (m : ℕ) → Valid m
       → shows-in (reveal slots P hidden n) m ≡ (S m || isIn m (path P n))
   unfolding path
@@ -173,7 +173,7 @@ module _ (log : Log) (good : GoodLog log) where
       (sym (is (up P i n) (v i (omega arith))) ∙ s)) in
       reveals P (table-size log good) slots j hidden n m l d v (omega arith) (is 0 (inl refl) ∙ u .has-root) c vm ∙ rw (is m vm)
 
-  reveal-slot : (k : ℕ) → 0 < k → k < 2041 → (hidden : List ℕ) (S : ℕ → Bool) → length hidden ≡ 2041
+  reveal-slot : (k : ℕ) → 0 < k → k < slots → (hidden : List ℕ) (S : ℕ → Bool) → length hidden ≡ slots
       → ((m : ℕ) → Valid m → shows-in hidden m ≡ S m) → Upward S → (m : ℕ) → Valid m
       → shows-in (revealSlot P marks hidden k) m ≡ (S m || (unmarked k && isIn m (path P (slotNode k))))
   unfolding revealSlot
@@ -211,7 +211,7 @@ module _ (log : Log) (good : GoodLog log) where
         (or-cases (S c) _ e);
   }
 
-  reveal-slots : (n a : ℕ) → 1 ≤ a → a + n ≤ 2041 → (hidden : List ℕ) (S : ℕ → Bool) → length hidden ≡ 2041
+  reveal-slots : (n a : ℕ) → 1 ≤ a → a + n ≤ slots → (hidden : List ℕ) (S : ℕ → Bool) → length hidden ≡ slots
       → ((m : ℕ) → Valid m → shows-in hidden m ≡ S m) → Upward S → (m : ℕ) → Valid m
       → shows-in (foldl (revealSlot P marks) hidden (upFrom a n)) m ≡ (S m || any (λ k. unmarked k && isIn m (path P (slotNode k)))
       (upFrom a n))
@@ -238,9 +238,9 @@ module _ (log : Log) (good : GoodLog log) where
             (slotOf m) 1 0 (slot-below m (inr v)),
       ) (sym (ne-eqb m 0 (λ e. omega arith)))
 
-  unmarked-is : (k : ℕ) → 0 < k → k < 2041 → eqb (getD marks k 0) 0 ≡ not (tombstone log (countsOf log) (slotNode k))
+  unmarked-is : (k : ℕ) → 0 < k → k < slots → eqb (getD marks k 0) 0 ≡ not (marked log (countsOf log) (slotNode k))
   unmarked-is k p b =
-      rw (← mark-tombstone log good (slotNode k) (node-valid k p b), slot-in-node k p b) (sym (not-not (eqb (getD marks k 0) 0)))
+      rw (← marks-say log good (slotNode k) (node-valid k p b), slot-in-node k p b) (sym (not-not (eqb (getD marks k 0) 0)))
 
   pub keeping-hidden : (m : ℕ) → Valid m → shows-in (hiddenOf P marks keeping) m ≡ shown keeping log P m
   unfolding hiddenOf allHidden shown atOrBelow
@@ -251,11 +251,11 @@ module _ (log : Log) (good : GoodLog log) where
       ∙ ap (λ (b : Bool). eqb m 0 || b) (sym (ap (any below) (nodes-slots log good)
       ∙ any-map-filter below slotNode held (λ k. unmarked k && isIn m (path P (slotNode k))) (slots - 1) 1 slot-is))
     where
-      -- x lies at or below m, and has no tombstone
+      -- x lies at or below m, and is unmarked
       below : ℕ → Bool
-      below x = isIn m (path P x) && not (tombstone log (countsOf log) x)
+      below x = isIn m (path P x) && not (marked log (countsOf log) x)
 
       slot-is : (k : ℕ) → 1 ≤ k → k < 1 + (slots - 1) → (held k && below (slotNode k)) ≡ (unmarked k && isIn m (path P (slotNode k)))
       slot-is k l u =
           rw (unmarked-is k l (omega arith))
-          (and-turn (held k) (isIn m (path P (slotNode k))) (not (tombstone log (countsOf log) (slotNode k))))
+          (and-turn (held k) (isIn m (path P (slotNode k))) (not (marked log (countsOf log) (slotNode k))))

@@ -14,25 +14,25 @@ pub slot-in-valid : (n : ℕ) → Valid n → slotIn n ≡ slotOf n
 unfolding slotIn
 slot-in-valid n v = rw (lt-ltb (slotOf n) slots (slot-below n v))
 
-pub slot-in-below : (n : ℕ) → slotIn n < 2041
+pub slot-in-below : (n : ℕ) → slotIn n < slots
 unfolding slotIn
 slot-in-below n = go (ltb (slotOf n) slots) refl
   where
-    go : (b : Bool) → ltb (slotOf n) slots ≡ b → cond b (slotOf n) 0 < 2041
+    go : (b : Bool) → ltb (slotOf n) slots ≡ b → cond b (slotOf n) 0 < slots
     go true e = ltb-true _ _ e
     go false e = lit≤ tt
 
-pub node-valid : (k : ℕ) → 0 < k → k < 2041 → Valid (slotNode k)
+pub node-valid : (k : ℕ) → 0 < k → k < slots → Valid (slotNode k)
 unfolding slotNode
 node-valid k l u = rw (ne-eqb k 0 (λ e. omega arith)) (inr (omega arith, omega arith, omega arith))
 
-pub slot-node : (k : ℕ) → 0 < k → k < 2041 → slotOf (slotNode k) ≡ k
+pub slot-node : (k : ℕ) → 0 < k → k < slots → slotOf (slotNode k) ≡ k
 unfolding slotNode slotOf slot
 slot-node k l u =
     let z : 256 * ((k - 1) / 255 + 1) + ((k - 1) % 255 + 1) ≡ 0 → ⊥ = λ e. omega arith in
     rw (ne-eqb k 0 (λ e. omega arith), ne-eqb _ 0 z) (omega arith)
 
-pub slot-in-node : (k : ℕ) → 0 < k → k < 2041 → slotIn (slotNode k) ≡ k
+pub slot-in-node : (k : ℕ) → 0 < k → k < slots → slotIn (slotNode k) ≡ k
 slot-in-node k l u = slot-in-valid (slotNode k) (node-valid k l u) ∙ slot-node k l u
 
 pub node-nonzero : (k : ℕ) → 0 < k → slotNode k ≡ 0 → ⊥
@@ -51,7 +51,7 @@ pub node-slot : (n : ℕ) → Valid n → slotNode (slotOf n) ≡ n
 node-slot n (inl e) = rw (e, slot-root 0 refl) node-root
 node-slot n (inr v) =
     let p : 0 < slotOf n = slot-positive n v in
-    let b : slotOf n < 2041 = slot-below n (inr v) in
+    let b : slotOf n < slots = slot-below n (inr v) in
     slot-injective (slotNode (slotOf n)) n (node-valid (slotOf n) p b) (inr v) (slot-node (slotOf n) p b)
 
 pub seat-node : (s i : ℕ) → 1 ≤ s → i < 255 → slotNode (255 * (s - 1) + 1 + i) ≡ 256 * s + (i + 1)

@@ -1,8 +1,7 @@
-pub mod ViewLaws
 pub mod ViewTheorems
+pub mod PutCases
 pub mod PathLaws
 pub mod PathCases
-pub mod PutCases
 pub mod ListingLaws
 pub mod LinkingCases
 pub mod LineCases

@@ -81,7 +81,7 @@ size-starts es count a =
 
 module _ (es : List ℕ) (count size i : ℕ) (s : Sizing es count size i) where
   pub size-on : i < count → (d n : ℕ) → d ≡ depthIn (getD es i 0) → n ≡ nodeIn (getD es i 0)
-      → (r : ℕ) → ((removed : Bool) → r ≡ length (lineOf d n removed)) × (r ≤ 14) → Sizing es count (size + r) (i + 1)
+      → (r : ℕ) → ((marked : Bool) → r ≡ length (lineOf d n marked)) × (r ≤ 14) → Sizing es count (size + r) (i + 1)
   size-on h d n ed en r (line, few) = record { toured = s .toured; some = omega arith; short = omega (arith, s .short); is = more }
     where
       more : (marks : List ℕ) → size + r ≡ length (linesOf marks (take (i + 1) es))

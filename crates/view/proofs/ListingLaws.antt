@@ -21,10 +21,10 @@ use Rattle.rules.specs.File.{Log, countsOf}
 use Rattle.rules.specs.Replay.{parentsOf}
 use Rattle.rules.specs.Tree.{climb, depth, path, slots}
 use Rattle.rules.specs.Views.{View, keeping, shown, skipping}
-use Rattle.rules.specs.Marks.{tombstone}
+use Rattle.rules.specs.Marks.{marked}
 use Rattle.lists.proofs.EachLaws.{Each, each-filter, each-map, map-each}
 use Rattle.tour.proofs.LinkLaws.{Chain, Linked, kids, links-right}
-use Rattle.marks.proofs.MarkLaws.{mark-tombstone}
+use Rattle.marks.proofs.MarkLaws.{marks-say}
 use Rattle.tour.proofs.NodesLaws.{children-slots, slot-entry}
 use Rattle.tour.proofs.OrderLaws.{pre-nodes}
 use Rattle.tour.proofs.PruneLaws.{pruned}
@@ -34,7 +34,7 @@ use Rattle.lists.proofs.BoolLaws.{not-not, under-and}
 use Rattle.tree.proofs.SlotLaws.{slot-in-node, slot-in-valid}
 use Rattle.tour.proofs.TourLaws.{pre, tour-root}
 use Rattle.order.proofs.TreePathLaws.{Under, children-under}
-use Rattle.view.proofs.ViewLaws.{keeping-child, root-shown, skipping-child}
+use Rattle.order.proofs.ViewLaws.{keeping-child, root-shown, skipping-child}
 use Rattle.tour.specs.Tables.{Links, entryOf, hiddenOf, linksOf, orderBy, tourOf}
 use Rattle.tree.specs.Slots.{atNode, slotNode}
 use Rattle.view.specs.Tables.{lineFor, linesOf, orderOf}
@@ -57,8 +57,8 @@ module _ (log : Log) (good : GoodLog log) where
   node-is-valid : (n : ℕ) → Node n → Valid n
   node-is-valid n w = named-valid log (countsOf log) n w
 
-  unmarked-node : (n : ℕ) → Valid n → eqb (atNode marks n) 0 ≡ not (tombstone log (countsOf log) n)
-  unmarked-node n v = rw (← mark-tombstone log good n v) (sym (not-not (eqb (atNode marks n) 0)))
+  unmarked-node : (n : ℕ) → Valid n → eqb (atNode marks n) 0 ≡ not (marked log (countsOf log) n)
+  unmarked-node n v = rw (← marks-say log good n v) (sym (not-not (eqb (atNode marks n) 0)))
 
   -- a node is shown if its parent is and it is not hidden itself
   shown-child : (view : View) (n c : ℕ) → Node n → Under log good n c
@@ -97,7 +97,7 @@ module _ (log : Log) (good : GoodLog log) where
     kids-under : (n : ℕ) → Each (Under log good n) (kidsOf n)
     kids-under n = each-filter _ unhidden (children log P n) (children-under log good n)
 
-    order-short : length (pre kidsOf slots 0) ≤ 2041
+    order-short : length (pre kidsOf slots 0) ≤ slots
     order-short = rw (← shown-order) (le-trans (filter-length (shown view log P) (preorder slots log P 0)) (preorder-length log good slots))
 
     order-nodes : Each Node (pre kidsOf slots 0)
@@ -109,7 +109,7 @@ module _ (log : Log) (good : GoodLog log) where
     withDepth n = entryOf n (depth P n)
 
     abbrev tree : ℕ → ℕ → List ℕ
-    tree d n = map withDepth (pre kidsOf (2041 - d) n)
+    tree d n = map withDepth (pre kidsOf (slots - d) n)
 
     record Good (d n : ℕ) : Type 0 where
       node : Named log (countsOf log) n
@@ -123,8 +123,8 @@ module _ (log : Log) (good : GoodLog log) where
 
     opens : (d n : ℕ) → Good d n → tree d n ≡ entryOf n d ∷ concat (map (tree (suc d)) (kidsOf n))
     opens d n g =
-        let e : 2041 - d ≡ suc (2041 - suc d) = omega (arith, g .low) in
-        rw (e, pre-turn kidsOf (2041 - suc d) n, depth-is d n g, map-concat withDepth (pre kidsOf (2041 - suc d)) (kidsOf n))
+        let e : slots - d ≡ suc (slots - suc d) = omega (arith, g .low) in
+        rw (e, pre-turn kidsOf (slots - suc d) n, depth-is d n g, map-concat withDepth (pre kidsOf (slots - suc d)) (kidsOf n))
 
     below : (d n : ℕ) → Good d n → Each (Good (suc d)) (kidsOf n)
     below d n g = each-map _ _ (kidsOf n) (λ c u.
@@ -153,7 +153,7 @@ module _ (log : Log) (good : GoodLog log) where
         let e : depth P n ≡ j = depth-is j n (record { node = w; deep = d; low = b }) in
         let x : (n * 65536 + depth P n) / 65536 ≡ n = omega arith in
         let y : (n * 65536 + depth P n) % 65536 ≡ depth P n = omega arith in
-        rw (x, y, mark-tombstone log good n (node-is-valid n w))
+        rw (x, y, marks-say log good n (node-is-valid n w))
 
     pub listing-is : linesOf marks (orderOf log view) ≡ listingOf view log
     unfolding orderBy linesOf listingOf listingIn

@@ -34,7 +34,7 @@ fn order_view(parents: &[u16], marks: &[u8], view: View, order: &mut [u32]) -> u
     tour(&first, &next, order)
 }
 
-// Arranges the nodes that a view shows, and marks those with a tombstone.
+// Arranges the nodes that a view shows, and marks those that ops remove.
 fn arrange_view(file: &[u8], view: View, marks: &mut [u8], order: &mut [u32]) -> usize
     requires { ⌜ Arrangeable (now file) (now marks) (now order) ⌝ }
     ensures { λ r. ⌜ (now (marks .exit) ≡ marksOf (logOf width (now (file .entry))))

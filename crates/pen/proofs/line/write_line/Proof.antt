@@ -13,7 +13,7 @@ use Rattle.pen.proofs.line.write_line.Tie as tie
 -- what is written, piece by piece, fits
 fits : (c : tie.Start) → let a = c .args in
     a .pen .bytes + (length (decimal (a .depth)) + length (decimal (a .node)) + 4) ≤ length (now (a .out))
-fits c = omega (arith, length-line (c .args .depth) (c .args .node) (c .args .removed), c .pre .room)
+fits c = omega (arith, length-line (c .args .depth) (c .args .node) (c .args .marked), c .pre .room)
 
 -- the depth, and a space
 first : (c : tie.After-put-decimal) → let a = c .before .before .before .args in
@@ -48,9 +48,9 @@ returns c =
     let a = s .args in
     let n = node .before .put-decimal2 in
     let d = depth .put-decimal in
-    let x = line-written _ _ _ _ _ _ _ _ _ (a .removed) (s .pre .room) (d .ensures .0) (d .ensures .1) (n .ensures .0) (n .ensures .1)
+    let x = line-written _ _ _ _ _ _ _ _ _ (a .marked) (s .pre .room) (d .ensures .0) (d .ensures .1) (n .ensures .0) (n .ensures .1)
     (c .before .mark-byte .ensures) in
-    let size = length-line (a .depth) (a .node) (a .removed) in
+    let size = length-line (a .depth) (a .node) (a .marked) in
     line-penned _ _ (a .pen) _ _ _ _ x (omega (arith, size, d .ensures .0, n .ensures .0))
 
 pub write-line-spec : {M : Type 1} → statement M

@@ -163,7 +163,7 @@ module _ {M : Type 1} (𝓤 : URA M) (H : Heap 𝓤) (A : Atoms 𝓤) (W : Given
           use1 W (‵ (fat fullShare T′.mir b′ o′ (mach h))) (W .laws .raw-at fullShare T′.mir b′ o′ (mach h)) $
           move ! (1 ∷ []) $ peeks ! T.the-row (Is T.the-row) (shows 𝓤 H A T.the-row) h (LL.vals T.the-type T′.the-laws h)
           (λ was. move ! (1 ∷ 0 ∷ []) $
-          -- [the pen's cell; what a Pen owns; the open borrow; obs; auth; true; the slice's token; what depth, node and removed own;
+          -- [the pen's cell; what a Pen owns; the open borrow; obs; auth; true; the slice's token; what depth, node and marked own;
           -- what the
           -- slice's borrow owns; _9; …; _1; …; room for _0; …]
           assigns ! (of-opd ! (load ! (from ! (hop ! (look ! 23 refl) (stop !))) (look ! 0 refl))) (from ! (stop !))
@@ -185,7 +185,7 @@ module _ {M : Type 1} (𝓤 : URA M) (H : Heap 𝓤) (A : Atoms 𝓤) (W : Given
           move ! (2 ∷ []) $ split ! $ move ! (1 ∷ []) $ peeks ! T.the-row (Is T.the-row) (shows 𝓤 H A T.the-row) r (w ∷ []) (λ is.
           -- [what the new pen owns; the slice's token; the last list; …; the pen's cell; what a Pen owns; the open borrow; obs; auth;
           -- true;
-          -- what depth, node and removed own; _9; …; _1; …; room for _0; …]
+          -- what depth, node and marked own; _9; …; _1; …; room for _0; …]
           land ! (from ! (stop !)) (init ! 17 refl (LL.lawful T.the-type T′.the-laws 𝓤 H A W .typed r _ is .0)) $
           assigns ! (of-opd ! (load ! (from ! (stop !)) (look ! 17 refl))) (from ! (hop ! (look ! 25 refl) (stop !)))
           (store-in ! 4 (whole !) (LL.lawful T.the-type T′.the-laws 𝓤 H A W .typed r _ is .0)) $

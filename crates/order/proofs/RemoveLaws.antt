@@ -20,7 +20,7 @@ use Rattle.rules.specs.File.{Log, countsOf, opAt, opsOf}
 use Rattle.rules.specs.Log.{known}
 use Rattle.rules.specs.Op.{Op, countIn, isRemove, kindOf, nodeOf, vectorOf}
 use Rattle.rules.specs.Replay.{opsWithin, removedIn}
-use Rattle.rules.specs.Marks.{tombstone}
+use Rattle.rules.specs.Marks.{marked}
 use Rattle.lists.proofs.GreatestLaws.{all-greatest}
 
 pub ops-all : (log : Log) → length log ≡ 8 → opsWithin log (countsOf log) ≡ concat log
@@ -63,6 +63,6 @@ module _ (log : Log) (good : GoodLog log) where
           let h = known-reads log (countsOf log) (nodeOf r) w .0 in
           rw (ne-eqb 0 (nodeOf r) (λ z. omega (arith, h .low)), ih)
 
-  pub root-unmarked : tombstone log (countsOf log) 0 ≡ false
-  unfolding tombstone removedIn
+  pub root-unmarked : marked log (countsOf log) 0 ≡ false
+  unfolding marked removedIn
   root-unmarked = root-in (opsWithin log (countsOf log)) removes-known

@@ -15,10 +15,10 @@ use Rattle.rules.specs.Log.{known}
 use Rattle.rules.specs.Replay.{parentsOf}
 use Rattle.rules.specs.Tree.{atOrBelow, path}
 use Rattle.rules.specs.Views.{View, keeping, nodes, shown, skipping}
-use Rattle.rules.specs.Marks.{tombstone}
+use Rattle.rules.specs.Marks.{marked}
 use Rattle.lists.proofs.MemberLaws.{any-more}
-use Rattle.order.proofs.TombstoneLaws.{root-unmarked}
+use Rattle.order.proofs.RemoveLaws.{root-unmarked}
 use Rattle.order.proofs.TreePathLaws.{Under, known-nonzero, nodes-known, path-child, path-closed, path-root}
 
 module _ (log : Log) (good : GoodLog log) where
   abbrev P : List ℕ
@@ -29,22 +29,22 @@ module _ (log : Log) (good : GoodLog log) where
 
   ---- the skipping view
 
-  skipping-path : (n : ℕ) → Node n → shown skipping log P n ≡ all (λ m. not (tombstone log (countsOf log) m)) (path P n)
+  skipping-path : (n : ℕ) → Node n → shown skipping log P n ≡ all (λ m. not (marked log (countsOf log) m)) (path P n)
   unfolding shown all
   skipping-path n (inl e) = rw (e, path-root log good, root-unmarked log good)
   skipping-path n (inr e) = rw (ne-eqb n 0 (known-nonzero log good n e))
 
   pub skipping-child : (n c : ℕ) → Node n → Under log good n c
-      → shown skipping log P c ≡ (shown skipping log P n && not (tombstone log (countsOf log) c))
+      → shown skipping log P c ≡ (shown skipping log P n && not (marked log (countsOf log) c))
   unfolding all
   skipping-child n c w u = skipping-path c (u .node) ∙ rw (path-child log good n c u, skipping-path n w)
-      (and-swap (not (tombstone log (countsOf log) c)) (all (λ m. not (tombstone log (countsOf log) m)) (path P n)))
+      (and-swap (not (marked log (countsOf log) c)) (all (λ m. not (marked log (countsOf log) m)) (path P n)))
 
   ---- the keeping view
 
-  -- m lies at or below n, and has no tombstone
+  -- m lies at or below n, and is unmarked
   abbrev unmarkedBelow : ℕ → ℕ → Bool
-  unmarkedBelow n m = isIn n (path P m) && not (tombstone log (countsOf log) m)
+  unmarkedBelow n m = isIn n (path P m) && not (marked log (countsOf log) m)
 
   pub keeping-child : (n c : ℕ) → Under log good n c → shown keeping log P c ≡ true → shown keeping log P n ≡ true
   unfolding shown atOrBelow
