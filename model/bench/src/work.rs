@@ -1,6 +1,7 @@
 //! What is measured: every call on logs of each shape and size.
 
 use crate::callgrind;
+use outline::plain;
 use outline_bench::careful;
 use outline_model::cases::examples;
 use outline_model::cases::world::{Style, World};
@@ -138,7 +139,7 @@ impl Work {
             parent,
             out: vec![0; OP_LEN],
             words: vec![0; SLOTS],
-            bytes: vec![0; outline::LONGEST_LISTING],
+            bytes: vec![0; plain::LONGEST_LISTING],
         }
     }
 
@@ -151,52 +152,52 @@ impl Work {
         }
         let buffer = black_box(&mut self.buffer[..]);
         match (self.call, side) {
-            (Call::Make, Side::Library) => callgrind::count(|| outline::make(buffer).is_ok()),
+            (Call::Make, Side::Library) => callgrind::count(|| plain::make(buffer).is_ok()),
             (Call::Make, Side::Rust) => accepted(|| careful::make(buffer)),
             (Call::Deliver, Side::Library) => {
-                callgrind::count(|| outline::deliver(buffer, &self.op).is_ok())
+                callgrind::count(|| plain::deliver(buffer, &self.op).is_ok())
             }
             (Call::Deliver, Side::Rust) => accepted(|| careful::deliver(buffer, &self.op)),
             (Call::Add, Side::Library) => callgrind::count(|| {
-                outline::issue_add(buffer, self.replica, self.parent, &mut self.out).is_ok()
+                plain::issue_add(buffer, self.replica, self.parent, &mut self.out).is_ok()
             }),
             (Call::Add, Side::Rust) => {
                 accepted(|| careful::issue_add(buffer, self.replica, self.parent, &mut self.out))
             }
             (Call::Remove, Side::Library) => callgrind::count(|| {
-                outline::issue_remove(buffer, self.replica, self.node, &mut self.out).is_ok()
+                plain::issue_remove(buffer, self.replica, self.node, &mut self.out).is_ok()
             }),
             (Call::Remove, Side::Rust) => {
                 accepted(|| careful::issue_remove(buffer, self.replica, self.node, &mut self.out))
             }
             (Call::Move, Side::Library) => callgrind::count(|| {
                 let (replica, node, parent) = (self.replica, self.node, self.parent);
-                outline::issue_move(buffer, replica, node, parent, &mut self.out).is_ok()
+                plain::issue_move(buffer, replica, node, parent, &mut self.out).is_ok()
             }),
             (Call::Move, Side::Rust) => accepted(|| {
                 let (replica, node, parent) = (self.replica, self.node, self.parent);
                 careful::issue_move(buffer, replica, node, parent, &mut self.out)
             }),
             (Call::Judge, Side::Library) => callgrind::count(|| {
-                outline::judge(buffer, &mut self.words, &mut self.bytes[..SLOTS]).is_ok()
+                plain::judge(buffer, &mut self.words, &mut self.bytes[..SLOTS]).is_ok()
             }),
             (Call::Judge, Side::Rust) => {
                 accepted(|| careful::judge(buffer, &mut self.words, &mut self.bytes[..SLOTS]))
             }
             (Call::Path, Side::Library) => {
-                callgrind::count(|| outline::path(buffer, self.node, &mut self.words).is_ok())
+                callgrind::count(|| plain::path(buffer, self.node, &mut self.words).is_ok())
             }
             (Call::Path, Side::Rust) => {
                 accepted(|| careful::path(buffer, self.node, &mut self.words))
             }
             (Call::Keeping, Side::Library) => callgrind::count(|| {
-                outline::listing(buffer, outline::View::Keeping, &mut self.bytes).is_ok()
+                plain::listing(buffer, outline::View::Keeping, &mut self.bytes).is_ok()
             }),
             (Call::Keeping, Side::Rust) => {
                 accepted(|| careful::listing(buffer, View::Keeping, &mut self.bytes))
             }
             (Call::Skipping, Side::Library) => callgrind::count(|| {
-                outline::listing(buffer, outline::View::Skipping, &mut self.bytes).is_ok()
+                plain::listing(buffer, outline::View::Skipping, &mut self.bytes).is_ok()
             }),
             (Call::Skipping, Side::Rust) => {
                 accepted(|| careful::listing(buffer, View::Skipping, &mut self.bytes))
