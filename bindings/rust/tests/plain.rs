@@ -20,15 +20,6 @@ fn two_nodes() -> Vec<u8> {
 }
 
 #[test]
-fn numbers_of_refusals() {
-    for (index, refusal) in Refusal::ALL.iter().copied().enumerate() {
-        assert_eq!(usize::from(refusal.number()), index + 1);
-        assert_eq!(Refusal::from_number(refusal.number()), Some(refusal));
-    }
-    assert_eq!(Refusal::from_number(0), None);
-}
-
-#[test]
 fn make_leaves_the_rest() {
     let buf = empty(40);
     assert_eq!(buf[..4], [0, 0, 0, 32]);
