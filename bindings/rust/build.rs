@@ -31,8 +31,10 @@ fn machine() {
     let target = (of("ARCH"), of("OS"), of("POINTER_WIDTH"));
     if target != ("x86_64".into(), "linux".into(), "64".into()) {
         let name = env::var("TARGET").unwrap_or_default();
-        eprintln!("The verified library is made for x86-64 Linux alone (x86_64-unknown-linux-gnu");
-        eprintln!("or -musl); this build is for {name}.");
+        eprintln!(
+            "The verified library is made for x86-64 Linux alone (x86_64-unknown-linux-gnu)."
+        );
+        eprintln!("This build is for {name}.");
         exit(1);
     }
 }

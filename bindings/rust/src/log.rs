@@ -234,10 +234,17 @@ impl Log {
     /// # Ok::<(), Refusal>(())
     /// ```
     pub fn ops_beyond(&self, vector: &Vector) -> Ops<'_> {
-        Ops {
+        let held = self.vector();
+        let beyond = |replica| held.count(replica).saturating_sub(vector.count(replica));
+        let mut ops = Ops {
             log: self,
-            done: vector.least(&self.vector()),
+            next: [None; Replica::COUNT],
+            left: Replica::all().map(beyond).map(usize::from).sum(),
+        };
+        for replica in Replica::all() {
+            ops.next[replica.index()] = self.op_after(replica, vector.count(replica));
         }
+        ops
     }
 
     /// The op of a replica and sequence, if it is held.
@@ -255,6 +262,11 @@ impl Log {
         let place = usize::from(sequence.checked_sub(1)?);
         let bytes = self.ops_of(replica).chunks_exact(Op::LENGTH).nth(place)?;
         Op::from_bytes(bytes).ok()
+    }
+
+    /// The op behind that of a sequence, if it is held.
+    fn op_after(&self, replica: Replica, sequence: u8) -> Option<Op> {
+        self.op(replica, sequence.checked_add(1)?)
     }
 
     /// The bytes of a replica's ops, which the header says the start of.
@@ -375,31 +387,28 @@ impl<'a> IntoIterator for &'a Log {
 /// Ops of a log in causal order: see [`Log::ops`] and [`Log::ops_beyond`].
 ///
 /// The sums of their counts do not fall. Along one replica they rise, so the
-/// next one is the least of the eight replicas' next.
+/// next op is the least of the eight replicas' next.
 #[derive(Clone)]
 pub struct Ops<'a> {
     log: &'a Log,
-    /// Those that are behind.
-    done: Vector,
+    next: [Option<Op>; Replica::COUNT],
+    left: usize,
 }
 
 impl Iterator for Ops<'_> {
     type Item = Op;
 
     fn next(&mut self) -> Option<Op> {
-        let next = Replica::all()
-            .filter_map(|replica| {
-                let sequence = self.done.count(replica).checked_add(1)?;
-                self.log.op(replica, sequence)
-            })
-            .min_by_key(Op::weight)?;
-        self.done.count_one_more(next.replica());
-        Some(next)
+        let least = self.next.iter().flatten().min_by_key(|op| op.weight());
+        let op = *least?;
+        let replica = op.replica();
+        self.next[replica.index()] = self.log.op_after(replica, op.sequence());
+        self.left -= 1;
+        Some(op)
     }
 
     fn size_hint(&self) -> (usize, Option<usize>) {
-        let left = self.log.len() - self.done.sum();
-        (left, Some(left))
+        (self.left, Some(self.left))
     }
 }
 

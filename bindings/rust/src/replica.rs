@@ -121,15 +121,6 @@ impl Vector {
     pub fn is_within(&self, other: &Vector) -> bool {
         self.0.iter().zip(&other.0).all(|(mine, its)| mine <= its)
     }
-
-    /// What both count.
-    pub(crate) fn least(&self, other: &Vector) -> Vector {
-        Vector(core::array::from_fn(|i| self.0[i].min(other.0[i])))
-    }
-
-    pub(crate) fn count_one_more(&mut self, replica: Replica) {
-        self.0[replica.index()] += 1;
-    }
 }
 
 impl From<[u8; Replica::COUNT]> for Vector {

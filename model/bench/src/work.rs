@@ -6,7 +6,7 @@ use outline_bench::careful;
 use outline_model::cases::examples;
 use outline_model::cases::world::{Style, World};
 use outline_model::rng::Rng;
-use outline_model::{Answer, Log, Op, Tree, View, MAX_FILE, OP_LEN, SLOTS};
+use outline_model::{Answer, Log, Op, Tree, View, MAX_FILE, OP_LEN, REPLICAS, SLOTS};
 use std::hint::black_box;
 
 pub const SIZES: [usize; 4] = [0, 100, 1000, 2040];
@@ -19,9 +19,11 @@ pub enum Shape {
     Deep,
     /// Replicas that add, remove and move, and hear of each other now and then.
     Random,
+    /// One chain in which the replicas take turns.
+    Interleaved,
 }
 
-pub const SHAPES: [Shape; 3] = [Shape::Flat, Shape::Deep, Shape::Random];
+pub const SHAPES: [Shape; 4] = [Shape::Flat, Shape::Deep, Shape::Random, Shape::Interleaved];
 
 impl Shape {
     pub fn name(self) -> &'static str {
@@ -29,6 +31,7 @@ impl Shape {
             Shape::Flat => "flat",
             Shape::Deep => "deep",
             Shape::Random => "random",
+            Shape::Interleaved => "interleaved",
         }
     }
 
@@ -43,6 +46,16 @@ impl Shape {
             }
             Shape::Deep => examples::longest_chain()[..size].to_vec(),
             Shape::Random => World::random(&mut Rng::new(7), Style::mixed(8, size)).ops,
+            Shape::Interleaved => {
+                let mut ops: Vec<Op> = vec![];
+                let mut counts = [0; REPLICAS];
+                for i in 0..size {
+                    let parent = ops.last().map_or(0, |op| op.node);
+                    ops.push(examples::add((i % REPLICAS) as u8 + 1, parent, &counts));
+                    counts[i % REPLICAS] += 1;
+                }
+                ops
+            }
         }
     }
 }
@@ -58,9 +71,11 @@ pub enum Call {
     Path,
     Keeping,
     Skipping,
+    /// All ops of a log delivered to an empty one, in causal order.
+    Exchange,
 }
 
-pub const CALLS: [Call; 9] = [
+pub const CALLS: [Call; 10] = [
     Call::Make,
     Call::Deliver,
     Call::Add,
@@ -70,6 +85,7 @@ pub const CALLS: [Call; 9] = [
     Call::Path,
     Call::Keeping,
     Call::Skipping,
+    Call::Exchange,
 ];
 
 impl Call {
@@ -84,12 +100,18 @@ impl Call {
             Call::Path => "path",
             Call::Keeping => "listing, keeping",
             Call::Skipping => "listing, skipping",
+            Call::Exchange => "a whole exchange",
         }
     }
 
     /// Whether the call adds an op, so that a full log can take none.
     fn adds(self) -> bool {
         matches!(self, Call::Deliver | Call::Add | Call::Remove | Call::Move)
+    }
+
+    /// Whether the call changes the buffer.
+    fn changes(self) -> bool {
+        self.adds() || self == Call::Exchange
     }
 }
 
@@ -104,6 +126,8 @@ pub struct Work {
     call: Call,
     file: Vec<u8>,
     buffer: Vec<u8>,
+    /// What an exchange hands over.
+    offered: Vec<u8>,
     op: Vec<u8>,
     replica: u8,
     node: u16,
@@ -125,6 +149,11 @@ impl Work {
         }
         let log = examples::log_of(&ops);
         let mut file = log.bytes();
+        let offered = file.clone();
+        if call == Call::Exchange {
+            file = examples::file_of(&[]);
+            file.resize(offered.len(), 0);
+        }
         file.resize((file.len() + OP_LEN).min(MAX_FILE), 0);
         let counts = log.held();
         let replica = counts.iter().position(|&count| count < 255).unwrap_or(0);
@@ -133,6 +162,7 @@ impl Work {
             call,
             buffer: file.clone(),
             file,
+            offered,
             op,
             replica: replica as u8 + 1,
             node,
@@ -147,7 +177,7 @@ impl Work {
     /// accepted.
     #[inline]
     pub fn once(&mut self, side: Side) -> bool {
-        if self.call.adds() {
+        if self.call.changes() {
             self.buffer.copy_from_slice(&self.file);
         }
         let buffer = black_box(&mut self.buffer[..]);
@@ -202,6 +232,13 @@ impl Work {
             (Call::Skipping, Side::Rust) => {
                 accepted(|| careful::listing(buffer, View::Skipping, &mut self.bytes))
             }
+            (Call::Exchange, Side::Library) => callgrind::count(|| {
+                outline::Log::from_bytes(&self.offered).is_ok_and(|from| {
+                    let mut ops = from.ops();
+                    ops.all(|op| plain::deliver(buffer, op.as_bytes()).is_ok())
+                })
+            }),
+            (Call::Exchange, Side::Rust) => accepted(|| careful::exchange(&self.offered, buffer)),
         }
     }
 
@@ -263,6 +300,8 @@ pub fn all() -> impl Iterator<Item = (Call, Shape, usize)> {
         SHAPES.into_iter().flat_map(move |shape| {
             let some = move |&size: &usize| match (call, shape) {
                 (Call::Make, _) => shape == Shape::Flat && size == 0,
+                (Call::Exchange, _) => shape == Shape::Interleaved && size > 0,
+                (_, Shape::Interleaved) => false,
                 _ => size > 0 || shape == Shape::Flat,
             };
             SIZES
