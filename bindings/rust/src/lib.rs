@@ -68,6 +68,20 @@
 //! # Ok::<(), Refusal>(())
 //! ```
 //!
+//! # For those who know other replicated documents
+//!
+//! | Here | In Automerge or Loro |
+//! |---|---|
+//! | [`Log`] | the document |
+//! | [`Replica`] | the actor, the peer: here a number from 1 to 8 |
+//! | [`Op`] | the change |
+//! | [`Node`] | the id of a node of a movable tree |
+//! | [`Log::vector`] | the heads, the version vector |
+//! | [`Log::as_bytes`], [`Log::from_bytes`] | save and load, export and import of a snapshot |
+//! | [`Log::ops_beyond`] | the changes since some heads, the updates since a version vector |
+//! | [`Log::deliver`] | applying a change, importing an update; an early op is refused and not kept |
+//! | [`Log::merge`] | merging |
+//!
 //! # What is refused
 //!
 //! Calls that cannot be done answer a [`Refusal`] and have changed nothing. Its

@@ -13,8 +13,8 @@ use core::iter::FusedIterator;
 /// lacks room. It has 28,592 bytes in itself, the size of the largest, and
 /// allocates nothing; `Box::new(Log::new())` puts it on the heap.
 ///
-/// Its questions about the tree judge all ops anew each time. Who has many
-/// makes a [`tree`](Log::tree) and asks that.
+/// A question about the tree judges all ops anew. For many questions make a
+/// [`tree`](Log::tree) once, and ask that.
 ///
 /// ```
 /// use outline::{Log, Node, Refusal, Replica, View};
@@ -213,6 +213,9 @@ impl Log {
 
     /// The ops that a log of this vector lacks, in causal order. Delivered to
     /// it in this order no op is early.
+    ///
+    /// Counts do not say whether the two logs agree on what both hold;
+    /// [`merge`](Log::merge) looks.
     ///
     /// ```
     /// use outline::{Log, Node, Refusal, Replica};

@@ -26,6 +26,18 @@ pub struct Line {
     pub removed: bool,
 }
 
+impl Line {
+    /// Reads a line without its line feed.
+    fn read(line: &[u8]) -> Option<Line> {
+        let mut words = core::str::from_utf8(line).ok()?.split(' ');
+        Some(Line {
+            depth: words.next()?.parse().ok()?,
+            node: Node::from_number(words.next()?.parse().ok()?)?,
+            removed: words.next()? == "r",
+        })
+    }
+}
+
 impl fmt::Display for Line {
     /// As the listing has it, without a line feed.
     fn fmt(&self, f: &mut fmt::Formatter<'_>) -> fmt::Result {
@@ -128,23 +140,10 @@ impl<L: Borrow<Listing>> Iterator for Lines<L> {
     fn next(&mut self) -> Option<Line> {
         let listing = self.listing.borrow();
         let rest = &listing.text[self.at..listing.length];
-        let line = rest.split(|&byte| byte == b'\n').next()?;
-        let mut words = line.split(|&byte| byte == b' ');
-        let line_and_feed = line.len() + 1;
-        let line = Line {
-            depth: number(words.next()?)?,
-            node: Node::from_number(u16::try_from(number(words.next()?)?).ok()?)?,
-            removed: words.next()? == b"r",
-        };
-        self.at += line_and_feed;
-        Some(line)
+        let length = rest.iter().position(|&byte| byte == b'\n')?;
+        self.at += length + 1;
+        Some(Line::read(&rest[..length]).expect("a listing has such lines alone"))
     }
 }
 
 impl<L: Borrow<Listing>> FusedIterator for Lines<L> {}
-
-/// A number in decimal; none of no digits.
-fn number(digits: &[u8]) -> Option<usize> {
-    let digits = core::str::from_utf8(digits).ok()?;
-    digits.parse().ok()
-}

@@ -2,7 +2,7 @@
 
 #![allow(dead_code)]
 
-use outline::{Log, Node, Refusal, Replica};
+use outline::{plain, Log, Node, Refusal, Replica};
 
 /// A small deterministic source of numbers: SplitMix64.
 pub struct Rng(pub u64);
@@ -46,6 +46,7 @@ pub fn issue(rng: &mut Rng, log: &mut Log, me: Replica) {
     if let Err(why) = issued {
         assert!(expected.contains(&why), "{why}");
     }
+    assert_eq!(plain::end(log.as_bytes()), Ok(log.as_bytes().len()));
 }
 
 /// The logs of eight machines that issue and now and then take what one other
