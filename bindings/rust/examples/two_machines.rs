@@ -53,7 +53,8 @@ impl Machine {
         println!("machine {} has", self.replica);
         for line in self.log.lines(View::Keeping) {
             let removed = if line.removed { " (removed)" } else { "" };
-            println!("{:1$}{2}{removed}", "", 2 + 2 * line.depth, line.node);
+            let indent = "  ".repeat(line.depth);
+            println!("  {indent}{}{removed}", line.node);
         }
     }
 }

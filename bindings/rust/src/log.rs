@@ -94,9 +94,8 @@ impl Log {
     /// - [`Refusal::Exhausted`]: the replica has issued its 255 ops
     /// - [`Refusal::Unknown`]: the log has no such parent
     pub fn add(&mut self, replica: Replica, parent: Node) -> Result<Op, Refusal> {
-        let mut op = [0; Op::LENGTH];
-        plain::issue_add(&mut self.bytes, replica.number(), parent.number(), &mut op)?;
-        Op::from_bytes(&op)
+        let (replica, parent) = (replica.number(), parent.number());
+        self.issue(|buf, out| plain::issue_add(buf, replica, parent, out))
     }
 
     /// Marks a node of the log as removed. It keeps its place, and what is
@@ -107,9 +106,8 @@ impl Log {
     /// - [`Refusal::Exhausted`]: the replica has issued its 255 ops
     /// - [`Refusal::Unknown`]: the log has no such node, or it is the root
     pub fn remove(&mut self, replica: Replica, node: Node) -> Result<Op, Refusal> {
-        let mut op = [0; Op::LENGTH];
-        plain::issue_remove(&mut self.bytes, replica.number(), node.number(), &mut op)?;
-        Op::from_bytes(&op)
+        let (replica, node) = (replica.number(), node.number());
+        self.issue(|buf, out| plain::issue_remove(buf, replica, node, out))
     }
 
     /// Moves a node of the log, with all below it, under a new parent, the root
@@ -122,15 +120,18 @@ impl Log {
     ///   is the root, or the parent is the node
     /// - [`Refusal::Cycle`]: the parent lies below the node
     pub fn move_to(&mut self, replica: Replica, node: Node, parent: Node) -> Result<Op, Refusal> {
+        let (replica, node, parent) = (replica.number(), node.number(), parent.number());
+        self.issue(|buf, out| plain::issue_move(buf, replica, node, parent, out))
+    }
+
+    /// Has a call issue an op.
+    fn issue(
+        &mut self,
+        call: impl FnOnce(&mut [u8], &mut [u8]) -> Result<usize, Refusal>,
+    ) -> Result<Op, Refusal> {
         let mut op = [0; Op::LENGTH];
-        plain::issue_move(
-            &mut self.bytes,
-            replica.number(),
-            node.number(),
-            parent.number(),
-            &mut op,
-        )?;
-        Op::from_bytes(&op)
+        call(&mut self.bytes, &mut op)?;
+        Ok(Op::from_bytes(&op).expect("an issued op reads back"))
     }
 
     /// Takes an op of another machine: an [`Op`], or bytes as they came.
@@ -327,7 +328,7 @@ impl Log {
     /// log.add(me, news)?;
     /// for Line { depth, node, removed } in log.lines(View::Keeping) {
     ///     let mark = if removed { "(removed)" } else { "" };
-    ///     println!("{:indent$}{node} {mark}", "", indent = 2 * depth);
+    ///     println!("{}{node} {mark}", "  ".repeat(depth));
     /// }
     /// # Ok::<(), Refusal>(())
     /// ```
