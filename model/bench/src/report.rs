@@ -20,8 +20,9 @@ op counting all before; **random** has replicas that add, remove and move, and h
 ops. A delivery brings the last op of a log of that size, of the lowest replica that has one which no other op counts. Issuing at 2,040
 means at 2,039: a full log takes no more. Issuing a remove or a move at 0 is refused, for want of a node. Moves, paths: of the deepest node.
 
-A whole exchange delivers all ops of a log to an empty one, one by one, in causal order, so that none is early. Its log is **interleaved**: one
-chain in which the eight replicas take turns, so that in the order of the file most ops would be early.
+A whole exchange delivers all ops of a log to an empty one, one by one, in causal order: none is early, and one pass is enough. Its log is
+**interleaved**: one chain in which the eight replicas take turns, the highest first. Offered in the order of the file until none is early, its
+2,040 ops would take 1,786 rounds.
 ";
 
 pub fn text(found: &[Found]) -> String {

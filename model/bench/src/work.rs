@@ -19,7 +19,7 @@ pub enum Shape {
     Deep,
     /// Replicas that add, remove and move, and hear of each other now and then.
     Random,
-    /// One chain in which the replicas take turns.
+    /// One chain in which the replicas take turns, the highest first.
     Interleaved,
 }
 
@@ -49,10 +49,10 @@ impl Shape {
             Shape::Interleaved => {
                 let mut ops: Vec<Op> = vec![];
                 let mut counts = [0; REPLICAS];
-                for i in 0..size {
+                for (index, _) in (0..REPLICAS).rev().cycle().zip(0..size) {
                     let parent = ops.last().map_or(0, |op| op.node);
-                    ops.push(examples::add((i % REPLICAS) as u8 + 1, parent, &counts));
-                    counts[i % REPLICAS] += 1;
+                    ops.push(examples::add(index as u8 + 1, parent, &counts));
+                    counts[index] += 1;
                 }
                 ops
             }

@@ -73,12 +73,13 @@ pub fn all(logs: &[Log]) -> Log {
     all
 }
 
-/// A chain in which the replicas take turns, each op counting all before.
+/// A chain, each op counting all before, in which the replicas take turns from
+/// the highest to the lowest: in file order one or two ops come over in a round.
 pub fn interleaved(ops: usize) -> Log {
     let mut log = Log::new();
     let mut parent = Node::ROOT;
-    for i in 0..ops {
-        parent = log.add(replica((i % 8) as u8 + 1), parent).unwrap().node();
+    for (me, _) in Replica::all().rev().cycle().zip(0..ops) {
+        parent = log.add(me, parent).unwrap().node();
     }
     log
 }
