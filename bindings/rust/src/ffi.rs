@@ -12,6 +12,14 @@ use crate::answer::Answer;
 mod c {
     extern "C" {
         pub fn outline_make(buf: *mut u8, buf_len: usize) -> usize;
+        pub fn outline_is_sound(file: *const u8, file_len: usize) -> bool;
+        pub fn outline_end(file: *const u8, file_len: usize) -> usize;
+        pub fn outline_counts(
+            file: *const u8,
+            file_len: usize,
+            out: *mut u8,
+            out_len: usize,
+        ) -> usize;
         pub fn outline_deliver(buf: *mut u8, buf_len: usize, op: *const u8, op_len: usize)
             -> usize;
         pub fn outline_issue_add(
@@ -68,6 +76,25 @@ mod c {
 pub fn make(buf: &mut [u8]) -> Answer {
     // SAFETY: pointer and length are those of a slice.
     Answer(unsafe { c::outline_make(buf.as_mut_ptr(), buf.len()) })
+}
+
+#[inline]
+pub fn is_sound(file: &[u8]) -> bool {
+    // SAFETY: pointer and length are those of a slice.
+    unsafe { c::outline_is_sound(file.as_ptr(), file.len()) }
+}
+
+#[inline]
+pub fn end(file: &[u8]) -> Answer {
+    // SAFETY: pointer and length are those of a slice.
+    Answer(unsafe { c::outline_end(file.as_ptr(), file.len()) })
+}
+
+#[inline]
+pub fn counts(file: &[u8], out: &mut [u8]) -> Answer {
+    let (out, out_len) = (out.as_mut_ptr(), out.len());
+    // SAFETY: pointers and lengths are those of slices, which do not overlap.
+    Answer(unsafe { c::outline_counts(file.as_ptr(), file.len(), out, out_len) })
 }
 
 #[inline]

@@ -108,9 +108,9 @@ pub fn make(buf: &mut [u8]) -> Result<usize, Refusal> {
 /// assert!(plain::is_sound(&buf));
 /// # Ok::<(), outline::Refusal>(())
 /// ```
+#[inline]
 pub fn is_sound(file: &[u8]) -> bool {
-    // In a sound log the root has a path, for which there is no room here.
-    path(file, ROOT, &mut []) == Err(Refusal::NoRoom)
+    ffi::is_sound(file)
 }
 
 /// Where the log at the front of a buffer ends: the bytes of its file.
@@ -128,10 +128,9 @@ pub fn is_sound(file: &[u8]) -> bool {
 /// assert_eq!(plain::end(&buf), Ok(46));
 /// # Ok::<(), Refusal>(())
 /// ```
+#[inline]
 pub fn end(file: &[u8]) -> Result<usize, Refusal> {
-    let counts = counts(file)?;
-    let ops: usize = counts.into_iter().map(usize::from).sum();
-    Ok(HEADER + OP * ops)
+    ffi::end(file).value()
 }
 
 /// How many ops of each replica a log holds.
@@ -149,12 +148,11 @@ pub fn end(file: &[u8]) -> Result<usize, Refusal> {
 /// assert_eq!(plain::counts(&buf), Ok([0, 1, 0, 0, 0, 0, 0, 0]));
 /// # Ok::<(), Refusal>(())
 /// ```
+#[inline]
 pub fn counts(file: &[u8]) -> Result<[u8; Replica::COUNT], Refusal> {
-    if !is_sound(file) {
-        return Err(Refusal::Unsound);
-    }
-    // The low byte of each count; the high one is 0.
-    Ok(core::array::from_fn(|i| file[4 * i + 1]))
+    let mut counts = [0; Replica::COUNT];
+    ffi::counts(file, &mut counts).value()?;
+    Ok(counts)
 }
 
 /// Delivers an op, which another replica issued, to the log in a buffer.
