@@ -111,9 +111,9 @@ pub(crate) struct Answer(pub usize);
 #[repr(usize)]
 enum Said {
     /// A delivered op was there already.
-    HadIt = 16,
+    HadIt = 128,
     /// Judging is done.
-    Done = 17,
+    Done = 129,
 }
 
 const VALUE: usize = 256;
