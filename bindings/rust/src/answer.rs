@@ -1,37 +1,42 @@
 //! What the calls answer.
 
-use std::error::Error;
-use std::fmt;
+use core::error::Error;
+use core::fmt;
 
 /// Why a call was refused. A refused call has changed nothing.
+///
+/// The numbers are those of the format's rules, and of the calls in C. The
+/// format will come to refuse for more reasons, so a `match` needs a last arm.
 #[derive(Clone, Copy, PartialEq, Eq, PartialOrd, Ord, Hash, Debug)]
+#[non_exhaustive]
+#[repr(u8)]
 pub enum Refusal {
-    /// 1: the buffer does not hold a sound log.
-    Unsound,
-    /// 2: the delivered op has not 14 bytes, or lent memory for an op or a
-    /// table is too short.
-    Length,
-    /// 3: no replica from 1 to 8, or an op out of form.
-    Malformed,
-    /// 4: another op of this replica and sequence is held.
-    Conflict,
-    /// 5: the op counts ops that are not held yet; deliver those first.
-    Early,
-    /// 6: the op counts an op, but not all that this one counts.
-    NotClosed,
-    /// 7: a node that is not known, or a move of a node to itself.
-    Unknown,
-    /// 8: the buffer, or what is lent for a path or a listing, is too short.
-    NoRoom,
-    /// 9: the replica has issued its 255 ops.
-    Exhausted,
-    /// 10: the new parent lies below the node.
-    Cycle,
+    /// The bytes do not hold a sound log.
+    Unsound = 1,
+    /// The delivered op has not 14 bytes, or lent memory for an op or a table
+    /// is too short.
+    Length = 2,
+    /// No replica from 1 to 8, or an op out of form.
+    Malformed = 3,
+    /// Another op of this replica and sequence is held.
+    Conflict = 4,
+    /// The op counts ops that are not held yet; deliver those first.
+    Early = 5,
+    /// The op counts an op, but not all that this one counts.
+    NotClosed = 6,
+    /// A node that is not known, or a move of a node to itself.
+    Unknown = 7,
+    /// The buffer, or what is lent for a path or a listing, is too short.
+    NoRoom = 8,
+    /// The replica has issued its 255 ops.
+    Exhausted = 9,
+    /// The new parent lies below the node.
+    Cycle = 10,
 }
 
 impl Refusal {
-    /// All refusals, in the order of their numbers.
-    pub const ALL: [Refusal; 10] = [
+    /// All refusals, by rising number.
+    pub const ALL: &'static [Refusal] = &[
         Refusal::Unsound,
         Refusal::Length,
         Refusal::Malformed,
@@ -44,13 +49,13 @@ impl Refusal {
         Refusal::Cycle,
     ];
 
-    /// The number by which the format's rules name it, 1 to 10.
+    /// The number by which the format's rules name it.
     ///
     /// ```
     /// assert_eq!(outline::Refusal::Cycle.number(), 10);
     /// ```
-    pub fn number(self) -> u8 {
-        self as u8 + 1
+    pub const fn number(self) -> u8 {
+        self as u8
     }
 
     /// The refusal of a number.
@@ -58,24 +63,24 @@ impl Refusal {
     /// ```
     /// use outline::Refusal;
     /// assert_eq!(Refusal::from_number(5), Some(Refusal::Early));
-    /// assert_eq!(Refusal::from_number(11), None);
+    /// assert_eq!(Refusal::from_number(0), None);
     /// ```
     pub fn from_number(number: u8) -> Option<Refusal> {
-        let index = usize::from(number).checked_sub(1)?;
-        Refusal::ALL.get(index).copied()
+        let all = Refusal::ALL.iter().copied();
+        all.into_iter().find(|refusal| refusal.number() == number)
     }
 }
 
 impl fmt::Display for Refusal {
     fn fmt(&self, f: &mut fmt::Formatter<'_>) -> fmt::Result {
         f.write_str(match self {
-            Refusal::Unsound => "the buffer does not hold a sound log",
+            Refusal::Unsound => "the bytes do not hold a sound log",
             Refusal::Length => "an op or lent memory has the wrong length",
             Refusal::Malformed => "no such replica, or an op out of form",
             Refusal::Conflict => "another op of this replica and sequence is held",
             Refusal::Early => "the op counts ops that are not held yet",
             Refusal::NotClosed => "the op counts an op, but not all that this one counts",
-            Refusal::Unknown => "a node is not known",
+            Refusal::Unknown => "a node is not known, or is to be moved to itself",
             Refusal::NoRoom => "the lent memory is too short",
             Refusal::Exhausted => "the replica has issued its 255 ops",
             Refusal::Cycle => "the new parent lies below the node",
@@ -86,7 +91,11 @@ impl fmt::Display for Refusal {
 impl Error for Refusal {}
 
 /// What a delivery that is not refused answers.
+///
+/// A later delivery will be able to keep an early op waiting, so a `match`
+/// needs a last arm.
 #[derive(Clone, Copy, PartialEq, Eq, Hash, Debug)]
+#[non_exhaustive]
 pub enum Delivery {
     /// The log has one op more, and ends here.
     Accepted(usize),
@@ -94,24 +103,51 @@ pub enum Delivery {
     HadIt,
 }
 
-/// The number that says that a delivered op was there already.
-pub(crate) const HAD_IT: usize = 16;
-/// The number that says that judging is done.
-pub(crate) const DONE: usize = 17;
-/// Every value is answered with this added.
-const VALUE: usize = 256;
+/// What a call answered: one number. Refusals have their own, a value has
+/// [`VALUE`] added, and [`Said`] has the others.
+#[derive(Clone, Copy)]
+pub(crate) struct Answer(pub usize);
 
-/// The answer of a call that answers a value or refuses.
-pub(crate) fn value(number: usize) -> Result<usize, Refusal> {
-    number.checked_sub(VALUE).ok_or_else(|| refusal(number))
+#[repr(usize)]
+enum Said {
+    /// A delivered op was there already.
+    HadIt = 128,
+    /// Judging is done.
+    Done = 129,
 }
 
-/// The refusal that a number stands for. By the contracts a call answers no
-/// number without a meaning.
-#[cold]
-pub(crate) fn refusal(number: usize) -> Refusal {
-    u8::try_from(number)
-        .ok()
-        .and_then(Refusal::from_number)
-        .unwrap_or_else(|| panic!("the library answered {number}"))
+const VALUE: usize = 256;
+
+impl Answer {
+    /// Of a call that answers a value.
+    #[inline]
+    pub fn value(self) -> Result<usize, Refusal> {
+        self.0.checked_sub(VALUE).ok_or_else(|| self.refusal())
+    }
+
+    /// Of a delivery.
+    #[inline]
+    pub fn delivery(self) -> Result<Delivery, Refusal> {
+        if self.0 == Said::HadIt as usize {
+            return Ok(Delivery::HadIt);
+        }
+        self.value().map(Delivery::Accepted)
+    }
+
+    /// Of judging.
+    #[inline]
+    pub fn done(self) -> Result<(), Refusal> {
+        if self.0 == Said::Done as usize {
+            return Ok(());
+        }
+        Err(self.refusal())
+    }
+
+    /// By the contracts a call answers no number without a meaning.
+    #[cold]
+    fn refusal(self) -> Refusal {
+        let number = u8::try_from(self.0).ok();
+        let refusal = number.and_then(Refusal::from_number);
+        refusal.unwrap_or_else(|| panic!("the library answered {}", self.0))
+    }
 }

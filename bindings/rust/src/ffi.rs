@@ -1,54 +1,154 @@
-//! The calls of `include/outline.h`. Each asks of its pointers what a slice of
-//! that length has, and nothing else.
+//! The calls of `include/outline.h`, on slices. This is the only module with
+//! unsafe code.
+//!
+//! Each call asks of its pointers what a slice of that length has, that memory
+//! which it may write overlaps no other, and nothing else. So a slice for every
+//! pointer and length is enough.
 
-extern "C" {
-    pub fn outline_make(buf: *mut u8, buf_len: usize) -> usize;
-    pub fn outline_deliver(buf: *mut u8, buf_len: usize, op: *const u8, op_len: usize) -> usize;
-    pub fn outline_issue_add(
-        buf: *mut u8,
-        buf_len: usize,
-        replica: u8,
-        parent: u16,
-        out: *mut u8,
-        out_len: usize,
-    ) -> usize;
-    pub fn outline_issue_remove(
-        buf: *mut u8,
-        buf_len: usize,
-        replica: u8,
-        node: u16,
-        out: *mut u8,
-        out_len: usize,
-    ) -> usize;
-    pub fn outline_issue_move(
-        buf: *mut u8,
-        buf_len: usize,
-        replica: u8,
-        node: u16,
-        parent: u16,
-        out: *mut u8,
-        out_len: usize,
-    ) -> usize;
-    pub fn outline_judge(
-        file: *const u8,
-        file_len: usize,
-        parents: *mut u16,
-        parents_len: usize,
-        outcomes: *mut u8,
-        outcomes_len: usize,
-    ) -> usize;
-    pub fn outline_path(
-        file: *const u8,
-        file_len: usize,
-        node: u16,
-        out: *mut u16,
-        out_len: usize,
-    ) -> usize;
-    pub fn outline_listing(
-        file: *const u8,
-        file_len: usize,
-        skipping: bool,
-        out: *mut u8,
-        out_len: usize,
-    ) -> usize;
+#![allow(unsafe_code)]
+
+use crate::answer::Answer;
+
+mod c {
+    extern "C" {
+        pub fn outline_make(buf: *mut u8, buf_len: usize) -> usize;
+        pub fn outline_is_sound(file: *const u8, file_len: usize) -> bool;
+        pub fn outline_end(file: *const u8, file_len: usize) -> usize;
+        pub fn outline_counts(
+            file: *const u8,
+            file_len: usize,
+            out: *mut u8,
+            out_len: usize,
+        ) -> usize;
+        pub fn outline_deliver(buf: *mut u8, buf_len: usize, op: *const u8, op_len: usize)
+            -> usize;
+        pub fn outline_issue_add(
+            buf: *mut u8,
+            buf_len: usize,
+            replica: u8,
+            parent: u16,
+            out: *mut u8,
+            out_len: usize,
+        ) -> usize;
+        pub fn outline_issue_remove(
+            buf: *mut u8,
+            buf_len: usize,
+            replica: u8,
+            node: u16,
+            out: *mut u8,
+            out_len: usize,
+        ) -> usize;
+        pub fn outline_issue_move(
+            buf: *mut u8,
+            buf_len: usize,
+            replica: u8,
+            node: u16,
+            parent: u16,
+            out: *mut u8,
+            out_len: usize,
+        ) -> usize;
+        pub fn outline_judge(
+            file: *const u8,
+            file_len: usize,
+            parents: *mut u16,
+            parents_len: usize,
+            outcomes: *mut u8,
+            outcomes_len: usize,
+        ) -> usize;
+        pub fn outline_path(
+            file: *const u8,
+            file_len: usize,
+            node: u16,
+            out: *mut u16,
+            out_len: usize,
+        ) -> usize;
+        pub fn outline_listing(
+            file: *const u8,
+            file_len: usize,
+            skipping: bool,
+            out: *mut u8,
+            out_len: usize,
+        ) -> usize;
+    }
+}
+
+#[inline]
+pub fn make(buf: &mut [u8]) -> Answer {
+    // SAFETY: pointer and length are those of a slice.
+    Answer(unsafe { c::outline_make(buf.as_mut_ptr(), buf.len()) })
+}
+
+#[inline]
+pub fn is_sound(file: &[u8]) -> bool {
+    // SAFETY: pointer and length are those of a slice.
+    unsafe { c::outline_is_sound(file.as_ptr(), file.len()) }
+}
+
+#[inline]
+pub fn end(file: &[u8]) -> Answer {
+    // SAFETY: pointer and length are those of a slice.
+    Answer(unsafe { c::outline_end(file.as_ptr(), file.len()) })
+}
+
+#[inline]
+pub fn counts(file: &[u8], out: &mut [u8]) -> Answer {
+    let (out, out_len) = (out.as_mut_ptr(), out.len());
+    // SAFETY: pointers and lengths are those of slices, which do not overlap.
+    Answer(unsafe { c::outline_counts(file.as_ptr(), file.len(), out, out_len) })
+}
+
+#[inline]
+pub fn deliver(buf: &mut [u8], op: &[u8]) -> Answer {
+    let (op, op_len) = (op.as_ptr(), op.len());
+    // SAFETY: pointers and lengths are those of slices, which do not overlap.
+    Answer(unsafe { c::outline_deliver(buf.as_mut_ptr(), buf.len(), op, op_len) })
+}
+
+#[inline]
+pub fn issue_add(buf: &mut [u8], replica: u8, parent: u16, out: &mut [u8]) -> Answer {
+    let (buf, buf_len) = (buf.as_mut_ptr(), buf.len());
+    let (out, out_len) = (out.as_mut_ptr(), out.len());
+    // SAFETY: pointers and lengths are those of slices, which do not overlap.
+    Answer(unsafe { c::outline_issue_add(buf, buf_len, replica, parent, out, out_len) })
+}
+
+#[inline]
+pub fn issue_remove(buf: &mut [u8], replica: u8, node: u16, out: &mut [u8]) -> Answer {
+    let (buf, buf_len) = (buf.as_mut_ptr(), buf.len());
+    let (out, out_len) = (out.as_mut_ptr(), out.len());
+    // SAFETY: pointers and lengths are those of slices, which do not overlap.
+    Answer(unsafe { c::outline_issue_remove(buf, buf_len, replica, node, out, out_len) })
+}
+
+#[inline]
+pub fn issue_move(buf: &mut [u8], replica: u8, node: u16, parent: u16, out: &mut [u8]) -> Answer {
+    let (buf, buf_len) = (buf.as_mut_ptr(), buf.len());
+    let (out, out_len) = (out.as_mut_ptr(), out.len());
+    // SAFETY: pointers and lengths are those of slices, which do not overlap.
+    Answer(unsafe { c::outline_issue_move(buf, buf_len, replica, node, parent, out, out_len) })
+}
+
+#[inline]
+pub fn judge(file: &[u8], parents: &mut [u16], outcomes: &mut [u8]) -> Answer {
+    let (file, file_len) = (file.as_ptr(), file.len());
+    let (parents, parents_len) = (parents.as_mut_ptr(), parents.len());
+    let (outcomes, outcomes_len) = (outcomes.as_mut_ptr(), outcomes.len());
+    // SAFETY: pointers and lengths are those of slices, which do not overlap.
+    Answer(unsafe {
+        c::outline_judge(file, file_len, parents, parents_len, outcomes, outcomes_len)
+    })
+}
+
+#[inline]
+pub fn path(file: &[u8], node: u16, out: &mut [u16]) -> Answer {
+    let (out, out_len) = (out.as_mut_ptr(), out.len());
+    // SAFETY: pointers and lengths are those of slices, which do not overlap.
+    Answer(unsafe { c::outline_path(file.as_ptr(), file.len(), node, out, out_len) })
+}
+
+#[inline]
+pub fn listing(file: &[u8], skipping: bool, out: &mut [u8]) -> Answer {
+    let (out, out_len) = (out.as_mut_ptr(), out.len());
+    // SAFETY: pointers and lengths are those of slices, which do not overlap.
+    Answer(unsafe { c::outline_listing(file.as_ptr(), file.len(), skipping, out, out_len) })
 }

@@ -100,7 +100,8 @@ fn time(work: &mut Work, least: &mut [f64; 2]) {
         black_box(work.once(Side::Rust));
         many += 1;
     }
-    for round in 0..6 {
+    let rounds = if many == 1 { 2 } else { 6 };
+    for round in 0..rounds {
         for turn in 0..2 {
             let at = (round + turn) % 2;
             let began = Instant::now();

@@ -19,6 +19,10 @@ Logs: **flat** has adds under the root, of all eight replicas, each by itself; *
 op counting all before; **random** has replicas that add, remove and move, and hear of each other now and then. The size is the number of
 ops. A delivery brings the last op of a log of that size, of the lowest replica that has one which no other op counts. Issuing at 2,040
 means at 2,039: a full log takes no more. Issuing a remove or a move at 0 is refused, for want of a node. Moves, paths: of the deepest node.
+
+A whole exchange delivers all ops of a log to an empty one, one by one, in causal order: none is early, and one pass is enough. Its log is
+**interleaved**: one chain in which the eight replicas take turns, the highest first. Offered in the order of the file until none is early, its
+2,040 ops would take 1,786 rounds.
 ";
 
 pub fn text(found: &[Found]) -> String {
@@ -72,7 +76,8 @@ fn duration(nanoseconds: f64) -> String {
         n if n < 100.0 => format!("{n:.1} ns"),
         n if n < 1000.0 => format!("{n:.0} ns"),
         n if n < 100_000.0 => format!("{:.1} µs", n / 1000.0),
-        n => format!("{:.0} µs", n / 1000.0),
+        n if n < 1_000_000.0 => format!("{:.0} µs", n / 1000.0),
+        n => format!("{:.1} ms", n / 1_000_000.0),
     }
 }
 

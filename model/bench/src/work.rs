@@ -1,11 +1,12 @@
 //! What is measured: every call on logs of each shape and size.
 
 use crate::callgrind;
+use outline::plain;
 use outline_bench::careful;
 use outline_model::cases::examples;
 use outline_model::cases::world::{Style, World};
 use outline_model::rng::Rng;
-use outline_model::{Answer, Log, Op, Tree, View, MAX_FILE, OP_LEN, SLOTS};
+use outline_model::{Answer, Log, Op, Tree, View, MAX_FILE, OP_LEN, REPLICAS, SLOTS};
 use std::hint::black_box;
 
 pub const SIZES: [usize; 4] = [0, 100, 1000, 2040];
@@ -18,9 +19,11 @@ pub enum Shape {
     Deep,
     /// Replicas that add, remove and move, and hear of each other now and then.
     Random,
+    /// One chain in which the replicas take turns, the highest first.
+    Interleaved,
 }
 
-pub const SHAPES: [Shape; 3] = [Shape::Flat, Shape::Deep, Shape::Random];
+pub const SHAPES: [Shape; 4] = [Shape::Flat, Shape::Deep, Shape::Random, Shape::Interleaved];
 
 impl Shape {
     pub fn name(self) -> &'static str {
@@ -28,6 +31,7 @@ impl Shape {
             Shape::Flat => "flat",
             Shape::Deep => "deep",
             Shape::Random => "random",
+            Shape::Interleaved => "interleaved",
         }
     }
 
@@ -42,6 +46,16 @@ impl Shape {
             }
             Shape::Deep => examples::longest_chain()[..size].to_vec(),
             Shape::Random => World::random(&mut Rng::new(7), Style::mixed(8, size)).ops,
+            Shape::Interleaved => {
+                let mut ops: Vec<Op> = vec![];
+                let mut counts = [0; REPLICAS];
+                for (index, _) in (0..REPLICAS).rev().cycle().zip(0..size) {
+                    let parent = ops.last().map_or(0, |op| op.node);
+                    ops.push(examples::add(index as u8 + 1, parent, &counts));
+                    counts[index] += 1;
+                }
+                ops
+            }
         }
     }
 }
@@ -57,9 +71,11 @@ pub enum Call {
     Path,
     Keeping,
     Skipping,
+    /// All ops of a log delivered to an empty one, in causal order.
+    Exchange,
 }
 
-pub const CALLS: [Call; 9] = [
+pub const CALLS: [Call; 10] = [
     Call::Make,
     Call::Deliver,
     Call::Add,
@@ -69,6 +85,7 @@ pub const CALLS: [Call; 9] = [
     Call::Path,
     Call::Keeping,
     Call::Skipping,
+    Call::Exchange,
 ];
 
 impl Call {
@@ -83,12 +100,18 @@ impl Call {
             Call::Path => "path",
             Call::Keeping => "listing, keeping",
             Call::Skipping => "listing, skipping",
+            Call::Exchange => "a whole exchange",
         }
     }
 
     /// Whether the call adds an op, so that a full log can take none.
     fn adds(self) -> bool {
         matches!(self, Call::Deliver | Call::Add | Call::Remove | Call::Move)
+    }
+
+    /// Whether the call changes the buffer.
+    fn changes(self) -> bool {
+        self.adds() || self == Call::Exchange
     }
 }
 
@@ -103,6 +126,8 @@ pub struct Work {
     call: Call,
     file: Vec<u8>,
     buffer: Vec<u8>,
+    /// What an exchange hands over.
+    offered: Vec<u8>,
     op: Vec<u8>,
     replica: u8,
     node: u16,
@@ -124,6 +149,11 @@ impl Work {
         }
         let log = examples::log_of(&ops);
         let mut file = log.bytes();
+        let offered = file.clone();
+        if call == Call::Exchange {
+            file = examples::file_of(&[]);
+            file.resize(offered.len(), 0);
+        }
         file.resize((file.len() + OP_LEN).min(MAX_FILE), 0);
         let counts = log.held();
         let replica = counts.iter().position(|&count| count < 255).unwrap_or(0);
@@ -132,13 +162,14 @@ impl Work {
             call,
             buffer: file.clone(),
             file,
+            offered,
             op,
             replica: replica as u8 + 1,
             node,
             parent,
             out: vec![0; OP_LEN],
             words: vec![0; SLOTS],
-            bytes: vec![0; outline::LONGEST_LISTING],
+            bytes: vec![0; plain::LONGEST_LISTING],
         }
     }
 
@@ -146,61 +177,68 @@ impl Work {
     /// accepted.
     #[inline]
     pub fn once(&mut self, side: Side) -> bool {
-        if self.call.adds() {
+        if self.call.changes() {
             self.buffer.copy_from_slice(&self.file);
         }
         let buffer = black_box(&mut self.buffer[..]);
         match (self.call, side) {
-            (Call::Make, Side::Library) => callgrind::count(|| outline::make(buffer).is_ok()),
+            (Call::Make, Side::Library) => callgrind::count(|| plain::make(buffer).is_ok()),
             (Call::Make, Side::Rust) => accepted(|| careful::make(buffer)),
             (Call::Deliver, Side::Library) => {
-                callgrind::count(|| outline::deliver(buffer, &self.op).is_ok())
+                callgrind::count(|| plain::deliver(buffer, &self.op).is_ok())
             }
             (Call::Deliver, Side::Rust) => accepted(|| careful::deliver(buffer, &self.op)),
             (Call::Add, Side::Library) => callgrind::count(|| {
-                outline::issue_add(buffer, self.replica, self.parent, &mut self.out).is_ok()
+                plain::issue_add(buffer, self.replica, self.parent, &mut self.out).is_ok()
             }),
             (Call::Add, Side::Rust) => {
                 accepted(|| careful::issue_add(buffer, self.replica, self.parent, &mut self.out))
             }
             (Call::Remove, Side::Library) => callgrind::count(|| {
-                outline::issue_remove(buffer, self.replica, self.node, &mut self.out).is_ok()
+                plain::issue_remove(buffer, self.replica, self.node, &mut self.out).is_ok()
             }),
             (Call::Remove, Side::Rust) => {
                 accepted(|| careful::issue_remove(buffer, self.replica, self.node, &mut self.out))
             }
             (Call::Move, Side::Library) => callgrind::count(|| {
                 let (replica, node, parent) = (self.replica, self.node, self.parent);
-                outline::issue_move(buffer, replica, node, parent, &mut self.out).is_ok()
+                plain::issue_move(buffer, replica, node, parent, &mut self.out).is_ok()
             }),
             (Call::Move, Side::Rust) => accepted(|| {
                 let (replica, node, parent) = (self.replica, self.node, self.parent);
                 careful::issue_move(buffer, replica, node, parent, &mut self.out)
             }),
             (Call::Judge, Side::Library) => callgrind::count(|| {
-                outline::judge(buffer, &mut self.words, &mut self.bytes[..SLOTS]).is_ok()
+                plain::judge(buffer, &mut self.words, &mut self.bytes[..SLOTS]).is_ok()
             }),
             (Call::Judge, Side::Rust) => {
                 accepted(|| careful::judge(buffer, &mut self.words, &mut self.bytes[..SLOTS]))
             }
             (Call::Path, Side::Library) => {
-                callgrind::count(|| outline::path(buffer, self.node, &mut self.words).is_ok())
+                callgrind::count(|| plain::path(buffer, self.node, &mut self.words).is_ok())
             }
             (Call::Path, Side::Rust) => {
                 accepted(|| careful::path(buffer, self.node, &mut self.words))
             }
             (Call::Keeping, Side::Library) => callgrind::count(|| {
-                outline::listing(buffer, outline::View::Keeping, &mut self.bytes).is_ok()
+                plain::listing(buffer, outline::View::Keeping, &mut self.bytes).is_ok()
             }),
             (Call::Keeping, Side::Rust) => {
                 accepted(|| careful::listing(buffer, View::Keeping, &mut self.bytes))
             }
             (Call::Skipping, Side::Library) => callgrind::count(|| {
-                outline::listing(buffer, outline::View::Skipping, &mut self.bytes).is_ok()
+                plain::listing(buffer, outline::View::Skipping, &mut self.bytes).is_ok()
             }),
             (Call::Skipping, Side::Rust) => {
                 accepted(|| careful::listing(buffer, View::Skipping, &mut self.bytes))
             }
+            (Call::Exchange, Side::Library) => callgrind::count(|| {
+                outline::Log::from_bytes(&self.offered).is_ok_and(|from| {
+                    let mut ops = from.ops();
+                    ops.all(|op| plain::deliver(buffer, op.as_bytes()).is_ok())
+                })
+            }),
+            (Call::Exchange, Side::Rust) => accepted(|| careful::exchange(&self.offered, buffer)),
         }
     }
 
@@ -262,6 +300,8 @@ pub fn all() -> impl Iterator<Item = (Call, Shape, usize)> {
         SHAPES.into_iter().flat_map(move |shape| {
             let some = move |&size: &usize| match (call, shape) {
                 (Call::Make, _) => shape == Shape::Flat && size == 0,
+                (Call::Exchange, _) => shape == Shape::Interleaved && size > 0,
+                (_, Shape::Interleaved) => false,
                 _ => size > 0 || shape == Shape::Flat,
             };
             SIZES

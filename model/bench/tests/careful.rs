@@ -129,3 +129,21 @@ fn full_logs() {
         }
     }
 }
+
+/// An exchange takes one pass, and leaves the same file.
+#[test]
+fn exchanges() {
+    let mut rng = Rng::new(3);
+    for round in 0..40 {
+        let style = [Style::moves, Style::mixed][round % 2](1 + round % 8, rng.below(200));
+        let file = examples::file_of(&World::random(&mut rng, style).ops);
+        let mut to = vec![0; file.len()];
+        careful::make(&mut to);
+        assert_eq!(careful::exchange(&file, &mut to), Answer::Done);
+        assert_eq!(to, file);
+        assert_eq!(careful::exchange(&file, &mut to), Answer::Done);
+        assert_eq!(to, file);
+    }
+    let unsound = Answer::Refused(outline_model::refusal::UNSOUND);
+    assert_eq!(careful::exchange(&[], &mut [0; 40]), unsound);
+}

@@ -1,7 +1,7 @@
 //! The calls, and the two sides that answer them.
 
 use crate::lent::{Guards, Lent};
-use outline::{Delivery, Refusal};
+use outline::{plain, Delivery, Refusal};
 use outline_model::{Answer, View};
 
 #[derive(Clone, Debug)]
@@ -103,38 +103,39 @@ fn value(answer: Result<usize, Refusal>) -> Outcome {
 
 impl Side for Library {
     fn make(buf: &mut [u8]) -> Outcome {
-        value(outline::make(buf))
+        value(plain::make(buf))
     }
 
     fn deliver(buf: &mut [u8], op: &[u8]) -> Outcome {
-        match outline::deliver(buf, op) {
+        match plain::deliver(buf, op) {
             Ok(Delivery::Accepted(end)) => Outcome::Value(end),
             Ok(Delivery::HadIt) => Outcome::HadIt,
+            Ok(other) => unreachable!("a plain delivery answers {other:?}"),
             Err(why) => Outcome::Refused(why.number()),
         }
     }
 
     fn issue_add(buf: &mut [u8], replica: u8, parent: u16, out: &mut [u8]) -> Outcome {
-        value(outline::issue_add(buf, replica, parent, out))
+        value(plain::issue_add(buf, replica, parent, out))
     }
 
     fn issue_remove(buf: &mut [u8], replica: u8, node: u16, out: &mut [u8]) -> Outcome {
-        value(outline::issue_remove(buf, replica, node, out))
+        value(plain::issue_remove(buf, replica, node, out))
     }
 
     fn issue_move(buf: &mut [u8], replica: u8, node: u16, parent: u16, out: &mut [u8]) -> Outcome {
-        value(outline::issue_move(buf, replica, node, parent, out))
+        value(plain::issue_move(buf, replica, node, parent, out))
     }
 
     fn judge(file: &[u8], parents: &mut [u16], outcomes: &mut [u8]) -> Outcome {
-        match outline::judge(file, parents, outcomes) {
+        match plain::judge(file, parents, outcomes) {
             Ok(()) => Outcome::Done,
             Err(why) => Outcome::Refused(why.number()),
         }
     }
 
     fn path(file: &[u8], node: u16, out: &mut [u16]) -> Outcome {
-        value(outline::path(file, node, out))
+        value(plain::path(file, node, out))
     }
 
     fn listing(file: &[u8], view: View, out: &mut [u8]) -> Outcome {
@@ -142,7 +143,7 @@ impl Side for Library {
             View::Keeping => outline::View::Keeping,
             View::Skipping => outline::View::Skipping,
         };
-        value(outline::listing(file, view, out))
+        value(plain::listing(file, view, out))
     }
 }
 

@@ -24,7 +24,7 @@ pub fn deliver(buffer: &mut [u8], op: &[u8]) -> Answer {
     answer(try_deliver(buffer, op))
 }
 
-fn try_deliver(buffer: &mut [u8], bytes: &[u8]) -> Result<Answer, u8> {
+pub fn try_deliver(buffer: &mut [u8], bytes: &[u8]) -> Result<Answer, u8> {
     let log = Log::open(buffer).ok_or(refusal::UNSOUND)?;
     let op = Op::read(bytes)?;
     if op.sequence() <= usize::from(log.layout.counts[op.index()]) {

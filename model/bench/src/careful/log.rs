@@ -48,6 +48,11 @@ impl<'a> Op<'a> {
         usize::from(self.vector()[self.index()]) + 1
     }
 
+    /// The sum of its counts.
+    pub fn weight(self) -> usize {
+        self.vector().iter().copied().map(usize::from).sum()
+    }
+
     /// Kind and parent, of an op whose replica is right.
     fn fits(self) -> bool {
         match self.kind() {

@@ -3,9 +3,11 @@
 //! the algorithms of the verified library, so that the two can be compared.
 
 mod calls;
+mod exchange;
 mod list;
 mod log;
 mod replay;
 
 pub use calls::{deliver, issue_add, issue_move, issue_remove, judge, make};
+pub use exchange::exchange;
 pub use list::{listing, path};

@@ -1,0 +1,95 @@
+//! Two machines, each with a log of its own. One makes two headings and the
+//! other gets them; then, apart, each moves a heading below the other's. They
+//! meet, hand each other their ops, and hold the same file and the same tree.
+
+use outline::{Kind, Log, Node, Outcome, Refusal, Replica, View};
+
+struct Machine {
+    replica: Replica,
+    log: Log,
+}
+
+impl Machine {
+    fn new(replica: Replica) -> Machine {
+        let log = Log::new();
+        Machine { replica, log }
+    }
+
+    fn add(&mut self, parent: Node) -> Result<Node, Refusal> {
+        let node = self.log.add(self.replica, parent)?.node();
+        println!("machine {} adds node {node} under {parent}", self.replica);
+        Ok(node)
+    }
+
+    fn put(&mut self, node: Node, parent: Node) {
+        print!(
+            "machine {} moves node {node} under {parent}: ",
+            self.replica
+        );
+        match self.log.move_to(self.replica, node, parent) {
+            Ok(op) if op.kind() == Kind::MoveUp => println!("upward"),
+            Ok(_) => println!("downward"),
+            Err(why) => println!("refused, {why}"),
+        }
+    }
+
+    /// Gets what it lacks, as over a wire: it sends its counts, and ops come
+    /// back in an order in which none is early.
+    fn get_from(&mut self, other: &Machine) -> Result<(), Refusal> {
+        let counts = self.log.vector();
+        for op in other.log.ops_beyond(&counts) {
+            let delivery = self.log.deliver(op.as_bytes())?;
+            println!(
+                "machine {} gets op {} of machine {}: {delivery:?}",
+                self.replica,
+                op.sequence(),
+                op.replica()
+            );
+        }
+        Ok(())
+    }
+
+    fn show(&self) {
+        println!("machine {} has", self.replica);
+        for line in self.log.lines(View::Keeping) {
+            let removed = if line.removed { " (removed)" } else { "" };
+            let indent = "  ".repeat(line.depth);
+            println!("  {indent}{}{removed}", line.node);
+        }
+    }
+}
+
+fn main() -> Result<(), Refusal> {
+    let mut one = Machine::new(Replica::try_from(1)?);
+    let mut two = Machine::new(Replica::try_from(2)?);
+
+    let a = one.add(Node::ROOT)?;
+    let b = one.add(Node::ROOT)?;
+    two.get_from(&one)?;
+
+    one.put(b, a);
+    two.put(a, b);
+    one.show();
+    two.show();
+
+    two.get_from(&one)?;
+    one.get_from(&two)?;
+    assert_eq!(one.log, two.log);
+    println!("the files are the same: {} bytes", one.log.as_bytes().len());
+    one.show();
+
+    let tree = one.log.tree();
+    for op in one.log.ops() {
+        let said = match tree.outcome(&op) {
+            Some(Outcome::Applied) => "applied",
+            Some(Outcome::PlacedAlready) => "lost to another move of the node",
+            Some(Outcome::WouldCloseCircle) => "would have closed a circle",
+            None => "not there",
+        };
+        println!("op {} of machine {}: {said}", op.sequence(), op.replica());
+    }
+    let path: Vec<String> = tree.path(a).map(|node| node.to_string()).collect();
+    println!("path of {a}: {}", path.join(" "));
+    one.put(b, a);
+    Ok(())
+}

@@ -1,0 +1,426 @@
+//! A log that is always sound.
+
+use crate::plain::{self, HEADER, LARGEST, TABLE};
+use crate::{Children, Delivery, Descendants, Lines, Listing, Node, Op, Path};
+use crate::{Refusal, Replica, Tree, Vector, View};
+use core::fmt;
+use core::iter::FusedIterator;
+
+/// The ops that a machine holds (the document's collection), and so an outline.
+///
+/// A log is made empty or from the bytes of a sound one, and every change is a
+/// call of the verified library: so it is sound at all times, and it never
+/// lacks room. It has 28,592 bytes in itself, the size of the largest, and
+/// allocates nothing; `Box::new(Log::new())` puts it on the heap.
+///
+/// A question about the tree judges all ops anew. For many questions make a
+/// [`tree`](Log::tree) once, and ask that.
+///
+/// ```
+/// use outline::{Log, Node, Refusal, Replica, View};
+/// let me = Replica::try_from(1)?;
+/// let mut log = Log::new();
+/// let news = log.add(me, Node::ROOT)?.node();
+/// let story = log.add(me, Node::ROOT)?.node();
+/// log.move_to(me, story, news)?;
+/// assert_eq!(log.parent(story), Some(news));
+/// assert_eq!(log.listing(View::Keeping).as_str(), "0 0 k\n1 257 k\n2 258 k\n");
+/// # Ok::<(), Refusal>(())
+/// ```
+#[derive(Clone)]
+pub struct Log {
+    /// A sound log, and zeros behind it.
+    bytes: [u8; LARGEST],
+}
+
+impl Log {
+    /// An empty log.
+    pub fn new() -> Log {
+        let mut bytes = [0; LARGEST];
+        plain::make(&mut bytes).expect(ROOM);
+        Log { bytes }
+    }
+
+    /// The log of a file, such as [`as_bytes`](Log::as_bytes) gives.
+    ///
+    /// # Errors
+    ///
+    /// [`Refusal::Unsound`] if the bytes are not a sound log from the first to
+    /// the last.
+    ///
+    /// ```
+    /// use outline::{Log, Refusal};
+    /// let log = Log::new();
+    /// assert_eq!(Log::from_bytes(log.as_bytes()), Ok(log));
+    /// assert_eq!(Log::from_bytes(b"something else"), Err(Refusal::Unsound));
+    /// ```
+    pub fn from_bytes(bytes: &[u8]) -> Result<Log, Refusal> {
+        if plain::end(bytes)? != bytes.len() {
+            return Err(Refusal::Unsound);
+        }
+        let mut log = Log::new();
+        log.bytes[..bytes.len()].copy_from_slice(bytes);
+        Ok(log)
+    }
+
+    /// The file: what is kept on a disk, and the same on all machines that hold
+    /// the same ops.
+    pub fn as_bytes(&self) -> &[u8] {
+        &self.bytes[..HEADER + Op::LENGTH * self.len()]
+    }
+
+    /// How many ops it holds.
+    pub fn len(&self) -> usize {
+        self.vector().sum()
+    }
+
+    /// Whether it holds no op.
+    pub fn is_empty(&self) -> bool {
+        self.len() == 0
+    }
+
+    /// How many ops of each replica it holds: what it tells others, so that
+    /// they hand it [what it lacks](Log::ops_beyond).
+    pub fn vector(&self) -> Vector {
+        // The low bytes of the counts in the header; the high ones are 0.
+        Vector::from(core::array::from_fn(|i| self.bytes[4 * i + 1]))
+    }
+
+    /// Adds a new node under a parent, the root or a node of the log. The op
+    /// names it: `log.add(me, parent)?.node()`.
+    ///
+    /// # Errors
+    ///
+    /// - [`Refusal::Exhausted`]: the replica has issued its 255 ops
+    /// - [`Refusal::Unknown`]: the log has no such parent
+    pub fn add(&mut self, replica: Replica, parent: Node) -> Result<Op, Refusal> {
+        let (replica, parent) = (replica.number(), parent.number());
+        self.issue(|buf, out| plain::issue_add(buf, replica, parent, out))
+    }
+
+    /// Marks a node of the log as removed. It keeps its place, and what is
+    /// below it is not marked.
+    ///
+    /// # Errors
+    ///
+    /// - [`Refusal::Exhausted`]: the replica has issued its 255 ops
+    /// - [`Refusal::Unknown`]: the log has no such node, or it is the root
+    pub fn remove(&mut self, replica: Replica, node: Node) -> Result<Op, Refusal> {
+        let (replica, node) = (replica.number(), node.number());
+        self.issue(|buf, out| plain::issue_remove(buf, replica, node, out))
+    }
+
+    /// Moves a node of the log, with all below it, under a new parent, the root
+    /// or a node of the log.
+    ///
+    /// # Errors
+    ///
+    /// - [`Refusal::Exhausted`]: the replica has issued its 255 ops
+    /// - [`Refusal::Unknown`]: the log has no such node or parent, or the node
+    ///   is the root, or the parent is the node
+    /// - [`Refusal::Cycle`]: the parent lies below the node
+    pub fn move_to(&mut self, replica: Replica, node: Node, parent: Node) -> Result<Op, Refusal> {
+        let (replica, node, parent) = (replica.number(), node.number(), parent.number());
+        self.issue(|buf, out| plain::issue_move(buf, replica, node, parent, out))
+    }
+
+    /// Has a call issue an op.
+    fn issue(
+        &mut self,
+        call: impl FnOnce(&mut [u8], &mut [u8]) -> Result<usize, Refusal>,
+    ) -> Result<Op, Refusal> {
+        let mut op = [0; Op::LENGTH];
+        call(&mut self.bytes, &mut op)?;
+        Ok(Op::from_bytes(&op).expect("an issued op reads back"))
+    }
+
+    /// Takes an op of another machine: an [`Op`], or bytes as they came.
+    ///
+    /// # Errors
+    ///
+    /// - [`Refusal::Length`]: not 14 bytes
+    /// - [`Refusal::Malformed`]: out of form
+    /// - [`Refusal::Conflict`]: another op of this replica and sequence is held
+    /// - [`Refusal::Early`]: it counts ops that are not held yet; see
+    ///   [`ops`](Log::ops) for an order in which this does not happen
+    /// - [`Refusal::NotClosed`]: it counts an op, but not all that this one
+    ///   counts
+    /// - [`Refusal::Unknown`]: it names a node that its replica could not know
+    ///
+    /// ```
+    /// use outline::{Delivery, Log, Node, Refusal, Replica};
+    /// let mut one = Log::new();
+    /// let op = one.add(Replica::try_from(1)?, Node::ROOT)?;
+    ///
+    /// let mut two = Log::new();
+    /// assert_eq!(two.deliver(&op), Ok(Delivery::Accepted(46)));
+    /// assert_eq!(two.deliver(op.as_bytes()), Ok(Delivery::HadIt));
+    /// assert_eq!(two.deliver(b"?"), Err(Refusal::Length));
+    /// assert_eq!(one, two);
+    /// # Ok::<(), Refusal>(())
+    /// ```
+    pub fn deliver(&mut self, op: impl AsRef<[u8]>) -> Result<Delivery, Refusal> {
+        plain::deliver(&mut self.bytes, op.as_ref())
+    }
+
+    /// Takes all ops that another log holds and this one lacks, and says how
+    /// many these were. After both have merged the other they are equal.
+    ///
+    /// # Errors
+    ///
+    /// [`Refusal::Conflict`] if the logs have different ops of one replica and
+    /// sequence: two machines have issued as the same replica. Nothing has
+    /// changed then.
+    ///
+    /// ```
+    /// use outline::{Log, Node, Refusal, Replica};
+    /// let (mut one, mut two) = (Log::new(), Log::new());
+    /// one.add(Replica::try_from(1)?, Node::ROOT)?;
+    /// two.add(Replica::try_from(2)?, Node::ROOT)?;
+    /// assert_eq!(one.merge(&two), Ok(1));
+    /// assert_eq!(two.merge(&one), Ok(1));
+    /// assert_eq!(one, two);
+    /// # Ok::<(), Refusal>(())
+    /// ```
+    pub fn merge(&mut self, other: &Log) -> Result<usize, Refusal> {
+        if !self.agrees_with(other) {
+            return Err(Refusal::Conflict);
+        }
+        // Logs that agree take each other's ops in causal order: none is
+        // refused.
+        let missing = other.ops_beyond(&self.vector());
+        let count = missing.len();
+        for op in missing {
+            self.deliver(op)?;
+        }
+        Ok(count)
+    }
+
+    /// Whether no replica and sequence stands for two different ops.
+    fn agrees_with(&self, other: &Log) -> bool {
+        Replica::all().all(|replica| {
+            let (mine, its) = (self.ops_of(replica), other.ops_of(replica));
+            let shared = mine.len().min(its.len());
+            mine[..shared] == its[..shared]
+        })
+    }
+
+    /// All ops in causal order: each comes after all that it counts. Delivered
+    /// in this order to a log that is empty, or holds some of them, no op is
+    /// early.
+    pub fn ops(&self) -> Ops<'_> {
+        self.ops_beyond(&Vector::default())
+    }
+
+    /// The ops that a log of this vector lacks, in causal order. Delivered to
+    /// it in this order no op is early.
+    ///
+    /// Counts do not say whether the two logs agree on what both hold;
+    /// [`merge`](Log::merge) looks.
+    ///
+    /// ```
+    /// use outline::{Log, Node, Refusal, Replica};
+    /// let me = Replica::try_from(1)?;
+    /// let mut here = Log::new();
+    /// here.add(me, Node::ROOT)?;
+    /// let mut there = here.clone();
+    /// here.add(me, Node::ROOT)?;
+    /// here.add(me, Node::ROOT)?;
+    ///
+    /// // The other machine sends its eight counts, and gets two ops.
+    /// let counts: [u8; 8] = there.vector().into();
+    /// let ops = here.ops_beyond(&counts.into());
+    /// assert_eq!(ops.len(), 2);
+    /// for op in ops {
+    ///     there.deliver(op)?;
+    /// }
+    /// assert_eq!(here, there);
+    /// # Ok::<(), Refusal>(())
+    /// ```
+    pub fn ops_beyond(&self, vector: &Vector) -> Ops<'_> {
+        let held = self.vector();
+        let beyond = |replica| held.count(replica).saturating_sub(vector.count(replica));
+        let mut ops = Ops {
+            log: self,
+            next: [None; Replica::COUNT],
+            left: Replica::all().map(beyond).map(usize::from).sum(),
+        };
+        for replica in Replica::all() {
+            ops.next[replica.index()] = self.op_after(replica, vector.count(replica));
+        }
+        ops
+    }
+
+    /// The op of a replica and sequence, if it is held.
+    ///
+    /// ```
+    /// use outline::{Log, Node, Refusal, Replica};
+    /// let me = Replica::try_from(1)?;
+    /// let mut log = Log::new();
+    /// let op = log.add(me, Node::ROOT)?;
+    /// assert_eq!(log.op(me, 1), Some(op));
+    /// assert_eq!(log.op(me, 2), None);
+    /// # Ok::<(), Refusal>(())
+    /// ```
+    pub fn op(&self, replica: Replica, sequence: u8) -> Option<Op> {
+        let place = usize::from(sequence.checked_sub(1)?);
+        let bytes = self.ops_of(replica).chunks_exact(Op::LENGTH).nth(place)?;
+        Op::from_bytes(bytes).ok()
+    }
+
+    /// The op behind that of a sequence, if it is held.
+    fn op_after(&self, replica: Replica, sequence: u8) -> Option<Op> {
+        self.op(replica, sequence.checked_add(1)?)
+    }
+
+    /// The bytes of a replica's ops, which the header says the start of.
+    fn ops_of(&self, replica: Replica) -> &[u8] {
+        let at = 4 * replica.index() + 2;
+        let start = usize::from(u16::from_be_bytes([self.bytes[at], self.bytes[at + 1]]));
+        let count = usize::from(self.vector().count(replica));
+        &self.bytes[start..start + Op::LENGTH * count]
+    }
+
+    /// Judges the ops: the tree that they come to, and what became of each.
+    pub fn tree(&self) -> Tree {
+        let mut parents = [0; TABLE];
+        let mut outcomes = [0; TABLE];
+        plain::judge(self.as_bytes(), &mut parents, &mut outcomes).expect(SOUND);
+        Tree::new(parents, outcomes, self.lines(View::Keeping))
+    }
+
+    /// The parent of a node; none for the root, and for a node that is not
+    /// there.
+    pub fn parent(&self, node: Node) -> Option<Node> {
+        self.tree().parent(node)
+    }
+
+    /// The children of a node by rising number; none for a node that is not
+    /// there.
+    pub fn children(&self, node: Node) -> Children<Tree> {
+        Children::new(self.tree(), node)
+    }
+
+    /// All below a node, each before what is below it; none for a node that is
+    /// not there.
+    pub fn descendants(&self, node: Node) -> Descendants<Tree> {
+        Descendants::new(self.tree(), node)
+    }
+
+    /// The node, its parent, and so on to the root; none for a node that is not
+    /// there.
+    pub fn path(&self, node: Node) -> Path<Tree> {
+        Path::new(self.tree(), node)
+    }
+
+    /// The text of a view.
+    pub fn listing(&self, view: View) -> Listing {
+        Listing::new(|text| plain::listing(self.as_bytes(), view, text).expect(ROOM))
+    }
+
+    /// The lines of a view: what an editor shows.
+    ///
+    /// ```
+    /// use outline::{Line, Log, Node, Refusal, Replica, View};
+    /// let me = Replica::try_from(1)?;
+    /// let mut log = Log::new();
+    /// let news = log.add(me, Node::ROOT)?.node();
+    /// log.add(me, news)?;
+    /// for Line { depth, node, removed } in log.lines(View::Keeping) {
+    ///     let mark = if removed { "(removed)" } else { "" };
+    ///     println!("{}{node} {mark}", "  ".repeat(depth));
+    /// }
+    /// # Ok::<(), Refusal>(())
+    /// ```
+    pub fn lines(&self, view: View) -> Lines<Listing> {
+        self.listing(view).into_iter()
+    }
+}
+
+const ROOM: &str = "there is room for the largest";
+const SOUND: &str = "a log is sound";
+
+impl Default for Log {
+    fn default() -> Log {
+        Log::new()
+    }
+}
+
+impl PartialEq for Log {
+    fn eq(&self, other: &Log) -> bool {
+        self.as_bytes() == other.as_bytes()
+    }
+}
+
+impl Eq for Log {}
+
+impl AsRef<[u8]> for Log {
+    fn as_ref(&self) -> &[u8] {
+        self.as_bytes()
+    }
+}
+
+impl TryFrom<&[u8]> for Log {
+    type Error = Refusal;
+
+    /// The same as [`Log::from_bytes`].
+    ///
+    /// # Errors
+    ///
+    /// Those of [`Log::from_bytes`].
+    fn try_from(bytes: &[u8]) -> Result<Log, Refusal> {
+        Log::from_bytes(bytes)
+    }
+}
+
+impl fmt::Debug for Log {
+    fn fmt(&self, f: &mut fmt::Formatter<'_>) -> fmt::Result {
+        f.debug_list().entries(self.ops()).finish()
+    }
+}
+
+impl<'a> IntoIterator for &'a Log {
+    type Item = Op;
+    type IntoIter = Ops<'a>;
+
+    fn into_iter(self) -> Ops<'a> {
+        self.ops()
+    }
+}
+
+/// Ops of a log in causal order: see [`Log::ops`] and [`Log::ops_beyond`].
+///
+/// The sums of their counts do not fall. Along one replica they rise, so the
+/// next op is the least of the eight replicas' next.
+#[derive(Clone)]
+pub struct Ops<'a> {
+    log: &'a Log,
+    next: [Option<Op>; Replica::COUNT],
+    left: usize,
+}
+
+impl Iterator for Ops<'_> {
+    type Item = Op;
+
+    fn next(&mut self) -> Option<Op> {
+        let least = self.next.iter().flatten().min_by_key(|op| op.weight());
+        let op = *least?;
+        let replica = op.replica();
+        self.next[replica.index()] = self.log.op_after(replica, op.sequence());
+        self.left -= 1;
+        Some(op)
+    }
+
+    fn size_hint(&self) -> (usize, Option<usize>) {
+        (self.left, Some(self.left))
+    }
+}
+
+impl ExactSizeIterator for Ops<'_> {}
+impl FusedIterator for Ops<'_> {}
+
+impl fmt::Debug for Ops<'_> {
+    fn fmt(&self, f: &mut fmt::Formatter<'_>) -> fmt::Result {
+        f.debug_list().entries(self.clone()).finish()
+    }
+}

@@ -1,0 +1,363 @@
+//! The calls as C has them: on a buffer that the caller lends, with plain
+//! numbers. [`Log`](crate::Log) stands above them.
+//!
+//! A log lies at the front of a buffer, which may be longer. Every call takes
+//! any bytes and any numbers, and checks the log anew. A refused call changes
+//! nothing, and what is lent beyond the written part keeps its content.
+//!
+//! ```
+//! use outline::{plain, Delivery, Refusal, View};
+//!
+//! // Replica 1 makes two nodes under the root.
+//! let mut one = [0; plain::LARGEST];
+//! plain::make(&mut one)?;
+//! let mut ops = [[0; plain::OP]; 2];
+//! for op in &mut ops {
+//!     plain::issue_add(&mut one, 1, plain::ROOT, op)?;
+//! }
+//!
+//! // Replica 2 gets them; the second counts the first, so it is early alone.
+//! let mut two = [0; plain::LARGEST];
+//! plain::make(&mut two)?;
+//! assert_eq!(plain::deliver(&mut two, &ops[1]), Err(Refusal::Early));
+//! assert_eq!(plain::deliver(&mut two, &ops[0]), Ok(Delivery::Accepted(46)));
+//! assert_eq!(plain::deliver(&mut two, &ops[1]), Ok(Delivery::Accepted(60)));
+//! assert_eq!(plain::deliver(&mut two, &ops[1]), Ok(Delivery::HadIt));
+//! assert_eq!(one, two);
+//!
+//! // It moves node 258 below node 257 and lists the tree.
+//! let mut op = [0; plain::OP];
+//! plain::issue_move(&mut two, 2, 258, 257, &mut op)?;
+//! let mut text = [0; plain::LONGEST_LISTING];
+//! let length = plain::listing(&two, View::Keeping, &mut text)?;
+//! assert_eq!(&text[..length], b"0 0 k\n1 257 k\n2 258 k\n");
+//! # Ok::<(), Refusal>(())
+//! ```
+
+use crate::{ffi, Delivery, Node, Op, Refusal, Replica, View};
+
+/// Bytes of an empty log.
+pub const HEADER: usize = 32;
+/// Bytes of an op.
+pub const OP: usize = Op::LENGTH;
+/// Entries of a table of [`judge`].
+pub const TABLE: usize = 2041;
+/// Bytes of the largest log: a buffer of this size never lacks room.
+pub const LARGEST: usize = 28_592;
+/// Entries of the longest path.
+pub const LONGEST_PATH: usize = 2041;
+/// Bytes that are enough for every listing.
+pub const LONGEST_LISTING: usize = 24_492;
+/// The root of the tree.
+pub const ROOT: u16 = 0;
+/// The parent entry of a slot without a node, in a table of [`judge`].
+pub const NO_PARENT: u16 = 65_535;
+
+/// The node that a replica's op of this sequence adds; none for a replica that
+/// is not 1 to 8, and for sequence 0.
+///
+/// ```
+/// use outline::plain;
+/// assert_eq!(plain::node(1, 2), Some(258));
+/// assert_eq!(plain::node(1, 0), None);
+/// assert_eq!(plain::node(9, 2), None);
+/// ```
+pub fn node(replica: u8, sequence: u8) -> Option<u16> {
+    Node::new(Replica::new(replica)?, sequence).map(Node::number)
+}
+
+/// Where a node stands in the tables of [`judge`]; the op that adds it stands
+/// in the same place. None for a number that is neither 0 nor a node's.
+///
+/// ```
+/// use outline::plain;
+/// assert_eq!(plain::slot(plain::ROOT), Some(0));
+/// assert_eq!(plain::slot(258), Some(2));
+/// assert_eq!(plain::slot(513), Some(256));
+/// assert_eq!(plain::slot(512), None);
+/// assert_eq!(plain::slot(plain::NO_PARENT), None);
+/// ```
+pub fn slot(node: u16) -> Option<usize> {
+    Node::from_number(node).map(Node::slot)
+}
+
+/// Makes an empty log at the front of a buffer, whatever it holds, and answers
+/// where the log ends: 32.
+///
+/// # Errors
+///
+/// [`NoRoom`](Refusal::NoRoom) if the buffer is shorter than 32 bytes.
+///
+/// ```
+/// use outline::{plain, Refusal};
+/// assert_eq!(plain::make(&mut [9; 40]), Ok(32));
+/// assert_eq!(plain::make(&mut [9; 31]), Err(Refusal::NoRoom));
+/// ```
+#[inline]
+pub fn make(buf: &mut [u8]) -> Result<usize, Refusal> {
+    ffi::make(buf).value()
+}
+
+/// Whether bytes have a sound log at their front.
+///
+/// ```
+/// use outline::plain;
+/// let mut buf = [9; 40];
+/// assert!(!plain::is_sound(&buf));
+/// plain::make(&mut buf)?;
+/// assert!(plain::is_sound(&buf));
+/// # Ok::<(), outline::Refusal>(())
+/// ```
+#[inline]
+pub fn is_sound(file: &[u8]) -> bool {
+    ffi::is_sound(file)
+}
+
+/// Where the log at the front of a buffer ends: the bytes of its file.
+///
+/// # Errors
+///
+/// [`Unsound`](Refusal::Unsound).
+///
+/// ```
+/// use outline::{plain, Refusal};
+/// let mut buf = [9; 100];
+/// assert_eq!(plain::end(&buf), Err(Refusal::Unsound));
+/// plain::make(&mut buf)?;
+/// plain::issue_add(&mut buf, 1, plain::ROOT, &mut [0; plain::OP])?;
+/// assert_eq!(plain::end(&buf), Ok(46));
+/// # Ok::<(), Refusal>(())
+/// ```
+#[inline]
+pub fn end(file: &[u8]) -> Result<usize, Refusal> {
+    ffi::end(file).value()
+}
+
+/// How many ops of each replica a log holds.
+///
+/// # Errors
+///
+/// [`Unsound`](Refusal::Unsound).
+///
+/// ```
+/// use outline::{plain, Refusal};
+/// let mut buf = [9; 100];
+/// assert_eq!(plain::counts(&buf), Err(Refusal::Unsound));
+/// plain::make(&mut buf)?;
+/// plain::issue_add(&mut buf, 2, plain::ROOT, &mut [0; plain::OP])?;
+/// assert_eq!(plain::counts(&buf), Ok([0, 1, 0, 0, 0, 0, 0, 0]));
+/// # Ok::<(), Refusal>(())
+/// ```
+#[inline]
+pub fn counts(file: &[u8]) -> Result<[u8; Replica::COUNT], Refusal> {
+    let mut counts = [0; Replica::COUNT];
+    ffi::counts(file, &mut counts).value()?;
+    Ok(counts)
+}
+
+/// Delivers an op, which another replica issued, to the log in a buffer.
+///
+/// # Errors
+///
+/// The first that applies, in this order: [`Unsound`](Refusal::Unsound),
+/// [`Length`](Refusal::Length), [`Malformed`](Refusal::Malformed),
+/// [`Conflict`](Refusal::Conflict) (where the same op is held,
+/// [`Delivery::HadIt`] is answered here), [`Early`](Refusal::Early),
+/// [`NotClosed`](Refusal::NotClosed), [`Unknown`](Refusal::Unknown),
+/// [`NoRoom`](Refusal::NoRoom).
+///
+/// ```
+/// use outline::{plain, Delivery, Refusal};
+/// let mut buf = [0; 60];
+/// plain::make(&mut buf)?;
+/// let add = [1, 1, 1, 1, 0, 0, 0, 0, 0, 0, 0, 0, 0, 0];
+/// assert_eq!(plain::deliver(&mut buf, &add), Ok(Delivery::Accepted(46)));
+/// assert_eq!(plain::deliver(&mut buf, &add), Ok(Delivery::HadIt));
+/// assert_eq!(plain::deliver(&mut buf, &add[1..]), Err(Refusal::Length));
+/// # Ok::<(), Refusal>(())
+/// ```
+#[inline]
+pub fn deliver(buf: &mut [u8], op: &[u8]) -> Result<Delivery, Refusal> {
+    ffi::deliver(buf, op).delivery()
+}
+
+/// Issues an add of a new node under a parent, the root or a node of the log.
+///
+/// Answers where the log ends with the new op; the first 14 bytes of `out` are
+/// that op, to be handed to others.
+///
+/// # Errors
+///
+/// The first that applies, in this order: [`Unsound`](Refusal::Unsound),
+/// [`Length`](Refusal::Length), [`Malformed`](Refusal::Malformed),
+/// [`Exhausted`](Refusal::Exhausted), [`Unknown`](Refusal::Unknown),
+/// [`NoRoom`](Refusal::NoRoom).
+///
+/// ```
+/// use outline::{plain, Refusal};
+/// let mut buf = [0; 60];
+/// let mut op = [0; plain::OP];
+/// plain::make(&mut buf)?;
+/// assert_eq!(plain::issue_add(&mut buf, 1, plain::ROOT, &mut op), Ok(46));
+/// assert_eq!(op, [1, 1, 1, 1, 0, 0, 0, 0, 0, 0, 0, 0, 0, 0]);
+/// assert_eq!(plain::issue_add(&mut buf, 9, plain::ROOT, &mut op), Err(Refusal::Malformed));
+/// assert_eq!(plain::issue_add(&mut buf, 1, 999, &mut op), Err(Refusal::Unknown));
+/// # Ok::<(), Refusal>(())
+/// ```
+#[inline]
+pub fn issue_add(
+    buf: &mut [u8],
+    replica: u8,
+    parent: u16,
+    out: &mut [u8],
+) -> Result<usize, Refusal> {
+    ffi::issue_add(buf, replica, parent, out).value()
+}
+
+/// Issues a remove of a node of the log, which is then marked as removed.
+/// Answers and leaves behind the same as [`issue_add`].
+///
+/// # Errors
+///
+/// The same as [`issue_add`].
+///
+/// ```
+/// use outline::{plain, Refusal, View};
+/// let mut buf = [0; 60];
+/// let mut op = [0; plain::OP];
+/// plain::make(&mut buf)?;
+/// plain::issue_add(&mut buf, 1, plain::ROOT, &mut op)?;
+/// assert_eq!(plain::issue_remove(&mut buf, 2, 257, &mut op), Ok(60));
+/// let mut text = [0; 100];
+/// let length = plain::listing(&buf, View::Keeping, &mut text)?;
+/// assert_eq!(&text[..length], b"0 0 k\n");
+/// # Ok::<(), Refusal>(())
+/// ```
+#[inline]
+pub fn issue_remove(
+    buf: &mut [u8],
+    replica: u8,
+    node: u16,
+    out: &mut [u8],
+) -> Result<usize, Refusal> {
+    ffi::issue_remove(buf, replica, node, out).value()
+}
+
+/// Issues a move of a node, with all below it, under a new parent. Answers and
+/// leaves behind the same as [`issue_add`].
+///
+/// # Errors
+///
+/// The same as [`issue_add`]; [`Unknown`](Refusal::Unknown) also if the parent
+/// is the node, and after it [`Cycle`](Refusal::Cycle) if the parent lies below
+/// the node.
+///
+/// ```
+/// use outline::{plain, Refusal};
+/// let mut buf = [0; 100];
+/// let mut op = [0; plain::OP];
+/// plain::make(&mut buf)?;
+/// plain::issue_add(&mut buf, 1, plain::ROOT, &mut op)?;
+/// plain::issue_add(&mut buf, 1, 257, &mut op)?;
+/// assert_eq!(plain::issue_move(&mut buf, 1, 257, 258, &mut op), Err(Refusal::Cycle));
+/// assert_eq!(plain::issue_move(&mut buf, 1, 258, plain::ROOT, &mut op), Ok(74));
+/// # Ok::<(), Refusal>(())
+/// ```
+#[inline]
+pub fn issue_move(
+    buf: &mut [u8],
+    replica: u8,
+    node: u16,
+    parent: u16,
+    out: &mut [u8],
+) -> Result<usize, Refusal> {
+    ffi::issue_move(buf, replica, node, parent, out).value()
+}
+
+/// Judges a log: replays its ops into two tables, by [`slot`].
+///
+/// Both tables need 2,041 entries. A parent is [`NO_PARENT`] where the slot has
+/// no node. An outcome is 0 where the slot has no op, and else the number of an
+/// [`Outcome`](crate::Outcome).
+///
+/// # Errors
+///
+/// [`Unsound`](Refusal::Unsound), then [`Length`](Refusal::Length).
+///
+/// ```
+/// use outline::{plain, Outcome, Refusal};
+/// let mut buf = [0; 60];
+/// let mut op = [0; plain::OP];
+/// plain::make(&mut buf)?;
+/// plain::issue_add(&mut buf, 1, plain::ROOT, &mut op)?;
+/// let mut parents = [0; plain::TABLE];
+/// let mut outcomes = [0; plain::TABLE];
+/// plain::judge(&buf, &mut parents, &mut outcomes)?;
+/// let [held, free] = [257, 258].map(|node| plain::slot(node).unwrap());
+/// assert_eq!(parents[held], plain::ROOT);
+/// assert_eq!(parents[free], plain::NO_PARENT);
+/// assert_eq!(Outcome::from_number(outcomes[held]), Some(Outcome::Applied));
+/// assert_eq!(Outcome::from_number(outcomes[free]), None);
+/// # Ok::<(), Refusal>(())
+/// ```
+#[inline]
+pub fn judge(file: &[u8], parents: &mut [u16], outcomes: &mut [u8]) -> Result<(), Refusal> {
+    ffi::judge(file, parents, outcomes).done()
+}
+
+/// Puts the path of a node into `out`: its number, its parent's, and so on to
+/// the root. Answers how many entries that are.
+///
+/// # Errors
+///
+/// [`Unsound`](Refusal::Unsound), then [`Unknown`](Refusal::Unknown) for a
+/// number that is neither 0 nor a node of the log, then
+/// [`NoRoom`](Refusal::NoRoom).
+///
+/// ```
+/// use outline::{plain, Refusal};
+/// let mut buf = [0; 60];
+/// let mut op = [0; plain::OP];
+/// plain::make(&mut buf)?;
+/// plain::issue_add(&mut buf, 1, plain::ROOT, &mut op)?;
+/// plain::issue_add(&mut buf, 1, 257, &mut op)?;
+/// let mut path = [9; 4];
+/// assert_eq!(plain::path(&buf, 258, &mut path), Ok(3));
+/// assert_eq!(path, [258, 257, 0, 9]);
+/// assert_eq!(plain::path(&buf, 258, &mut path[..2]), Err(Refusal::NoRoom));
+/// assert_eq!(plain::path(&buf, 259, &mut path), Err(Refusal::Unknown));
+/// # Ok::<(), Refusal>(())
+/// ```
+#[inline]
+pub fn path(file: &[u8], node: u16, out: &mut [u16]) -> Result<usize, Refusal> {
+    ffi::path(file, node, out).value()
+}
+
+/// Puts the listing of a view into `out`, and answers how many bytes that are.
+///
+/// A line is a node's depth, a space, its number, a space, `k` or `r`
+/// (removed), and a line feed. Children follow their parent in rising number.
+///
+/// # Errors
+///
+/// [`Unsound`](Refusal::Unsound), then [`NoRoom`](Refusal::NoRoom).
+///
+/// ```
+/// use outline::{plain, Refusal, View};
+/// let mut buf = [0; 100];
+/// let mut op = [0; plain::OP];
+/// plain::make(&mut buf)?;
+/// plain::issue_add(&mut buf, 1, plain::ROOT, &mut op)?;
+/// plain::issue_add(&mut buf, 1, 257, &mut op)?;
+/// plain::issue_remove(&mut buf, 1, 257, &mut op)?;
+/// let mut text = [0; 100];
+/// let length = plain::listing(&buf, View::Keeping, &mut text)?;
+/// assert_eq!(&text[..length], b"0 0 k\n1 257 r\n2 258 k\n");
+/// let length = plain::listing(&buf, View::Skipping, &mut text)?;
+/// assert_eq!(&text[..length], b"0 0 k\n");
+/// # Ok::<(), Refusal>(())
+/// ```
+#[inline]
+pub fn listing(file: &[u8], view: View, out: &mut [u8]) -> Result<usize, Refusal> {
+    ffi::listing(file, view == View::Skipping, out).value()
+}

@@ -1,0 +1,167 @@
+//! The plain calls: each with each kind of answer, and what it leaves behind.
+
+use outline::{plain, Delivery, Refusal, View};
+
+const ADD: [u8; 14] = [1, 1, 1, 1, 0, 0, 0, 0, 0, 0, 0, 0, 0, 0];
+
+fn empty(length: usize) -> Vec<u8> {
+    let mut buf = vec![0xa5; length];
+    assert_eq!(plain::make(&mut buf), Ok(32));
+    buf
+}
+
+/// Two nodes, 257 under the root and 258 under 257.
+fn two_nodes() -> Vec<u8> {
+    let mut buf = empty(100);
+    let mut op = [0; 14];
+    assert_eq!(plain::issue_add(&mut buf, 1, 0, &mut op), Ok(46));
+    assert_eq!(plain::issue_add(&mut buf, 1, 257, &mut op), Ok(60));
+    buf
+}
+
+#[test]
+fn make_leaves_the_rest() {
+    let buf = empty(40);
+    assert_eq!(buf[..4], [0, 0, 0, 32]);
+    assert_eq!(buf[32..], [0xa5; 8]);
+    assert_eq!(plain::make(&mut []), Err(Refusal::NoRoom));
+}
+
+#[test]
+fn delivery() {
+    let mut buf = empty(46);
+    assert_eq!(plain::deliver(&mut [], &ADD), Err(Refusal::Unsound));
+    assert_eq!(plain::deliver(&mut buf, &[]), Err(Refusal::Length));
+    let mut malformed = ADD;
+    malformed[1] = 9;
+    assert_eq!(
+        plain::deliver(&mut buf, &malformed),
+        Err(Refusal::Malformed)
+    );
+    let mut early = ADD;
+    early[7] = 1;
+    assert_eq!(plain::deliver(&mut buf, &early), Err(Refusal::Early));
+    let mut unknown = ADD;
+    unknown[3] = 2;
+    assert_eq!(plain::deliver(&mut buf, &unknown), Err(Refusal::Unknown));
+    assert_eq!(plain::deliver(&mut buf[..45], &ADD), Err(Refusal::NoRoom));
+    assert_eq!(plain::deliver(&mut buf, &ADD), Ok(Delivery::Accepted(46)));
+    assert_eq!(buf[32..], ADD);
+    assert_eq!(plain::deliver(&mut buf, &ADD), Ok(Delivery::HadIt));
+    assert_eq!(plain::deliver(&mut buf, &unknown), Err(Refusal::Conflict));
+}
+
+#[test]
+fn issuing() {
+    let mut buf = two_nodes();
+    let before = buf.clone();
+    let mut out = [7; 20];
+    assert_eq!(
+        plain::issue_add(&mut buf, 1, 0, &mut out[..13]),
+        Err(Refusal::Length)
+    );
+    assert_eq!(
+        plain::issue_add(&mut buf, 0, 0, &mut out),
+        Err(Refusal::Malformed)
+    );
+    assert_eq!(
+        plain::issue_remove(&mut buf, 1, 259, &mut out),
+        Err(Refusal::Unknown)
+    );
+    assert_eq!(
+        plain::issue_move(&mut buf, 1, 257, 257, &mut out),
+        Err(Refusal::Unknown)
+    );
+    assert_eq!(
+        plain::issue_move(&mut buf, 1, 257, 258, &mut out),
+        Err(Refusal::Cycle)
+    );
+    assert_eq!(
+        plain::issue_remove(&mut buf[..73], 1, 257, &mut out),
+        Err(Refusal::NoRoom)
+    );
+    assert_eq!((&buf, out), (&before, [7; 20]));
+    assert_eq!(plain::issue_move(&mut buf, 8, 258, 0, &mut out), Ok(74));
+    assert_eq!(out[..6], [3, 8, 1, 2, 0, 0]);
+    assert_eq!(out[14..], [7; 6]);
+    assert_eq!(buf[60..74], out[..14]);
+    assert_eq!(buf[74..], [0xa5; 26]);
+}
+
+#[test]
+fn exhausted() {
+    let mut buf = empty(plain::LARGEST);
+    let mut op = [0; 14];
+    for sequence in 1..=255 {
+        assert_eq!(
+            plain::issue_add(&mut buf, 3, 0, &mut op),
+            Ok(32 + 14 * sequence)
+        );
+    }
+    assert_eq!(
+        plain::issue_add(&mut buf, 3, 0, &mut op),
+        Err(Refusal::Exhausted)
+    );
+}
+
+#[test]
+fn judging() {
+    let buf = two_nodes();
+    let mut parents = [7; 2050];
+    let mut outcomes = [7; 2050];
+    assert_eq!(
+        plain::judge(&buf, &mut parents[..2040], &mut outcomes),
+        Err(Refusal::Length)
+    );
+    assert_eq!(
+        plain::judge(&buf, &mut parents, &mut outcomes[..2040]),
+        Err(Refusal::Length)
+    );
+    assert_eq!(
+        plain::judge(&buf[1..], &mut parents, &mut outcomes),
+        Err(Refusal::Unsound)
+    );
+    assert_eq!((parents, outcomes), ([7; 2050], [7; 2050]));
+    assert_eq!(plain::judge(&buf, &mut parents, &mut outcomes), Ok(()));
+    assert_eq!(parents[..4], [0, 0, 257, plain::NO_PARENT]);
+    assert_eq!(outcomes[..4], [0, 1, 1, 0]);
+    assert_eq!(parents[2041..], [7; 9]);
+    assert_eq!(outcomes[2041..], [7; 9]);
+}
+
+#[test]
+fn paths() {
+    let buf = two_nodes();
+    let mut out = [7; 4];
+    assert_eq!(plain::path(&buf, 513, &mut out), Err(Refusal::Unknown));
+    assert_eq!(plain::path(&buf, 258, &mut out[..2]), Err(Refusal::NoRoom));
+    assert_eq!(plain::path(&[], 0, &mut out), Err(Refusal::Unsound));
+    assert_eq!(out, [7; 4]);
+    assert_eq!(plain::path(&buf, 0, &mut out), Ok(1));
+    assert_eq!(out, [0, 7, 7, 7]);
+    assert_eq!(plain::path(&buf, 258, &mut out), Ok(3));
+    assert_eq!(out, [258, 257, 0, 7]);
+}
+
+#[test]
+fn listings() {
+    let mut buf = two_nodes();
+    plain::issue_remove(&mut buf, 1, 257, &mut [0; 14]).unwrap();
+    let mut out = [7; 30];
+    assert_eq!(
+        plain::listing(&buf, View::Keeping, &mut out[..21]),
+        Err(Refusal::NoRoom)
+    );
+    assert_eq!(
+        plain::listing(&buf[..73], View::Keeping, &mut out),
+        Err(Refusal::Unsound)
+    );
+    assert_eq!(out, [7; 30]);
+    assert_eq!(plain::listing(&buf, View::Keeping, &mut out), Ok(22));
+    assert_eq!(&out[..22], b"0 0 k\n1 257 r\n2 258 k\n");
+    assert_eq!(out[22..], [7; 8]);
+    let mut out = [7; 30];
+    assert_eq!(plain::listing(&buf, View::Skipping, &mut out), Ok(6));
+    assert_eq!(&out[..6], b"0 0 k\n");
+    assert_eq!(out[6..], [7; 24]);
+}
