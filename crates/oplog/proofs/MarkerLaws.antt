@@ -6,13 +6,13 @@ use mathlib.Core.List.{List, [], _∷_, _++_, map}
 use Prim.Native.Nat.{ℕ, zero, suc, _+_, _*_, _-_, _≤_, _<_}
 use native.Mathlib.Omega.{arith}
 use native.Mathlib.Numerals.{add-one}
-use lib.ListN.{length, getD}
+use lib.ListN.{length, getD, drop, replicate}
 use lib.Dec.{leb}
 use native.Mathlib.Decide.{decLe, ℕ-discrete}
 use borrow.Author.Needs.{needs}
 use borrow.Author.Tests.{leb-true, le-leb, lt-leb, lt-ltb, le-ltb}
 use Rattle.lists.specs.Lists.{upFrom, concat, all}
-use Rattle.rules.specs.Op.{Op, Vector, replicas}
+use Rattle.rules.specs.Op.{Op, Vector, replicas, vectorOf}
 use Rattle.rules.specs.File.{Log, countAt, opsOf, logOf, opAt}
 use Rattle.rules.specs.Log.{laid, soundLog, soundOps, soundOp}
 use Rattle.lists.proofs.BoolLaws.{tested}
@@ -21,9 +21,9 @@ use Rattle.rules.proofs.FileLaws.{log-eta}
 use Rattle.rules.proofs.ReplicaLaws.{all-alike, map-replicas}
 use Rattle.rules.proofs.StructureLaws.{count-held, laid-reads}
 use Rattle.oplog.specs.declared.marker.Marker.{Marker}
-use Rattle.oplog.specs.Places.{InFile, nextMarker}
-use Rattle.oplog.specs.Tests.{LaidOut, soundAt, soundHere}
-use Rattle.oplog.proofs.FieldLaws.{counts-in}
+use Rattle.oplog.specs.Places.{InFile, nextMarker, placeOf}
+use Rattle.oplog.specs.Tests.{LaidOut, OpHere, Before, vectorBefore, nextBefore, soundAt, soundHere}
+use Rattle.oplog.proofs.FieldLaws.{counts-in, fields-at}
 use Rattle.oplog.proofs.HeaderLaws.{laid-long}
 
 -- every test passes
@@ -199,6 +199,16 @@ left-sound log =
 
 ---- the tests along the walk
 
+in-file-at : (w : ℕ) (f : List ℕ) (s q : ℕ) (counts : Vector) → LaidOut w f counts → 1 ≤ s → s ≤ 8 → 1 ≤ q → q ≤ countAt f s → InFile w f s q
+in-file-at w f s q counts t l u h k = record {
+  wide = t .wide;
+  is-laid = t .is-laid;
+  low = l;
+  high = u;
+  first = h;
+  last = k;
+}
+
 module _ (w : ℕ) (f : List ℕ) (m : Marker) where
   pub here-none : leb (m .sequence) (countAt f (m .replica)) ≡ false → true ≡ soundHere w f m
   unfolding soundHere
@@ -209,30 +219,59 @@ module _ (w : ℕ) (f : List ℕ) (m : Marker) where
     unfolding soundHere
     here-some b h = rw e h
 
-    pub here-in-file : (counts : Vector) → LaidOut w f counts → 1 ≤ m .replica → m .replica ≤ 8 → 1 ≤ m .sequence
-        → InFile w f (m .replica) (m .sequence)
-    here-in-file counts t l u h = record {
-      wide = t .wide;
-      is-laid = t .is-laid;
-      low = l;
-      high = u;
-      first = h;
-      last = leb-true _ _ e;
+    pub here-op : (counts before : Vector) → LaidOut w f counts → Before (logOf w f) (m .replica) (m .sequence) before
+        → 1 ≤ m .replica → m .replica ≤ 8 → 1 ≤ m .sequence → OpHere w f counts before (m .replica) (m .sequence)
+    here-op counts before t b l u h = record {
+      there = in-file-at w f (m .replica) (m .sequence) counts t l u h (leb-true _ _ e);
+      held = t .held;
+      last = b;
     }
 
--- the ops before the marker are sound
-pub record Walked (w : ℕ) (f : List ℕ) (m : Marker) : Type 0 where
+---- the vector before the next marker; n is the count that was read
+
+module _ (w : ℕ) (f : List ℕ) (m : Marker) (n : ℕ) (e : n ≡ countAt f (m .replica)) where
+  pub before-none : n ≤ m .sequence → replicate 8 0 ≡ nextBefore w f m
+  unfolding nextBefore
+  before-none h = rw (← e, le-ltb (m .sequence) n h)
+
+  module _ (h : m .sequence < n) (counts : Vector) (t : LaidOut w f counts) (l : 1 ≤ m .replica) (u : m .replica ≤ 8) (k : 1 ≤ m .sequence) where
+    pub before-there : InFile w f (m .replica) (m .sequence)
+    before-there = in-file-at w f (m .replica) (m .sequence) counts t l u k (omega arith)
+
+    pub before-op : (at : ℕ) → at ≡ placeOf w f (m .replica) (m .sequence) → (v : Vector) → v ≡ vectorOf (drop at f) → v ≡ nextBefore w f m
+    unfolding nextBefore
+    before-op at is v iv =
+        rw (← e, lt-ltb (m .sequence) n h) (iv ∙ sym (fields-at w f (m .replica) (m .sequence) before-there at is .vector))
+
+---- a turn of the walk
+
+-- the ops before the marker are sound, and `before` is the vector of its replica's op before
+pub record Walked (w : ℕ) (f : List ℕ) (m : Marker) (before : Vector) : Type 0 where
   pub at : Walk m
+  pub last : Before (logOf w f) (m .replica) (m .sequence) before
   pub rest : soundLog (logOf w f) ≡ every (left (logOf w f) (soundAt (logOf w f)) (m .replica) (m .sequence))
 
+-- at the first op of a replica
+none-before : (log : Log) (s : ℕ) → Before log s 1 (replicate 8 0)
+unfolding vectorBefore
+none-before log s = record { is = refl; is-sound = λ h. absurd (omega arith) }
+
+-- behind a sound op
+after-op : (log : Log) (s q : ℕ) → 1 ≤ q → soundAt log s q ≡ true → Before log s (q + 1) (vectorOf (opAt log s q))
+unfolding vectorBefore
+after-op log s q l e =
+    let z : q + 1 - 1 ≡ q = omega arith in
+    record { is = rw (lt-ltb 1 (q + 1) (omega arith), z); is-sound = λ h. rw z e }
+
 module _ (w : ℕ) (f : List ℕ) (m : Marker) where
-  pub walk-first : (m .replica ≡ 1) × (m .sequence ≡ 1) → Walked w f m
+  pub walk-first : (m .replica ≡ 1) × (m .sequence ≡ 1) → Walked w f m (replicate 8 0)
   walk-first e = record {
     at = record { first = omega arith; last = omega arith; low = omega arith; high = omega arith };
+    last = rw (e .0, e .1) (none-before (logOf w f) 1);
     rest = rw (e .0, e .1) (left-sound (logOf w f));
   }
 
-  module _ (t : Walked w f m) where
+  module _ (before : Vector) (t : Walked w f m before) where
     pub walk-last : 8 < m .replica → true ≡ soundLog (logOf w f)
     unfolding all
     walk-last h = sym (t .rest ∙ ap every (left-end (logOf w f) _ (m .replica) (m .sequence) h))
@@ -258,10 +297,28 @@ module _ (w : ℕ) (f : List ℕ) (m : Marker) where
         pub walk-less : togo m′ < togo m
         walk-less = onward w f (g .is-laid) m m′ e (t .at) u .less
 
-        pub walk-next : soundHere w f m ≡ true → Walked w f m′
-        walk-next h = record { at = onward w f (g .is-laid) m m′ e (t .at) u .at; rest = turn m′ e ∙ rw h }
+        module _ (h : soundHere w f m ≡ true) (after : Vector) (i : after ≡ nextBefore w f m) where
+          before-next : Before (logOf w f) (m′ .replica) (m′ .sequence) after
+          unfolding nextMarker nextBefore vectorBefore soundHere
+          before-next =
+              let s : ℕ = m .replica in
+              let q : ℕ = m .sequence in
+              let n : ℕ = countAt f s in
+              rw (e, i) (elim (decLe (q + 1) n) [
+                | yes k ↦ rw (lt-ltb q n (omega arith)) (after-op (logOf w f) s q (t .at .first) (rw (le-leb q n (omega arith)) at h))
+                | no k ↦ rw (le-ltb q n (omega arith)) (none-before (logOf w f) (s + 1))
+              ])
+
+          pub walk-next : Walked w f m′ after
+          walk-next = record {
+            at = onward w f (g .is-laid) m m′ e (t .at) u .at;
+            last = before-next;
+            rest = turn m′ e ∙ rw h;
+          }
 
 ---- what the code of the walk needs: search walking
-pub ruleset here = (here-none, here-some, here-in-file)
+pub ruleset here = (here-none, here-some, here-op)
 
-pub ruleset walking = (needs, tested, laid-long, here, walk-first, walk-fails, walk-less, walk-next, walk-last)
+pub ruleset carrying = (before-none, before-there, before-op)
+
+pub ruleset walking = (needs, tested, laid-long, here, carrying, walk-first, walk-fails, walk-less, walk-next, walk-last)

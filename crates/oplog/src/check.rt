@@ -1,8 +1,10 @@
+use crate::header::count_at;
 use crate::header::counts_of;
 use crate::header::end_of;
 use crate::header::header_right;
 use crate::marker::Marker;
 use crate::places::place;
+use codec::is_step;
 use codec::kind_at;
 use codec::kind_fits;
 use codec::node_at;
@@ -13,11 +15,13 @@ use codec::widen;
 use codec::widen16;
 use codec::within;
 ghost use mathlib.Core.Path.{_≡_};
-ghost use Prim.Native.Nat.{_≤_};
-ghost use Rattle.rules.specs.File.{logOf, headerCounts};
+ghost use Prim.Native.Nat.{_≤_, _<_};
+ghost use Rattle.rules.specs.File.{logOf};
 ghost use Rattle.rules.specs.Log.{nodeWithin, known, knownParent, closedAt, closed, soundLog, laid};
-ghost use Rattle.oplog.specs.Places.{InFile, Held};
-ghost use Rattle.oplog.specs.Tests.{LaidOut, moveNames, namesBy, ownBy, passesBy, soundAt, soundHere};
+ghost use Rattle.rules.specs.Op.{countIn};
+ghost use Rattle.oplog.specs.Places.{Held};
+ghost use Rattle.oplog.specs.Tests.{LaidOut, OpHere, Before, moveNames, namesBy, passesBy, vectorBy, soundAt, soundHere};
+ghost use Rattle.oplog.specs.Tests.{ownAlone, changeClosed, changesClosed, risen, nextBefore};
 ghost use Rattle.rules.specs.Log as log;
 
 // Whether a vector counts the op of a node's replica and sequence.
@@ -134,38 +138,101 @@ pub fn closed_in(file: &[u8], v: [u8; 8], width: usize) -> bool
     true
 }
 
-// Whether an op has the replica s and the sequence q, by its replica and its vector.
-fn is_own(replica: u8, v: [u8; 8], s: usize, q: usize) -> bool
-    requires { ⌜ (1 ≤ s) × (s ≤ 8) × (1 ≤ q) ⌝ }
-    ensures { λ r. ⌜ r ≡ ownBy replica v s q ⌝ }
+// Whether only the own count has changed since the vector before, by one. Then the vector is closed
+// and within the held counts, as the one before was.
+fn own_alone(before: [u8; 8], v: [u8; 8], s: usize, q: usize) -> bool
+    requires { ⌜ (1 ≤ s) × (s ≤ 8) × (countIn before s < 255) ⌝ }
+    ensures { λ r. ⌜ r ≡ ownAlone before v s q ⌝ }
 {
-    if widen(replica) != s {
+    if q < 2 {
         return false;
     }
-    widen(v[s - 1]) == q - 1
+    is_step(before, v, s)
 }
 
-// Whether an op of a replica passes tests 3, 5, 6 and 7, by its fields.
-fn passes(
+// Whether a vector is closed at a count, if that has changed since the vector before.
+fn change_closed(file: &[u8], before: [u8; 8], v: [u8; 8], s: usize, width: usize) -> bool
+    requires { ⌜ Held width (now file) v × (1 ≤ s) × (s ≤ 8) ⌝ }
+    ensures { λ r. ⌜ r ≡ changeClosed (logOf width (now (file .entry))) before v s ⌝ }
+{
+    if v[s - 1] == before[s - 1] {
+        return true;
+    }
+    closed_at(file, v, s, width)
+}
+
+// Whether a vector is closed at every count that has changed.
+fn changes_closed(file: &[u8], before: [u8; 8], v: [u8; 8], width: usize) -> bool
+    requires { ⌜ Held width (now file) v ⌝ }
+    ensures { λ r. ⌜ r ≡ changesClosed (logOf width (now (file .entry))) before v ⌝ }
+{
+    for i in 0..8usize {
+        if !change_closed(file, before, v, i + 1, width) {
+            return false;
+        }
+    }
+    true
+}
+
+// Whether a vector is nowhere less than the one before, and closed at every count that has changed.
+// The op that an unchanged count names was within the vector before, which was closed.
+fn is_risen(file: &[u8], before: [u8; 8], v: [u8; 8], width: usize) -> bool
+    requires { ⌜ Held width (now file) v ⌝ }
+    ensures { λ r. ⌜ r ≡ risen (logOf width (now (file .entry))) before v ⌝ }
+{
+    if !within(before, v) {
+        return false;
+    }
+    changes_closed(file, before, v, width)
+}
+
+// Whether the vector of an op of replica s has the sequence q, and passes tests 5 and 6.
+fn vector_passes(
     file: &[u8],
     counts: [u8; 8],
+    before: [u8; 8],
     v: [u8; 8],
-    kind: u8,
-    node: u16,
-    parent: u16,
-    own: u16,
+    s: usize,
+    q: usize,
     width: usize,
 ) -> bool
-    requires { ⌜ LaidOut width (now file) counts ⌝ }
-    ensures { λ r. ⌜ r ≡ passesBy (logOf width (now (file .entry))) v kind node parent own ⌝ }
+    requires { ⌜ OpHere width (now file) counts before s q ⌝ }
+    ensures { λ r. ⌜ r ≡ vectorBy (logOf width (now (file .entry))) v s q ⌝ }
 {
-    if !kind_fits(kind, parent) {
+    if widen(v[s - 1]) != q - 1 {
         return false;
     }
     if !within(v, counts) {
         return false;
     }
-    if !closed_in(file, v, width) {
+    is_risen(file, before, v, width)
+}
+
+// The same; most vectors have changed in their own count alone.
+fn vector_sound(
+    file: &[u8],
+    counts: [u8; 8],
+    before: [u8; 8],
+    v: [u8; 8],
+    s: usize,
+    q: usize,
+    width: usize,
+) -> bool
+    requires { ⌜ OpHere width (now file) counts before s q ⌝ }
+    ensures { λ r. ⌜ r ≡ vectorBy (logOf width (now (file .entry))) v s q ⌝ }
+{
+    if own_alone(before, v, s, q) {
+        return true;
+    }
+    vector_passes(file, counts, before, v, s, q, width)
+}
+
+// Whether an op passes tests 3 and 7, by its fields.
+fn passes(file: &[u8], v: [u8; 8], kind: u8, node: u16, parent: u16, own: u16, width: usize) -> bool
+    requires { ⌜ Held width (now file) v ⌝ }
+    ensures { λ r. ⌜ r ≡ passesBy (logOf width (now (file .entry))) v kind node parent own ⌝ }
+{
+    if !kind_fits(kind, parent) {
         return false;
     }
     names_known(file, v, kind, node, parent, own, width)
@@ -173,51 +240,64 @@ fn passes(
 
 // Whether the body number q of replica s is a sound op: its own replica and sequence, and tests 3,
 // 5, 6 and 7.
-fn op_sound(file: &[u8], counts: [u8; 8], s: usize, q: usize, width: usize) -> bool
-    requires { ⌜ InFile width (now file) s q × (counts ≡ headerCounts (now file)) ⌝ }
+fn op_sound(file: &[u8], counts: [u8; 8], before: [u8; 8], s: usize, q: usize, width: usize) -> bool
+    requires { ⌜ OpHere width (now file) counts before s q ⌝ }
     ensures { λ r. ⌜ r ≡ soundAt (logOf width (now (file .entry))) s q ⌝ }
 {
     let at = place(file, s, q, width);
+    if widen(replica_at(file, at)) != s {
+        return false;
+    }
     let v = vector_at(file, at);
-    if !is_own(replica_at(file, at), v, s, q) {
+    if !vector_sound(file, counts, before, v, s, q, width) {
         return false;
     }
     let kind = kind_at(file, at);
     let node = node_at(file, at);
     let parent = parent_at(file, at);
-    passes(
-        file,
-        counts,
-        v,
-        kind,
-        node,
-        parent,
-        (256 * s + q) as u16,
-        width,
-    )
+    passes(file, v, kind, node, parent, (256 * s + q) as u16, width)
 }
 
 // Whether the body at a marker, if there is one, is a sound op.
-fn here_sound(file: &[u8], counts: [u8; 8], m: Marker, width: usize) -> bool
-    requires { ⌜ LaidOut width (now file) counts × (1 ≤ m .replica) × (m .replica ≤ 8) × (1 ≤ m .sequence) ⌝ }
+fn here_sound(file: &[u8], counts: [u8; 8], before: [u8; 8], m: Marker, width: usize) -> bool
+    requires { ⌜ LaidOut width (now file) counts × Before (logOf width (now file)) (m .replica) (m .sequence) before
+        × (1 ≤ m .replica) × (m .replica ≤ 8) × (1 ≤ m .sequence) ⌝ }
     ensures { λ r. ⌜ r ≡ soundHere width (now (file .entry)) m ⌝ }
 {
     if !m.in_file(file) {
         return true;
     }
-    op_sound(file, counts, m.replica, m.sequence, width)
+    op_sound(file, counts, before, m.replica, m.sequence, width)
 }
 
-// Whether every body is a sound op, by a marker through the file.
+// The vector before the next marker: that of the op at this one, or none where the next is a
+// replica's first.
+fn next_before(file: &[u8], counts: [u8; 8], m: Marker, width: usize) -> [u8; 8]
+    requires { ⌜ LaidOut width (now file) counts × (1 ≤ m .replica) × (m .replica ≤ 8) × (1 ≤ m .sequence) ⌝ }
+    ensures { λ r. ⌜ r ≡ nextBefore width (now (file .entry)) m ⌝ }
+{
+    let replica = m.replica;
+    let sequence = m.sequence;
+    if count_at(file, replica) <= sequence {
+        return [0u8; 8];
+    }
+    vector_at(file, place(file, replica, sequence, width))
+}
+
+// Whether every body is a sound op, by a marker through the file, which has the vector of its
+// replica's op before with it.
 fn ops_sound(file: &[u8], counts: [u8; 8], width: usize) -> bool
     requires { ⌜ LaidOut width (now file) counts ⌝ }
     ensures { λ r. ⌜ r ≡ soundLog (logOf width (now (file .entry))) ⌝ }
 {
     let mut m = Marker::first();
+    let mut before = [0u8; 8];
     while m.replica <= 8 {
-        if !here_sound(file, counts, m, width) {
+        if !here_sound(file, counts, before, m, width) {
             return false;
         }
+        let after = next_before(file, counts, m, width);
+        before = after;
         m = m.next(file);
     }
     true

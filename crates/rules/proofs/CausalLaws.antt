@@ -5,13 +5,13 @@ use mathlib.Core.List.{map}
 use Prim.Native.Nat.{ℕ, zero, suc, _+_, _-_, _≤_, _<_}
 use native.Mathlib.Nat.{le-refl, add-zero}
 use native.Mathlib.Omega.{arith}
-use borrow.Author.Tests.{leb-true, leb-false, ne-eqb}
+use borrow.Author.Tests.{le-leb, leb-true, leb-false, ne-eqb}
 use lib.Dec.{leb, lit≤}
 use Rattle.lists.specs.Lists.{upFrom, sum}
 use Rattle.rules.specs.Op.{Vector, replicas, countIn, vectorOf, seqOf, ownCount}
 use Rattle.rules.specs.File.{Log, opAt, countsOf, within}
 use Rattle.rules.specs.Log.{covered, closedAt, closed}
-use Rattle.rules.proofs.ReplicaLaws.{replica-passes, replica-fails, replica-cases}
+use Rattle.rules.proofs.ReplicaLaws.{all-replicas, replica-passes, replica-fails, replica-cases}
 use Rattle.rules.proofs.StructureLaws.{held-in, HeldOps}
 
 -- a vector nowhere greater than another
@@ -21,6 +21,13 @@ Le v u = (s : ℕ) → 1 ≤ s → s ≤ 8 → countIn v s ≤ countIn u s
 pub within-le : (v u : Vector) → within v u ≡ true → Le v u
 unfolding within
 within-le v u e s l h = leb-true _ _ (replica-passes (λ t. leb (countIn v t) (countIn u t)) e s l h)
+
+pub le-within : (v u : Vector) → Le v u → within v u ≡ true
+unfolding within
+le-within v u h = all-replicas _ (λ s l b. le-leb (countIn v s) (countIn u s) (h s l b))
+
+pub within-trans : (v u o : Vector) → within v u ≡ true → within u o ≡ true → within v o ≡ true
+within-trans v u o a b = le-within v o (λ s l h. omega (arith, within-le v u a s l h, within-le u o b s l h))
 
 -- the number of ops that a vector counts
 unfoldable pub total : Vector → ℕ

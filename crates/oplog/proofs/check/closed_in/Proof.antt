@@ -1,12 +1,13 @@
 -- `oplog::check::closed_in` meets its contract.
 use Prim.Native.Nat.{_-_}
 use Rattle.rules.specs.File.{logOf}
-use Rattle.oplog.proofs.TestLaws.{ClosedTo, testing}
+use Rattle.rules.specs.Log.{closed, closedAt}
+use Rattle.oplog.proofs.TestLaws.{PassedTo, testing}
 use Rattle.oplog.proofs.check.closed_in.Statement.{statement}
 use Rattle.oplog.proofs.check.closed_in.Tie as tie
 
 abbrev Inv-loop : tie.InvT-loop
-Inv-loop file v width i₀ i = ClosedTo (logOf width file) v i
+Inv-loop file v width i₀ i = PassedTo (closed (logOf width file) v) (closedAt (logOf width file) v) i
 
 abbrev μ-loop : tie.MeasureT-loop
 μ-loop file v width i₀ i = 8 - i

@@ -1,0 +1,163 @@
+-- Along a replica vectors rise: an op's vector is closed if it is nowhere less than that of the op before, and closed at
+-- every count that has changed since. The op that an unchanged count names was within the vector before, which was closed.
+use mathlib.Core.Path.{_≡_, refl, sym, ap, _∙_}
+use mathlib.Core.Logic.{_⊎_, ⊎-elim}
+use mathlib.Core.Bool.{Bool, true, false, cond, _&&_, _||_, and-eq-true-iff, or-true}
+use Prim.Native.Nat.{ℕ, _+_, _-_, _≤_, _<_}
+use native.Mathlib.Omega.{arith}
+use native.Mathlib.Decide.{decLe, ℕ-discrete}
+use lib.ListN.{replicate}
+use lib.Dec.{eqb, ltb, leb}
+use borrow.Author.Tests.{eq-eqb, ne-eqb, eqb-true, eqb-false, lt-ltb, le-ltb, ltb-true, le-leb}
+use Rattle.lists.proofs.BoolLaws.{and-both, and-left, and-right, both-ways, or-cases, or-then}
+use Rattle.rules.specs.File.{Log, opAt, countsOf, within}
+use Rattle.rules.specs.Log.{closed, closedAt, covered, soundOp}
+use Rattle.rules.specs.Op.{Op, Vector, countIn, vectorOf, replicaOf, seqOf, ownCount}
+use Rattle.rules.proofs.ReplicaLaws.{all-replicas, replica-passes, replica-cases}
+use Rattle.rules.proofs.CausalLaws.{le-within, within-trans}
+use Rattle.rules.proofs.StructureLaws.{held-in}
+use Rattle.codec.specs.Packed.{isStep}
+use Rattle.oplog.specs.Tests.{Before, vectorBefore, ownAlone, changeClosed, changesClosed, risen, vectorBy}
+
+---- a vector that counts nothing
+
+count-none : (s : ℕ) → 1 ≤ s → s ≤ 8 → countIn (replicate 8 0) s ≡ 0
+unfolding countIn
+count-none = replica-cases (λ s. countIn (replicate 8 0) s ≡ 0) refl refl refl refl refl refl refl refl
+
+none-within : (v : Vector) → within (replicate 8 0) v ≡ true
+none-within v = le-within _ v (λ s l u. omega (arith, count-none s l u))
+
+closed-zero : (log : Log) (v : Vector) (s : ℕ) → countIn v s ≡ 0 → closedAt log v s ≡ true
+unfolding closedAt
+closed-zero log v s e = rw (eq-eqb (countIn v s) 0 e)
+
+none-closed : (log : Log) → closed log (replicate 8 0) ≡ true
+unfolding closed
+none-closed log = all-replicas (closedAt log (replicate 8 0)) (λ s l u. closed-zero log _ s (count-none s l u))
+
+---- what a sound op's vector says
+
+pub record SoundVector (log : Log) (s q : ℕ) (v : Vector) : Type 0 where
+  pub own : countIn v s + 1 ≡ q
+  pub is-covered : covered log v ≡ true
+  pub is-closed : closed log v ≡ true
+
+sound-vector : (log : Log) (s q : ℕ) (r : Op) → soundOp log s q r ≡ true → SoundVector log s q (vectorOf r)
+unfolding soundOp seqOf ownCount
+sound-vector log s q r e =
+    let t = simp and-eq-true-iff at e in
+    let o : replicaOf r ≡ s = eqb-true _ _ (t .0 .0 .0 .0 .0) in
+    record { own = rw o at (eqb-true (countIn (vectorOf r) (replicaOf r) + 1) q (t .0 .0 .0 .0 .1)); is-covered = t .0 .0 .1; is-closed = t .0 .1 }
+
+---- the vector before
+
+module _ (log : Log) (s q : ℕ) (before : Vector) (t : Before log s q before) (l : 1 ≤ s) (u : s ≤ 8) where
+  later : 1 < q → before ≡ vectorOf (opAt log s (q - 1))
+  unfolding vectorBefore
+  later h = t .is ∙ rw (lt-ltb 1 q h)
+
+  at-first : q ≤ 1 → before ≡ replicate 8 0
+  unfolding vectorBefore
+  at-first h = t .is ∙ rw (le-ltb 1 q h)
+
+  sound-before : 1 < q → SoundVector log s (q - 1) before
+  sound-before h = rw (later h) (sound-vector log s (q - 1) _ (t .is-sound h))
+
+  pub before-few : q ≤ 255 → countIn before s < 255
+  before-few h = elim (decLe 2 q) [
+    | yes k ↦ omega (arith, sound-before k .own)
+    | no k ↦ rw (at-first (omega arith), count-none s l u) (omega arith)
+  ]
+
+  before-covered : covered log before ≡ true
+  unfolding covered
+  before-covered = elim (decLe 2 q) [
+    | yes k ↦ sound-before k .is-covered
+    | no k ↦ rw (at-first (omega arith)) (none-within _)
+  ]
+
+  before-closed : closed log before ≡ true
+  before-closed = elim (decLe 2 q) [
+    | yes k ↦ sound-before k .is-closed
+    | no k ↦ rw (at-first (omega arith)) (none-closed log)
+  ]
+
+  -- at its own count a vector is closed if it is nowhere less than the one before
+  own-closed : (v : Vector) → countIn v s + 1 ≡ q → closedAt log v s ≡ within before v
+  unfolding closedAt
+  own-closed v e = elim (decLe 2 q) [
+    | yes k ↦ let z : countIn v s ≡ q - 1 = omega arith in rw (later k, ← z, ne-eqb (countIn v s) 0 (λ x. omega arith))
+    | no k ↦ rw (at-first (omega arith)) (closed-zero log v s (omega arith) ∙ sym (none-within v))
+  ]
+
+  module _ (v : Vector) where
+    -- a count that has not changed needs no look-up
+    unchanged-closed : within before v ≡ true → (k : ℕ) → 1 ≤ k → k ≤ 8 → countIn v k ≡ countIn before k → closedAt log v k ≡ true
+    unfolding closed closedAt
+    unchanged-closed h k lk uk e =
+        rw e (or-then (eqb (countIn before k) 0) _ _ (λ z. within-trans _ before v z h)
+        (replica-passes (closedAt log before) before-closed k lk uk))
+
+    -- the law: for an op's vector, to be closed is to have risen
+    pub closed-risen : countIn v s + 1 ≡ q → closed log v ≡ risen log before v
+    unfolding closed risen changesClosed changeClosed
+    closed-risen own = both-ways _ _ down up
+      where
+        down : closed log v ≡ true → risen log before v ≡ true
+        down e =
+            and-both (sym (own-closed v own) ∙ replica-passes (closedAt log v) e s l u)
+            (all-replicas (changeClosed log before v) (λ k lk uk.
+            rw (replica-passes (closedAt log v) e k lk uk) (or-true (eqb (countIn v k) (countIn before k)))))
+
+        up : risen log before v ≡ true → closed log v ≡ true
+        up e =
+            let h : within before v ≡ true = and-left (within before v) _ e in
+            all-replicas (closedAt log v) (λ k lk uk.
+            ⊎-elim (λ z. unchanged-closed h k lk uk (eqb-true _ _ z)) (λ z. z)
+            (or-cases (eqb (countIn v k) (countIn before k)) _
+            (replica-passes (changeClosed log before v) (and-right (within before v) _ e) k lk uk)))
+
+  -- if the own count alone has changed, the vector has its number and is covered and closed
+  module _ (v : Vector) (e : ownAlone before v s q ≡ true) (held : q ≤ countIn (countsOf log) s) where
+    is-later : 1 < q
+    unfolding ownAlone
+    is-later = ltb-true 1 q (and-left (ltb 1 q) _ e)
+
+    count-by : (k : ℕ) → 1 ≤ k → k ≤ 8 → countIn before k + cond (eqb k s) 1 0 ≡ countIn v k
+    unfolding ownAlone isStep
+    count-by k lk uk =
+        eqb-true _ _ (replica-passes (λ t. eqb (countIn before t + cond (eqb t s) 1 0) (countIn v t)) (and-right (ltb 1 q) _ e) k lk uk)
+
+    own-count : countIn before s + 1 ≡ countIn v s
+    own-count = rw (eq-eqb s s refl) at (count-by s l u)
+
+    other-count : (k : ℕ) → 1 ≤ k → k ≤ 8 → (k ≡ s → ⊥) → countIn v k ≡ countIn before k
+    other-count k lk uk n = omega (arith, rw (ne-eqb k s n) at (count-by k lk uk))
+
+    alone-number : countIn v s + 1 ≡ q
+    alone-number = omega (arith, sound-before is-later .own, own-count, is-later)
+
+    alone-above : within before v ≡ true
+    alone-above = le-within before v (λ k lk uk. elim (ℕ-discrete k s) [
+      | yes z ↦ rw z (omega (arith, own-count))
+      | no z ↦ omega (arith, other-count k lk uk z)
+    ])
+
+    alone-covered : covered log v ≡ true
+    unfolding covered
+    alone-covered = le-within v (countsOf log) (λ k lk uk. elim (ℕ-discrete k s) [
+      | yes z ↦ rw z (omega (arith, alone-number))
+      | no z ↦ omega (arith, other-count k lk uk z, held-in log before before-covered k lk uk)
+    ])
+
+    alone-closed : closed log v ≡ true
+    unfolding closed
+    alone-closed = all-replicas (closedAt log v) (λ k lk uk. elim (ℕ-discrete k s) [
+      | yes z ↦ rw z (own-closed v alone-number ∙ alone-above)
+      | no z ↦ unchanged-closed v alone-above k lk uk (other-count k lk uk z)
+    ])
+
+    pub alone-passes : vectorBy log v s q ≡ true
+    unfolding vectorBy
+    alone-passes = and-both (and-both (eq-eqb _ q alone-number) alone-covered) alone-closed
