@@ -29,6 +29,10 @@ pub or-under : (a b c : Bool) → (a ≡ false → b ≡ c) → (a || b) ≡ (a 
 or-under true b c h = refl
 or-under false b c h = h refl
 
+pub or-again : (a b : Bool) → (a || (a || b)) ≡ (a || b)
+or-again true b = refl
+or-again false b = refl
+
 pub or-then : (a b c : Bool) → (b ≡ true → c ≡ true) → (a || b) ≡ true → (a || c) ≡ true
 or-then true b c h e = refl
 or-then false b c h e = h e

@@ -9,11 +9,11 @@ use native.Mathlib.Decide.{decLe, ℕ-discrete}
 use lib.ListN.{replicate}
 use lib.Dec.{eqb, ltb, leb}
 use borrow.Author.Tests.{eq-eqb, ne-eqb, eqb-true, eqb-false, lt-ltb, le-ltb, ltb-true, le-leb}
-use Rattle.lists.proofs.BoolLaws.{and-both, and-left, and-right, both-ways, or-cases, or-then}
+use Rattle.lists.proofs.BoolLaws.{and-both, and-left, and-right, both-ways, or-again, or-cases, or-then}
 use Rattle.rules.specs.File.{Log, opAt, countsOf, within}
 use Rattle.rules.specs.Log.{closed, closedAt, covered, soundOp}
 use Rattle.rules.specs.Op.{Op, Vector, countIn, vectorOf, replicaOf, seqOf, ownCount}
-use Rattle.rules.proofs.ReplicaLaws.{all-replicas, replica-passes, replica-cases}
+use Rattle.rules.proofs.ReplicaLaws.{all-alike, all-replicas, replica-passes, replica-cases}
 use Rattle.rules.proofs.CausalLaws.{le-within, within-trans}
 use Rattle.rules.proofs.StructureLaws.{held-in}
 use Rattle.codec.specs.Packed.{isStep}
@@ -35,6 +35,12 @@ closed-zero log v s e = rw (eq-eqb (countIn v s) 0 e)
 none-closed : (log : Log) → closed log (replicate 8 0) ≡ true
 unfolding closed
 none-closed log = all-replicas (closedAt log (replicate 8 0)) (λ s l u. closed-zero log _ s (count-none s l u))
+
+-- since nothing was counted, every count above 0 has changed
+pub closed-since-none : (log : Log) (v : Vector) → closed log v ≡ changesClosed log (replicate 8 0) v
+unfolding closed changesClosed changeClosed closedAt
+closed-since-none log v =
+    all-alike (closedAt log v) _ (λ s l u. rw (count-none s l u) (sym (or-again (eqb (countIn v s) 0) _)))
 
 ---- what a sound op's vector says
 

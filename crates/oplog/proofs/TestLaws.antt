@@ -6,7 +6,7 @@ use mathlib.Core.List.{List}
 use Prim.Native.Nat.{ℕ, _+_, _*_, _-_, _/_, _%_, _^_, _≤_, _<_}
 use native.Mathlib.Omega.{arith}
 use native.Mathlib.Decide.{ℕ-discrete}
-use lib.ListN.{length, drop, getD}
+use lib.ListN.{length, drop, getD, replicate}
 use lib.Dec.{leb, eqb}
 use borrow.Author.Needs.{needs}
 use borrow.Author.Tests.{leb-true, le-leb, lt-leb, lt-ltb, le-ltb, eq-eqb, ne-eqb}
@@ -20,8 +20,8 @@ use Rattle.codec.specs.Asked.{kindFits}
 use Rattle.codec.specs.Packed.{isStep}
 use Rattle.oplog.specs.Places.{InFile, Held, placeOf}
 use Rattle.oplog.specs.Tests.{LaidOut, OpHere, namesBy, moveNames, passesBy, vectorBy, soundAt, ownAlone, changeClosed, changesClosed, risen}
-use Rattle.oplog.proofs.FieldLaws.{SameFields, counts-in, held-of, fields-at, small, in-file-of}
-use Rattle.oplog.proofs.RiseLaws.{before-few, closed-risen, alone-passes}
+use Rattle.oplog.proofs.FieldLaws.{SameFields, counts-in, held-of, fields-at, small, in-file-of, op-fits}
+use Rattle.oplog.proofs.RiseLaws.{before-few, closed-risen, closed-since-none, alone-passes}
 use Rattle.oplog.proofs.HeaderLaws.{laid-fits, laid-header, laid-long, laid-short, laid-wrong}
 
 ---- known nodes: s and q are the replica and the sequence of node n
@@ -147,10 +147,6 @@ module _ (whole : Bool) (p : ℕ → Bool) (i : ℕ) (t : PassedTo whole p i) wh
   pub each-last : 8 ≤ i → true ≡ whole
   each-last h = sym (t .left ∙ pass-end p i h)
 
-pub closed-first : (log : Log) (v : Vector) → PassedTo (closed log v) (closedAt log v) 0
-unfolding closed
-closed-first log v = record { few = omega arith; left = pass-all (closedAt log v) }
-
 ---- what has changed since the vector before
 
 module _ (log : Log) (before v : Vector) where
@@ -174,6 +170,9 @@ module _ (log : Log) (before v : Vector) where
   pub risen-changes : within before v ≡ true → (b : Bool) → b ≡ changesClosed log before v → b ≡ risen log before v
   unfolding risen
   risen-changes e b h = rw e h
+
+pub closed-changes : (log : Log) (v : Vector) (b : Bool) → b ≡ changesClosed log (replicate 8 0) v → b ≡ closed log v
+closed-changes log v b e = e ∙ sym (closed-since-none log v)
 
 module _ (before v : Vector) (s q : ℕ) where
   pub alone-first : q < 2 → false ≡ ownAlone before v s q
@@ -274,6 +273,10 @@ module _ (w : ℕ) (f : List ℕ) (s q : ℕ) (x : InFile w f s q) where
   pub own-short : 256 * s + q < 2 ^ 16
   own-short = omega (arith, small w f s q x, x .high)
 
+pub op-there : (w : ℕ) (f : List ℕ) (counts before : Vector) (s q : ℕ) → OpHere w f counts before s q → (at : ℕ) → at ≡ placeOf w f s q
+    → at + 14 ≤ length f
+op-there w f counts before s q x at e = omega (arith, op-fits w f s q (x .there) at e, x .there .wide)
+
 -- the op at a place: r is its replica, v its vector
 module _ (w : ℕ) (f : List ℕ) (counts before : Vector) (s q : ℕ) (x : OpHere w f counts before s q) (at : ℕ) (is : at ≡ placeOf w f s q)
     (r k : ℕ) (ir : r ≡ replicaOf (drop at f)) (ik : k ≡ r) where
@@ -321,13 +324,13 @@ pub ruleset knowing = (within-low, within-high, within-first, within-last, node-
 
 pub ruleset naming = (move-node, move-parent, move-apart, add-parent, add-node, remove-names, move-names)
 
-pub ruleset closing = (closed-none, last-there, closed-by, closed-first, each-not, each-next, each-last)
+pub ruleset closing = (closed-none, last-there, closed-by, closed-changes, each-not, each-next, each-last)
 
 pub ruleset rising = (change-none, change-some, changes-first, risen-not, risen-changes, alone-first, alone-later)
 
 pub ruleset vectors = (vector-alone, vector-held, passed-held, vector-other, vector-early, vector-risen)
 
-pub ruleset owning = (kind-unfit, passes-names, own-size, own-short, op-other, op-vector, op-passes)
+pub ruleset owning = (kind-unfit, passes-names, own-size, own-short, op-there, op-other, op-vector, op-passes)
 
 pub ruleset laying = (laid-short, laid-wrong, laid-fits, not-laid, laid-ops, laid-out)
 

@@ -16,10 +16,10 @@ use codec::widen16;
 use codec::within;
 ghost use mathlib.Core.Path.{_≡_};
 ghost use Prim.Native.Nat.{_≤_, _<_};
-ghost use Rattle.rules.specs.File.{logOf};
+ghost use Rattle.rules.specs.File.{logOf, headerCounts};
 ghost use Rattle.rules.specs.Log.{nodeWithin, known, knownParent, closedAt, closed, soundLog, laid};
 ghost use Rattle.rules.specs.Op.{countIn};
-ghost use Rattle.oplog.specs.Places.{Held};
+ghost use Rattle.oplog.specs.Places.{Held, Stands, placeOf, nextPlace};
 ghost use Rattle.oplog.specs.Tests.{LaidOut, OpHere, Before, moveNames, namesBy, passesBy, vectorBy, soundAt, soundHere};
 ghost use Rattle.oplog.specs.Tests.{ownAlone, changeClosed, changesClosed, risen, nextBefore};
 ghost use Rattle.rules.specs.Log as log;
@@ -125,19 +125,6 @@ fn closed_at(file: &[u8], v: [u8; 8], s: usize, width: usize) -> bool
     within(vector_at(file, at), v)
 }
 
-// Whether a vector is closed (number 6).
-pub fn closed_in(file: &[u8], v: [u8; 8], width: usize) -> bool
-    requires { ⌜ Held width (now file) v ⌝ }
-    ensures { λ r. ⌜ r ≡ closed (logOf width (now (file .entry))) v ⌝ }
-{
-    for i in 0..8usize {
-        if !closed_at(file, v, i + 1, width) {
-            return false;
-        }
-    }
-    true
-}
-
 // Whether only the own count has changed since the vector before, by one. Then the vector is closed
 // and within the held counts, as the one before was.
 fn own_alone(before: [u8; 8], v: [u8; 8], s: usize, q: usize) -> bool
@@ -172,6 +159,14 @@ fn changes_closed(file: &[u8], before: [u8; 8], v: [u8; 8], width: usize) -> boo
         }
     }
     true
+}
+
+// Whether a vector is closed (number 6): since nothing was counted, every count above 0 has changed.
+pub fn closed_in(file: &[u8], v: [u8; 8], width: usize) -> bool
+    requires { ⌜ Held width (now file) v ⌝ }
+    ensures { λ r. ⌜ r ≡ closed (logOf width (now (file .entry))) v ⌝ }
+{
+    changes_closed(file, [0u8; 8], v, width)
 }
 
 // Whether a vector is nowhere less than the one before, and closed at every count that has changed.
@@ -238,13 +233,20 @@ fn passes(file: &[u8], v: [u8; 8], kind: u8, node: u16, parent: u16, own: u16, w
     names_known(file, v, kind, node, parent, own, width)
 }
 
-// Whether the body number q of replica s is a sound op: its own replica and sequence, and tests 3,
-// 5, 6 and 7.
-fn op_sound(file: &[u8], counts: [u8; 8], before: [u8; 8], s: usize, q: usize, width: usize) -> bool
-    requires { ⌜ OpHere width (now file) counts before s q ⌝ }
+// Whether the body number q of replica s, which starts at a place, is a sound op: its own replica
+// and sequence, and tests 3, 5, 6 and 7.
+fn op_sound(
+    file: &[u8],
+    counts: [u8; 8],
+    before: [u8; 8],
+    s: usize,
+    q: usize,
+    at: usize,
+    width: usize,
+) -> bool
+    requires { ⌜ OpHere width (now file) counts before s q × (at ≡ placeOf width (now file) s q) ⌝ }
     ensures { λ r. ⌜ r ≡ soundAt (logOf width (now (file .entry))) s q ⌝ }
 {
-    let at = place(file, s, q, width);
     if widen(replica_at(file, at)) != s {
         return false;
     }
@@ -259,45 +261,63 @@ fn op_sound(file: &[u8], counts: [u8; 8], before: [u8; 8], s: usize, q: usize, w
 }
 
 // Whether the body at a marker, if there is one, is a sound op.
-fn here_sound(file: &[u8], counts: [u8; 8], before: [u8; 8], m: Marker, width: usize) -> bool
-    requires { ⌜ LaidOut width (now file) counts × Before (logOf width (now file)) (m .replica) (m .sequence) before
-        × (1 ≤ m .replica) × (m .replica ≤ 8) × (1 ≤ m .sequence) ⌝ }
+fn here_sound(
+    file: &[u8],
+    counts: [u8; 8],
+    before: [u8; 8],
+    m: Marker,
+    at: usize,
+    width: usize,
+) -> bool
+    requires { ⌜ Stands width (now file) m at × (counts ≡ headerCounts (now file))
+        × Before (logOf width (now file)) (m .replica) (m .sequence) before ⌝ }
     ensures { λ r. ⌜ r ≡ soundHere width (now (file .entry)) m ⌝ }
 {
     if !m.in_file(file) {
         return true;
     }
-    op_sound(file, counts, before, m.replica, m.sequence, width)
+    op_sound(file, counts, before, m.replica, m.sequence, at, width)
 }
 
 // The vector before the next marker: that of the op at this one, or none where the next is a
 // replica's first.
-fn next_before(file: &[u8], counts: [u8; 8], m: Marker, width: usize) -> [u8; 8]
-    requires { ⌜ LaidOut width (now file) counts × (1 ≤ m .replica) × (m .replica ≤ 8) × (1 ≤ m .sequence) ⌝ }
+fn next_before(file: &[u8], m: Marker, at: usize, width: usize) -> [u8; 8]
+    requires { ⌜ Stands width (now file) m at ⌝ }
     ensures { λ r. ⌜ r ≡ nextBefore width (now (file .entry)) m ⌝ }
 {
-    let replica = m.replica;
-    let sequence = m.sequence;
-    if count_at(file, replica) <= sequence {
+    if count_at(file, m.replica) <= m.sequence {
         return [0u8; 8];
     }
-    vector_at(file, place(file, replica, sequence, width))
+    vector_at(file, at)
 }
 
-// Whether every body is a sound op, by a marker through the file, which has the vector of its
-// replica's op before with it.
+// Where the op at the next marker starts: behind the one at this one, if there is one.
+fn next_place(file: &[u8], m: Marker, at: usize, width: usize) -> usize
+    requires { ⌜ Stands width (now file) m at ⌝ }
+    ensures { λ r. ⌜ r ≡ nextPlace width (now (file .entry)) m at ⌝ }
+{
+    if !m.in_file(file) {
+        return at;
+    }
+    at + width
+}
+
+// Whether every body is a sound op, by a marker through the file. With it go the place of its op
+// and the vector of its replica's op before.
 fn ops_sound(file: &[u8], counts: [u8; 8], width: usize) -> bool
     requires { ⌜ LaidOut width (now file) counts ⌝ }
     ensures { λ r. ⌜ r ≡ soundLog (logOf width (now (file .entry))) ⌝ }
 {
     let mut m = Marker::first();
+    let mut at: usize = 32;
     let mut before = [0u8; 8];
     while m.replica <= 8 {
-        if !here_sound(file, counts, before, m, width) {
+        if !here_sound(file, counts, before, m, at, width) {
             return false;
         }
-        let after = next_before(file, counts, m, width);
+        let after = next_before(file, m, at, width);
         before = after;
+        at = next_place(file, m, at, width);
         m = m.next(file);
     }
     true

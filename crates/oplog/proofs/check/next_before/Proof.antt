@@ -10,5 +10,4 @@ next-before-spec =
     (λ c κs. search walking)
     (λ c. search walking)
     (λ c κs. search walking)
-    (λ c κs. search walking)
     (λ c. search walking))

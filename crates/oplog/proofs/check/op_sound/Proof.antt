@@ -9,7 +9,6 @@ op-sound-spec =
     (tie.spec
     (λ c κs. search testing)
     (λ c κs. search testing)
-    (λ c κs. search testing)
     (λ c. search testing)
     (λ c κs. search testing)
     (λ c κs. search testing)
