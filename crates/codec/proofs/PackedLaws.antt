@@ -4,23 +4,23 @@ use borrow.Author.Needs.{needs}
 use borrow.Author.Tests.{eq-eqb, ne-eqb, eqb-true}
 use lib.Dec.{eqb, lit<}
 use lib.ListN.{getD}
-use mathlib.Core.Bool.{Bool, true, cond, _&&_}
-use mathlib.Core.Path.{_≡_, refl, sym, _∙_}
+use mathlib.Core.Bool.{cond, _&&_}
+use mathlib.Core.Path.{_≡_, refl}
 use native.Mathlib.Decide.{ℕ-discrete}
 use native.Mathlib.Omega.{arith}
 use Rattle.lists.proofs.BoolLaws.{both-ways, and-both, and-left, and-right, and-true}
 use Rattle.lists.specs.Lists.{all, upFrom}
 use Rattle.rules.specs.Op.{Vector, countIn, replicas}
 use Rattle.rules.proofs.ReplicaLaws.{replica-cases}
-use Rattle.codec.specs.Packed.{packOf, packedOf, unitOf, Bytes, isStep}
-use Rattle.codec.specs.Spread.{Counts}
+use Rattle.codec.specs.Packed.{packedOf, unitOf, EightCounts, isStep}
+use Rattle.codec.specs.Spread.{spreadOf, Counts}
 
 -- eight digits as a number
 abbrev number : (ℕ → ℕ) → ℕ
 number a = a 0 + 256 * (a 1 + 256 * (a 2 + 256 * (a 3 + 256 * (a 4 + 256 * (a 5 + 256 * (a 6 + 256 * a 7))))))
 
 packed-number : (v : Vector) → packedOf v ≡ number (λ i. getD v i 0)
-unfolding packedOf packOf
+unfolding packedOf spreadOf
 packed-number v = omega arith
 
 -- two numbers are the same when their digits are
@@ -51,7 +51,7 @@ number-small a h =
 
 ---- the counts of a vector
 
-module _ (before : Vector) (s : ℕ) (l : 1 ≤ s) (u : s ≤ 8) (bytes : Bytes before) (h : countIn before s < 255) where
+module _ (before : Vector) (s : ℕ) (l : 1 ≤ s) (u : s ≤ 8) (bytes : EightCounts before) (h : countIn before s < 255) where
   -- one op more of replica s
   abbrev raised : ℕ → ℕ
   raised i = getD before i 0 + cond (eqb (i + 1) s) 1 0
@@ -75,7 +75,7 @@ module _ (before : Vector) (s : ℕ) (l : 1 ≤ s) (u : s ≤ 8) (bytes : Bytes 
     pub step-sum : m + k < 2 ^ 64
     step-sum = rw (im, ik, raised-number) (number-small raised raised-small)
 
-    pub step-test : (v : Vector) → Bytes v → (n : ℕ) → n ≡ packedOf v → eqb (m + k) n ≡ isStep before v s
+    pub step-test : (v : Vector) → EightCounts v → (n : ℕ) → n ≡ packedOf v → eqb (m + k) n ≡ isStep before v s
     unfolding isStep all replicas upFrom countIn
     step-test v small n is =
         rw (im, ik, is, raised-number, packed-number v, digits-same raised (λ i. getD v i 0) raised-small (small .each), and-true)
@@ -85,25 +85,28 @@ unfolding unitOf
 unit-shift =
     replica-cases (λ s. (1 * 2 ^ (8 * (s - 1))) % 2 ^ 64 ≡ 2 ^ (8 * (s - 1))) refl refl refl refl refl refl refl refl
 
----- the two halves: n and m are what was packed
+---- the two halves: n and m are what was spread
 
-pub pack-most : (a b c d n : ℕ) → (n ≡ packOf a b c d) × Counts a b c d → n < 4294967296
-unfolding packOf
-pack-most a b c d n t = omega (arith, t .0, t .1 .first, t .1 .second, t .1 .third, t .1 .fourth)
+-- n is the four counts of every second replica, from place i on
+abbrev FourAt : Vector → ℕ → ℕ → Type 0
+FourAt v i n =
+    (n ≡ spreadOf (getD v i 0) (getD v (i + 2) 0) (getD v (i + 4) 0) (getD v (i + 6) 0))
+    × Counts (getD v i 0) (getD v (i + 2) 0) (getD v (i + 4) 0) (getD v (i + 6) 0)
 
-module _ (v : Vector) (n m : ℕ) (low : (n ≡ packOf (getD v 0 0) (getD v 1 0) (getD v 2 0) (getD v 3 0))
-    × Counts (getD v 0 0) (getD v 1 0) (getD v 2 0) (getD v 3 0)) (high : (m ≡ packOf (getD v 4 0) (getD v 5 0) (getD v 6 0) (getD v 7 0))
-    × Counts (getD v 4 0) (getD v 5 0) (getD v 6 0) (getD v 7 0)) where
-  pub halves-packed : (n + 4294967296 * m ≡ packedOf v) × Bytes v
+module _ (v : Vector) (n m : ℕ) (even : FourAt v 0 n) (odd : FourAt v 1 m) where
+  byte-of : (s : ℕ) → 1 ≤ s → s ≤ 8 → getD v (s - 1) 0 < 256
+  byte-of =
+      let a = even .1 in
+      let b = odd .1 in
+      replica-cases (λ s. getD v (s - 1) 0 < 256)
+      (a .first) (b .first) (a .second) (b .second) (a .third) (b .third) (a .fourth) (b .fourth)
+
+  bytes-of : EightCounts v
+  bytes-of = record { each = λ i h. let e : i + 1 - 1 ≡ i = omega arith in rw e at (byte-of (i + 1) (omega arith) (omega arith)) }
+
+  pub halves-packed : (n + 256 * m ≡ packedOf v) × EightCounts v
   unfolding packedOf
-  halves-packed = (
-    rw (low .0, high .0),
-    record {
-      each = λ i h. let e : i + 1 - 1 ≡ i = omega arith in
-          rw e at (replica-cases (λ s. getD v (s - 1) 0 < 256) (low .1 .first) (low .1 .second) (low .1 .third) (low .1 .fourth) (high .1 .first)
-          (high .1 .second) (high .1 .third) (high .1 .fourth) (i + 1) (omega arith) (omega arith));
-    },
-  )
+  halves-packed = (rw (even .0, odd .0), bytes-of)
 
 ---- what the code of packed vectors needs: search packing
 pub ruleset packing = (needs, unit-shift, step-sum, step-test)

@@ -1,7 +1,7 @@
 ghost use mathlib.Core.Path.{_≡_};
 ghost use Prim.Native.Nat.{_+_, _≤_, _<_};
 ghost use lib.ListN.{length, take, drop};
-ghost use Rattle.codec.specs.Packed.{packOf, packedOf, Bytes, unitOf, isStep};
+ghost use Rattle.codec.specs.Packed.{packedOf, EightCounts, unitOf, isStep};
 ghost use Rattle.codec.specs.Spread.{spreadOf, allMarked, Counts};
 ghost use Rattle.rules.specs.Op.{countIn};
 ghost use Rattle.rules.specs.File as log;
@@ -58,20 +58,13 @@ pub fn within(v: [u8; 8], u: [u8; 8]) -> bool
     false
 }
 
-// Four counts in one number, 8 bits for each.
-fn pack(a: u8, b: u8, c: u8, d: u8) -> u64
-    ensures { λ r. ⌜ (r ≡ packOf a b c d) × Counts a b c d ⌝ }
-{
-    (a as u64) + 256 * ((b as u64) + 256 * ((c as u64) + 256 * (d as u64)))
-}
-
-// All eight counts in one number.
+// All eight counts in one number, 8 bits for each.
 fn packed(v: [u8; 8]) -> u64
-    ensures { λ r. ⌜ (r ≡ packedOf v) × Bytes v ⌝ }
+    ensures { λ r. ⌜ (r ≡ packedOf v) × EightCounts v ⌝ }
 {
-    let low = pack(v[0], v[1], v[2], v[3]);
-    let high = pack(v[4], v[5], v[6], v[7]);
-    low + 4294967296 * high
+    let even = spread(v[0], v[2], v[4], v[6]);
+    let odd = spread(v[1], v[3], v[5], v[7]);
+    even + 256 * odd
 }
 
 // One op of replica s, in that number.

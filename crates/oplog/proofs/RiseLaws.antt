@@ -1,60 +1,29 @@
 -- Along a replica vectors rise: an op's vector is closed if it is nowhere less than that of the op before, and closed at
 -- every count that has changed since. The op that an unchanged count names was within the vector before, which was closed.
-use mathlib.Core.Path.{_≡_, refl, sym, ap, _∙_}
-use mathlib.Core.Logic.{_⊎_, ⊎-elim}
-use mathlib.Core.Bool.{Bool, true, false, cond, _&&_, _||_, and-eq-true-iff, or-true}
+use mathlib.Core.Path.{_≡_, refl, sym, _∙_}
+use mathlib.Core.Logic.{⊎-elim}
+use mathlib.Core.Bool.{true, cond, or-true}
 use Prim.Native.Nat.{ℕ, _+_, _-_, _≤_, _<_}
 use native.Mathlib.Omega.{arith}
 use native.Mathlib.Decide.{decLe, ℕ-discrete}
 use lib.ListN.{replicate}
-use lib.Dec.{eqb, ltb, leb}
-use borrow.Author.Tests.{eq-eqb, ne-eqb, eqb-true, eqb-false, lt-ltb, le-ltb, ltb-true, le-leb}
+use lib.Dec.{eqb, ltb}
+use borrow.Author.Tests.{eq-eqb, ne-eqb, eqb-true, lt-ltb, le-ltb, ltb-true}
 use Rattle.lists.proofs.BoolLaws.{and-both, and-left, and-right, both-ways, or-again, or-cases, or-then}
 use Rattle.rules.specs.File.{Log, opAt, countsOf, within}
-use Rattle.rules.specs.Log.{closed, closedAt, covered, soundOp}
-use Rattle.rules.specs.Op.{Op, Vector, countIn, vectorOf, replicaOf, seqOf, ownCount}
-use Rattle.rules.proofs.ReplicaLaws.{all-alike, all-replicas, replica-passes, replica-cases}
-use Rattle.rules.proofs.CausalLaws.{le-within, within-trans}
-use Rattle.rules.proofs.StructureLaws.{held-in}
+use Rattle.rules.specs.Log.{closed, closedAt, covered}
+use Rattle.rules.specs.Op.{Vector, countIn, vectorOf, seqOf, ownCount}
+use Rattle.rules.proofs.ReplicaLaws.{all-alike, all-replicas, replica-passes}
+use Rattle.rules.proofs.CausalLaws.{closed-zero, count-none, le-within, none-closed, none-within, within-trans}
+use Rattle.rules.proofs.StructureLaws.{HeldOp, held-in, sound-held}
 use Rattle.codec.specs.Packed.{isStep}
 use Rattle.oplog.specs.Tests.{Before, vectorBefore, ownAlone, changeClosed, changesClosed, risen, vectorBy}
-
----- a vector that counts nothing
-
-count-none : (s : ℕ) → 1 ≤ s → s ≤ 8 → countIn (replicate 8 0) s ≡ 0
-unfolding countIn
-count-none = replica-cases (λ s. countIn (replicate 8 0) s ≡ 0) refl refl refl refl refl refl refl refl
-
-none-within : (v : Vector) → within (replicate 8 0) v ≡ true
-none-within v = le-within _ v (λ s l u. omega (arith, count-none s l u))
-
-closed-zero : (log : Log) (v : Vector) (s : ℕ) → countIn v s ≡ 0 → closedAt log v s ≡ true
-unfolding closedAt
-closed-zero log v s e = rw (eq-eqb (countIn v s) 0 e)
-
-none-closed : (log : Log) → closed log (replicate 8 0) ≡ true
-unfolding closed
-none-closed log = all-replicas (closedAt log (replicate 8 0)) (λ s l u. closed-zero log _ s (count-none s l u))
 
 -- since nothing was counted, every count above 0 has changed
 pub closed-since-none : (log : Log) (v : Vector) → closed log v ≡ changesClosed log (replicate 8 0) v
 unfolding closed changesClosed changeClosed closedAt
 closed-since-none log v =
     all-alike (closedAt log v) _ (λ s l u. rw (count-none s l u) (sym (or-again (eqb (countIn v s) 0) _)))
-
----- what a sound op's vector says
-
-pub record SoundVector (log : Log) (s q : ℕ) (v : Vector) : Type 0 where
-  pub own : countIn v s + 1 ≡ q
-  pub is-covered : covered log v ≡ true
-  pub is-closed : closed log v ≡ true
-
-sound-vector : (log : Log) (s q : ℕ) (r : Op) → soundOp log s q r ≡ true → SoundVector log s q (vectorOf r)
-unfolding soundOp seqOf ownCount
-sound-vector log s q r e =
-    let t = simp and-eq-true-iff at e in
-    let o : replicaOf r ≡ s = eqb-true _ _ (t .0 .0 .0 .0 .0) in
-    record { own = rw o at (eqb-true (countIn (vectorOf r) (replicaOf r) + 1) q (t .0 .0 .0 .0 .1)); is-covered = t .0 .0 .1; is-closed = t .0 .1 }
 
 ---- the vector before
 
@@ -67,25 +36,29 @@ module _ (log : Log) (s q : ℕ) (before : Vector) (t : Before log s q before) (
   unfolding vectorBefore
   at-first h = t .is ∙ rw (le-ltb 1 q h)
 
-  sound-before : 1 < q → SoundVector log s (q - 1) before
-  sound-before h = rw (later h) (sound-vector log s (q - 1) _ (t .is-sound h))
+  op-before : 1 < q → HeldOp log s (q - 1) (opAt log s (q - 1))
+  op-before h = sound-held log s (q - 1) _ (t .is-sound h)
+
+  before-own : 1 < q → countIn before s + 1 ≡ q - 1
+  unfolding seqOf ownCount
+  before-own h = rw (later h) (rw (op-before h .origin) at (op-before h .number))
 
   pub before-few : q ≤ 255 → countIn before s < 255
   before-few h = elim (decLe 2 q) [
-    | yes k ↦ omega (arith, sound-before k .own)
+    | yes k ↦ omega (arith, before-own k)
     | no k ↦ rw (at-first (omega arith), count-none s l u) (omega arith)
   ]
 
   before-covered : covered log before ≡ true
   unfolding covered
   before-covered = elim (decLe 2 q) [
-    | yes k ↦ sound-before k .is-covered
+    | yes k ↦ rw (later k) (op-before k .is-covered)
     | no k ↦ rw (at-first (omega arith)) (none-within _)
   ]
 
   before-closed : closed log before ≡ true
   before-closed = elim (decLe 2 q) [
-    | yes k ↦ sound-before k .is-closed
+    | yes k ↦ rw (later k) (op-before k .is-closed)
     | no k ↦ rw (at-first (omega arith)) (none-closed log)
   ]
 
@@ -142,7 +115,7 @@ module _ (log : Log) (s q : ℕ) (before : Vector) (t : Before log s q before) (
     other-count k lk uk n = omega (arith, rw (ne-eqb k s n) at (count-by k lk uk))
 
     alone-number : countIn v s + 1 ≡ q
-    alone-number = omega (arith, sound-before is-later .own, own-count, is-later)
+    alone-number = omega (arith, before-own is-later, own-count, is-later)
 
     alone-above : within before v ≡ true
     alone-above = le-within before v (λ k lk uk. elim (ℕ-discrete k s) [

@@ -1,7 +1,7 @@
--- `oplog::check::vector_passes` meets its contract.
+-- `oplog::closed::vector_passes` meets its contract.
 use Rattle.oplog.proofs.TestLaws.{testing}
-use Rattle.oplog.proofs.check.vector_passes.Statement.{statement}
-use Rattle.oplog.proofs.check.vector_passes.Tie as tie
+use Rattle.oplog.proofs.closed.vector_passes.Statement.{statement}
+use Rattle.oplog.proofs.closed.vector_passes.Tie as tie
 
 pub vector-passes-spec : {M : Type 1} → statement M
 vector-passes-spec =

@@ -1,7 +1,7 @@
--- `oplog::check::closed_in` meets its contract.
+-- `oplog::closed::closed_in` meets its contract.
 use Rattle.oplog.proofs.TestLaws.{testing}
-use Rattle.oplog.proofs.check.closed_in.Statement.{statement}
-use Rattle.oplog.proofs.check.closed_in.Tie as tie
+use Rattle.oplog.proofs.closed.closed_in.Statement.{statement}
+use Rattle.oplog.proofs.closed.closed_in.Tie as tie
 
 pub closed-in-spec : {M : Type 1} → statement M
 closed-in-spec =

@@ -1,10 +1,10 @@
--- `oplog::check::changes_closed` meets its contract.
+-- `oplog::closed::changes_closed` meets its contract.
 use Prim.Native.Nat.{_-_}
 use Rattle.rules.specs.File.{logOf}
 use Rattle.oplog.specs.Tests.{changeClosed, changesClosed}
 use Rattle.oplog.proofs.TestLaws.{PassedTo, testing}
-use Rattle.oplog.proofs.check.changes_closed.Statement.{statement}
-use Rattle.oplog.proofs.check.changes_closed.Tie as tie
+use Rattle.oplog.proofs.closed.changes_closed.Statement.{statement}
+use Rattle.oplog.proofs.closed.changes_closed.Tie as tie
 
 abbrev Inv-loop : tie.InvT-loop
 Inv-loop file before v width i₀ i =

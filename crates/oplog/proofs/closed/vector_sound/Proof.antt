@@ -1,7 +1,7 @@
--- `oplog::check::vector_sound` meets its contract.
+-- `oplog::closed::vector_sound` meets its contract.
 use Rattle.oplog.proofs.TestLaws.{alone-asks, testing}
-use Rattle.oplog.proofs.check.vector_sound.Statement.{statement}
-use Rattle.oplog.proofs.check.vector_sound.Tie as tie
+use Rattle.oplog.proofs.closed.vector_sound.Statement.{statement}
+use Rattle.oplog.proofs.closed.vector_sound.Tie as tie
 
 pub vector-sound-spec : {M : Type 1} → statement M
 vector-sound-spec =

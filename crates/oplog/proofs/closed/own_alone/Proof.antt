@@ -1,7 +1,7 @@
--- `oplog::check::own_alone` meets its contract.
+-- `oplog::closed::own_alone` meets its contract.
 use Rattle.oplog.proofs.TestLaws.{testing}
-use Rattle.oplog.proofs.check.own_alone.Statement.{statement}
-use Rattle.oplog.proofs.check.own_alone.Tie as tie
+use Rattle.oplog.proofs.closed.own_alone.Statement.{statement}
+use Rattle.oplog.proofs.closed.own_alone.Tie as tie
 
 pub own-alone-spec : {M : Type 1} → statement M
 own-alone-spec =

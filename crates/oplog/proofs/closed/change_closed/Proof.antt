@@ -1,7 +1,7 @@
--- `oplog::check::change_closed` meets its contract.
+-- `oplog::closed::change_closed` meets its contract.
 use Rattle.oplog.proofs.TestLaws.{testing}
-use Rattle.oplog.proofs.check.change_closed.Statement.{statement}
-use Rattle.oplog.proofs.check.change_closed.Tie as tie
+use Rattle.oplog.proofs.closed.change_closed.Statement.{statement}
+use Rattle.oplog.proofs.closed.change_closed.Tie as tie
 
 pub change-closed-spec : {M : Type 1} → statement M
 change-closed-spec =

@@ -1,7 +1,7 @@
--- `oplog::check::is_risen` meets its contract.
+-- `oplog::closed::is_risen` meets its contract.
 use Rattle.oplog.proofs.TestLaws.{testing}
-use Rattle.oplog.proofs.check.is_risen.Statement.{statement}
-use Rattle.oplog.proofs.check.is_risen.Tie as tie
+use Rattle.oplog.proofs.closed.is_risen.Statement.{statement}
+use Rattle.oplog.proofs.closed.is_risen.Tie as tie
 
 pub is-risen-spec : {M : Type 1} → statement M
 is-risen-spec =
