@@ -1,5 +1,6 @@
--- Along a replica vectors rise: an op's vector is closed if it is nowhere less than that of the op before, and closed at
--- every count that has changed since. The op that an unchanged count names was within the vector before, which was closed.
+-- Along a replica vectors rise: an op's vector is closed if it is nowhere less than that of the op before, which its own
+-- count names, and closed at every other count that has changed since. The op that an unchanged count names was within the
+-- vector before, which was closed.
 use mathlib.Core.Path.{_≡_, refl, sym, _∙_}
 use mathlib.Core.Logic.{⊎-elim}
 use mathlib.Core.Bool.{true, cond, or-true}
@@ -20,10 +21,10 @@ use Rattle.codec.specs.Packed.{isStep}
 use Rattle.oplog.specs.Tests.{Before, vectorBefore, ownAlone, changeClosed, changesClosed, risen, vectorBy}
 
 -- since nothing was counted, every count above 0 has changed
-pub closed-since-none : (log : Log) (v : Vector) → closed log v ≡ changesClosed log (replicate 8 0) v
+pub closed-since-none : (log : Log) (v : Vector) → closed log v ≡ changesClosed log (replicate 8 0) v 0
 unfolding closed changesClosed changeClosed closedAt
-closed-since-none log v =
-    all-alike (closedAt log v) _ (λ s l u. rw (count-none s l u) (sym (or-again (eqb (countIn v s) 0) _)))
+closed-since-none log v = all-alike (closedAt log v) _ (λ s l u.
+    rw (ne-eqb s 0 (λ e. omega arith), count-none s l u) (sym (or-again (eqb (countIn v s) 0) _)))
 
 ---- the vector before
 
@@ -79,23 +80,26 @@ module _ (log : Log) (s q : ℕ) (before : Vector) (t : Before log s q before) (
         (replica-passes (closedAt log before) before-closed k lk uk))
 
     -- the law: for an op's vector, to be closed is to have risen
-    pub closed-risen : countIn v s + 1 ≡ q → closed log v ≡ risen log before v
-    unfolding closed risen changesClosed changeClosed
-    closed-risen own = both-ways _ _ down up
-      where
-        down : closed log v ≡ true → risen log before v ≡ true
-        down e =
-            and-both (sym (own-closed v own) ∙ replica-passes (closedAt log v) e s l u)
-            (all-replicas (changeClosed log before v) (λ k lk uk.
-            rw (replica-passes (closedAt log v) e k lk uk) (or-true (eqb (countIn v k) (countIn before k)))))
+    module _ (own : countIn v s + 1 ≡ q) where
+      risen-if : closed log v ≡ true → risen log before v s ≡ true
+      unfolding closed risen changesClosed changeClosed
+      risen-if e =
+          let there = replica-passes (closedAt log v) e in
+          and-both (sym (own-closed v own) ∙ there s l u)
+          (all-replicas (changeClosed log before v s) (λ k lk uk. rw (there k lk uk, or-true) (or-true (eqb k s))))
 
-        up : risen log before v ≡ true → closed log v ≡ true
-        up e =
-            let h : within before v ≡ true = and-left (within before v) _ e in
-            all-replicas (closedAt log v) (λ k lk uk.
-            ⊎-elim (λ z. unchanged-closed h k lk uk (eqb-true _ _ z)) (λ z. z)
-            (or-cases (eqb (countIn v k) (countIn before k)) _
-            (replica-passes (changeClosed log before v) (and-right (within before v) _ e) k lk uk)))
+      closed-if : risen log before v s ≡ true → closed log v ≡ true
+      unfolding closed risen changesClosed changeClosed
+      closed-if e =
+          let h : within before v ≡ true = and-left (within before v) _ e in
+          let there = replica-passes (changeClosed log before v s) (and-right (within before v) _ e) in
+          all-replicas (closedAt log v) (λ k lk uk.
+          ⊎-elim (λ z. rw (eqb-true k s z) (own-closed v own ∙ h))
+          (λ z. ⊎-elim (λ x. unchanged-closed h k lk uk (eqb-true _ _ x)) (λ x. x)
+          (or-cases (eqb (countIn v k) (countIn before k)) _ z)) (or-cases (eqb k s) _ (there k lk uk)))
+
+      pub closed-risen : closed log v ≡ risen log before v s
+      closed-risen = both-ways _ _ risen-if closed-if
 
   -- if the own count alone has changed, the vector has its number and is covered and closed
   module _ (v : Vector) (e : ownAlone before v s q ≡ true) (held : q ≤ countIn (countsOf log) s) where

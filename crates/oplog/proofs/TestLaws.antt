@@ -149,29 +149,35 @@ module _ (whole : Bool) (p : ℕ → Bool) (i : ℕ) (t : PassedTo whole p i) wh
 
 ---- what has changed since the vector before
 
-module _ (log : Log) (before v : Vector) where
+module _ (log : Log) (before v : Vector) (own : ℕ) where
   module _ (s : ℕ) where
-    pub change-none : getD v (s - 1) 0 ≡ getD before (s - 1) 0 → true ≡ changeClosed log before v s
-    unfolding changeClosed countIn
-    change-none e = rw (eq-eqb _ _ e)
+    pub change-own : s ≡ own → true ≡ changeClosed log before v own s
+    unfolding changeClosed
+    change-own e = rw (eq-eqb s own e)
 
-    pub change-some : (getD v (s - 1) 0 ≡ getD before (s - 1) 0 → ⊥) → (b : Bool) → b ≡ closedAt log v s → b ≡ changeClosed log before v s
-    unfolding changeClosed countIn
-    change-some e b h = rw (ne-eqb _ _ e) h
+    module _ (n : s ≡ own → ⊥) where
+      pub change-none : getD v (s - 1) 0 ≡ getD before (s - 1) 0 → true ≡ changeClosed log before v own s
+      unfolding changeClosed countIn
+      change-none e = rw (ne-eqb s own n, eq-eqb _ _ e)
 
-  pub changes-first : PassedTo (changesClosed log before v) (changeClosed log before v) 0
+      pub change-some : (getD v (s - 1) 0 ≡ getD before (s - 1) 0 → ⊥) → (b : Bool) → b ≡ closedAt log v s
+          → b ≡ changeClosed log before v own s
+      unfolding changeClosed countIn
+      change-some e b h = rw (ne-eqb s own n, ne-eqb _ _ e) h
+
+  pub changes-first : PassedTo (changesClosed log before v own) (changeClosed log before v own) 0
   unfolding changesClosed
-  changes-first = record { few = omega arith; left = pass-all (changeClosed log before v) }
+  changes-first = record { few = omega arith; left = pass-all (changeClosed log before v own) }
 
-  pub risen-not : within before v ≡ false → false ≡ risen log before v
+  pub risen-not : within before v ≡ false → false ≡ risen log before v own
   unfolding risen
   risen-not e = rw e
 
-  pub risen-changes : within before v ≡ true → (b : Bool) → b ≡ changesClosed log before v → b ≡ risen log before v
+  pub risen-changes : within before v ≡ true → (b : Bool) → b ≡ changesClosed log before v own → b ≡ risen log before v own
   unfolding risen
   risen-changes e b h = rw e h
 
-pub closed-changes : (log : Log) (v : Vector) (b : Bool) → b ≡ changesClosed log (replicate 8 0) v → b ≡ closed log v
+pub closed-changes : (log : Log) (v : Vector) (b : Bool) → b ≡ changesClosed log (replicate 8 0) v 0 → b ≡ closed log v
 closed-changes log v b e = e ∙ sym (closed-since-none log v)
 
 module _ (before v : Vector) (s q : ℕ) where
@@ -224,7 +230,7 @@ module _ (w : ℕ) (f : List ℕ) (counts before : Vector) (s q : ℕ) (x : OpHe
         unfolding vectorBy
         vector-early h = rw (eq-eqb (countIn v s + 1) q number, covers false h)
 
-        pub vector-risen : within v counts ≡ true → (b : Bool) → b ≡ risen (logOf w f) before v → b ≡ vectorBy (logOf w f) v s q
+        pub vector-risen : within v counts ≡ true → (b : Bool) → b ≡ risen (logOf w f) before v s → b ≡ vectorBy (logOf w f) v s q
         unfolding vectorBy
         vector-risen h b i =
             let t = x .there in
@@ -326,7 +332,7 @@ pub ruleset naming = (move-node, move-parent, move-apart, add-parent, add-node, 
 
 pub ruleset closing = (closed-none, last-there, closed-by, closed-changes, each-not, each-next, each-last)
 
-pub ruleset rising = (change-none, change-some, changes-first, risen-not, risen-changes, alone-first, alone-later)
+pub ruleset rising = (change-own, change-none, change-some, changes-first, risen-not, risen-changes, alone-first, alone-later)
 
 pub ruleset vectors = (vector-alone, vector-held, passed-held, vector-other, vector-early, vector-risen)
 

@@ -63,16 +63,16 @@ pub record OpHere (w : ℕ) (f : List ℕ) (counts before : Vector) (s q : ℕ) 
 unfoldable pub ownAlone : Vector → Vector → ℕ → ℕ → Bool
 ownAlone before v s q = ltb 1 q && isStep before v s
 
--- a vector is closed at a count, if that has changed
-unfoldable pub changeClosed : Log → Vector → Vector → ℕ → Bool
-changeClosed log before v t = eqb (countIn v t) (countIn before t) || closedAt log v t
+-- a vector is closed at the count of another replica than the own, if that has changed
+unfoldable pub changeClosed : Log → Vector → Vector → ℕ → ℕ → Bool
+changeClosed log before v own t = eqb t own || (eqb (countIn v t) (countIn before t) || closedAt log v t)
 
-unfoldable pub changesClosed : Log → Vector → Vector → Bool
-changesClosed log before v = all (changeClosed log before v) replicas
+unfoldable pub changesClosed : Log → Vector → Vector → ℕ → Bool
+changesClosed log before v own = all (changeClosed log before v own) replicas
 
--- a vector is nowhere less than the one before, and closed at every count that has changed
-unfoldable pub risen : Log → Vector → Vector → Bool
-risen log before v = within before v && changesClosed log before v
+-- a vector is nowhere less than the one before, and closed at every other replica's count that has changed
+unfoldable pub risen : Log → Vector → Vector → ℕ → Bool
+risen log before v own = within before v && changesClosed log before v own
 
 ---- along the file
 

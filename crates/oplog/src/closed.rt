@@ -38,48 +38,61 @@ fn own_alone(before: [u8; 8], v: [u8; 8], s: usize, q: usize) -> bool
     is_step(before, v, s)
 }
 
-// Whether a vector is closed at a count, if that has changed since the vector before.
-fn change_closed(file: &[u8], before: [u8; 8], v: [u8; 8], s: usize, width: usize) -> bool
+// Whether a vector is closed at the count of another replica, if that has changed since the vector
+// before.
+fn change_closed(
+    file: &[u8],
+    before: [u8; 8],
+    v: [u8; 8],
+    own: usize,
+    s: usize,
+    width: usize,
+) -> bool
     requires { ⌜ Held width (now file) v × (1 ≤ s) × (s ≤ 8) ⌝ }
-    ensures { λ r. ⌜ r ≡ changeClosed (logOf width (now (file .entry))) before v s ⌝ }
+    ensures { λ r. ⌜ r ≡ changeClosed (logOf width (now (file .entry))) before v own s ⌝ }
 {
+    if s == own {
+        return true;
+    }
     if v[s - 1] == before[s - 1] {
         return true;
     }
     closed_at(file, v, s, width)
 }
 
-// Whether a vector is closed at every count that has changed.
-fn changes_closed(file: &[u8], before: [u8; 8], v: [u8; 8], width: usize) -> bool
+// Whether a vector is closed at every other replica's count that has changed.
+fn changes_closed(file: &[u8], before: [u8; 8], v: [u8; 8], own: usize, width: usize) -> bool
     requires { ⌜ Held width (now file) v ⌝ }
-    ensures { λ r. ⌜ r ≡ changesClosed (logOf width (now (file .entry))) before v ⌝ }
+    ensures { λ r. ⌜ r ≡ changesClosed (logOf width (now (file .entry))) before v own ⌝ }
 {
     for i in 0..8usize {
-        if !change_closed(file, before, v, i + 1, width) {
+        if !change_closed(file, before, v, own, i + 1, width) {
             return false;
         }
     }
     true
 }
 
-// Whether a vector is closed (number 6): since nothing was counted, every count above 0 has changed.
+// Whether a vector is closed (number 6): since nothing was counted, every count above 0 has
+// changed, and no replica is the own one.
 pub fn closed_in(file: &[u8], v: [u8; 8], width: usize) -> bool
     requires { ⌜ Held width (now file) v ⌝ }
     ensures { λ r. ⌜ r ≡ closed (logOf width (now (file .entry))) v ⌝ }
 {
-    changes_closed(file, [0u8; 8], v, width)
+    changes_closed(file, [0u8; 8], v, 0, width)
 }
 
-// Whether a vector is nowhere less than the one before, and closed at every count that has changed.
-// The op that an unchanged count names was within the vector before, which was closed.
-fn is_risen(file: &[u8], before: [u8; 8], v: [u8; 8], width: usize) -> bool
+// Whether a vector is nowhere less than the one before, which its own count names, and closed at
+// every other count that has changed. The op that an unchanged count names was within the vector
+// before, which was closed.
+fn is_risen(file: &[u8], before: [u8; 8], v: [u8; 8], own: usize, width: usize) -> bool
     requires { ⌜ Held width (now file) v ⌝ }
-    ensures { λ r. ⌜ r ≡ risen (logOf width (now (file .entry))) before v ⌝ }
+    ensures { λ r. ⌜ r ≡ risen (logOf width (now (file .entry))) before v own ⌝ }
 {
     if !within(before, v) {
         return false;
     }
-    changes_closed(file, before, v, width)
+    changes_closed(file, before, v, own, width)
 }
 
 // Whether the vector of an op of replica s has the sequence q, and passes tests 5 and 6.
@@ -101,7 +114,7 @@ fn vector_passes(
     if !within(v, counts) {
         return false;
     }
-    is_risen(file, before, v, width)
+    is_risen(file, before, v, s, width)
 }
 
 // The same; most vectors have changed in their own count alone.

@@ -167,7 +167,8 @@ impl<'a> Log<'a> {
             && self.knows_names(op)
     }
 
-    /// The own count, and tests 5 and 6 by what has changed.
+    /// The own count, and tests 5 and 6 by what has changed. The own count names
+    /// the op before.
     fn vector_sound(
         &self,
         vector: &Vector,
@@ -178,7 +179,8 @@ impl<'a> Log<'a> {
         usize::from(vector[index]) == sequence - 1
             && at_most(vector, &self.layout.counts)
             && at_most(before, vector)
-            && (0..REPLICAS).all(|i| vector[i] == before[i] || self.is_closed_at(vector, i))
+            && (0..REPLICAS)
+                .all(|i| i == index || vector[i] == before[i] || self.is_closed_at(vector, i))
     }
 
     /// Op number `sequence`, from 1, of a replica.

@@ -12,5 +12,6 @@ change-closed-spec =
     (λ c. search testing)
     (λ c. search testing)
     (λ c. search testing)
+    (λ c. search testing)
     (λ c κs. search testing)
     (λ c. search testing))

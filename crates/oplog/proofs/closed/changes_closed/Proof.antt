@@ -7,11 +7,11 @@ use Rattle.oplog.proofs.closed.changes_closed.Statement.{statement}
 use Rattle.oplog.proofs.closed.changes_closed.Tie as tie
 
 abbrev Inv-loop : tie.InvT-loop
-Inv-loop file before v width i₀ i =
-    PassedTo (changesClosed (logOf width file) before v) (changeClosed (logOf width file) before v) i
+Inv-loop file before v own width i₀ i =
+    PassedTo (changesClosed (logOf width file) before v own) (changeClosed (logOf width file) before v own) i
 
 abbrev μ-loop : tie.MeasureT-loop
-μ-loop file before v width i₀ i = 8 - i
+μ-loop file before v own width i₀ i = 8 - i
 
 pub changes-closed-spec : {M : Type 1} → statement M
 changes-closed-spec =
