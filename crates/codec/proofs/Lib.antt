@@ -1,5 +1,6 @@
 pub mod AnswerLaws
 pub mod VectorLaws
+pub mod PackedLaws
 pub mod ReadLaws
 pub mod WriteLaws
 pub mod ReadsBackLaws

@@ -1,5 +1,6 @@
 pub mod Answers
 pub mod Read
 pub mod Spread
+pub mod Packed
 pub mod ReadsBack
 pub mod Asked

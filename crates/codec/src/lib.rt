@@ -19,6 +19,7 @@ pub use op::Read;
 pub use op::kind_fits;
 pub use op::read_op;
 pub use op::write_op;
+pub use vector::is_step;
 pub use vector::within;
 pub use word::put_word;
 pub use word::widen;

@@ -1,7 +1,9 @@
 ghost use mathlib.Core.Path.{_≡_};
-ghost use Prim.Native.Nat.{_+_, _≤_};
+ghost use Prim.Native.Nat.{_+_, _≤_, _<_};
 ghost use lib.ListN.{length, take, drop};
+ghost use Rattle.codec.specs.Packed.{packedOf, EightCounts, unitOf, isStep};
 ghost use Rattle.codec.specs.Spread.{spreadOf, allMarked, Counts};
+ghost use Rattle.rules.specs.Op.{countIn};
 ghost use Rattle.rules.specs.File as log;
 
 // The version vector (the document's context) at a place.
@@ -54,4 +56,29 @@ pub fn within(v: [u8; 8], u: [u8; 8]) -> bool
         return is_odd_within;
     }
     false
+}
+
+// All eight counts in one number, 8 bits for each.
+fn packed(v: [u8; 8]) -> u64
+    ensures { λ r. ⌜ (r ≡ packedOf v) × EightCounts v ⌝ }
+{
+    let even = spread(v[0], v[2], v[4], v[6]);
+    let odd = spread(v[1], v[3], v[5], v[7]);
+    even + 256 * odd
+}
+
+// One op of replica s, in that number.
+fn unit(s: usize) -> u64
+    requires { ⌜ (1 ≤ s) × (s ≤ 8) ⌝ }
+    ensures { λ r. ⌜ r ≡ unitOf s ⌝ }
+{
+    1u64 << (8 * (s - 1))
+}
+
+// Whether a vector counts one op more of replica s than another, and is the same otherwise.
+pub fn is_step(before: [u8; 8], v: [u8; 8], s: usize) -> bool
+    requires { ⌜ (1 ≤ s) × (s ≤ 8) × (countIn before s < 255) ⌝ }
+    ensures { λ r. ⌜ r ≡ isStep before v s ⌝ }
+{
+    packed(before) + unit(s) == packed(v)
 }

@@ -29,6 +29,14 @@ pub or-under : (a b c : Bool) → (a ≡ false → b ≡ c) → (a || b) ≡ (a 
 or-under true b c h = refl
 or-under false b c h = h refl
 
+pub or-again : (a b : Bool) → (a || (a || b)) ≡ (a || b)
+or-again true b = refl
+or-again false b = refl
+
+pub or-then : (a b c : Bool) → (b ≡ true → c ≡ true) → (a || b) ≡ true → (a || c) ≡ true
+or-then true b c h e = refl
+or-then false b c h e = h e
+
 pub and-true : (a : Bool) → (a && true) ≡ a
 and-true true = refl
 and-true false = refl
@@ -60,6 +68,12 @@ and-swap false false = refl
 pub and-turn : (h i z : Bool) → (h && (i && z)) ≡ ((h && z) && i)
 and-turn false i z = refl
 and-turn true i z = and-swap i z
+
+pub and-regroup : (a b c d : Bool) → (a && b && c && d) ≡ ((b && c) && (a && d))
+and-regroup true true true d = refl
+and-regroup true true false d = refl
+and-regroup true false c d = refl
+and-regroup false b c d = sym (and-false (b && c))
 
 pub not-not : (b : Bool) → not (not b) ≡ b
 not-not true = refl

@@ -70,6 +70,9 @@ module _ (w : ℕ) (f : List ℕ) (s q : ℕ) (x : InFile w f s q) where
       (omega (arith, sum-take c (s - 1), x .first, x .last)) in
       omega (arith, facts .fits, mul-add w (sum (take (s - 1) c) + (q - 1)) 1, mul-add w (sum (take (s - 1) c)) (q - 1), mul-one w)
 
+  pub op-fits : (at : ℕ) → at ≡ placeOf w f s q → at + w ≤ length f
+  op-fits at e = rw e fits
+
   pub place-size : length f < 2 ^ 64 → w * (q - 1) < 2 ^ 64
   place-size h = omega (arith, fits)
 

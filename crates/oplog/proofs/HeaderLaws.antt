@@ -27,7 +27,7 @@ use Rattle.oplog.specs.Header.{entryRight, withEntry}
 
 ---- starts by counts
 
-start-first : (w : ℕ) (counts : Vector) → startOf w counts 1 ≡ 32
+pub start-first : (w : ℕ) (counts : Vector) → startOf w counts 1 ≡ 32
 unfolding startOf sum
 start-first w counts = rw mul-zero
 
@@ -39,7 +39,7 @@ start-next w counts i h =
     let e′ : i + 1 - 1 ≡ i = omega arith in
     rw (e, e′, sum-suc counts i h, mul-add w (sum (take i counts)) (getD counts i 0)) (omega arith)
 
-start-after : (w : ℕ) (f : List ℕ) (s : ℕ) → 1 ≤ s → s ≤ 8
+pub start-after : (w : ℕ) (f : List ℕ) (s : ℕ) → 1 ≤ s → s ≤ 8
     → startOf w (headerCounts f) (s + 1) ≡ startOf w (headerCounts f) s + w * countAt f s
 start-after w f s l u =
     let e : s - 1 + 1 ≡ s = omega arith in

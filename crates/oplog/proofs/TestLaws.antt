@@ -6,20 +6,22 @@ use mathlib.Core.List.{List}
 use Prim.Native.Nat.{ℕ, _+_, _*_, _-_, _/_, _%_, _^_, _≤_, _<_}
 use native.Mathlib.Omega.{arith}
 use native.Mathlib.Decide.{ℕ-discrete}
-use lib.ListN.{length, drop, getD}
+use lib.ListN.{length, drop, getD, replicate}
 use lib.Dec.{leb, eqb}
 use borrow.Author.Needs.{needs}
-use borrow.Author.Tests.{leb-true, le-leb, lt-leb, lt-ltb, eq-eqb, ne-eqb, eqb-true}
-use Rattle.lists.proofs.BoolLaws.{and-true, and-left, and-right, and-under, tested}
+use borrow.Author.Tests.{leb-true, le-leb, lt-leb, lt-ltb, le-ltb, eq-eqb, ne-eqb}
+use Rattle.lists.proofs.BoolLaws.{and-true, and-false, and-left, and-right, and-regroup, tested}
 use Rattle.rules.specs.File.{Log, headerCounts, logOf, opAt, within}
 use Rattle.rules.specs.Log.{closed, closedAt, known, knownParent, laid, soundHeader, soundLog, soundOp, structural, nodeWithin, namesKnown, covered}
 use Rattle.rules.specs.Op.{Op, Vector, replicaOf, countIn, seqOf, isReplica, ownCount, isAdd, vectorOf, wellFormed, isRemove, kindOf, nodeNumber, parentOf, nodeOf}
 use Rattle.rules.proofs.FileLaws.{counts-logOf}
 use Rattle.rules.proofs.ReplicaLaws.{passFrom, pass-all, pass-turn, pass-end}
 use Rattle.codec.specs.Asked.{kindFits}
+use Rattle.codec.specs.Packed.{isStep}
 use Rattle.oplog.specs.Places.{InFile, Held, placeOf}
-use Rattle.oplog.specs.Tests.{LaidOut, namesBy, moveNames, ownBy, passesBy, soundAt}
-use Rattle.oplog.proofs.FieldLaws.{held-of, fields-at, small, in-file-of}
+use Rattle.oplog.specs.Tests.{LaidOut, OpHere, namesBy, moveNames, passesBy, vectorBy, soundAt, ownAlone, changeClosed, changesClosed, risen}
+use Rattle.oplog.proofs.FieldLaws.{SameFields, counts-in, held-of, fields-at, small, in-file-of, op-fits}
+use Rattle.oplog.proofs.RiseLaws.{before-few, closed-risen, closed-since-none, alone-passes}
 use Rattle.oplog.proofs.HeaderLaws.{laid-fits, laid-header, laid-long, laid-short, laid-wrong}
 
 ---- known nodes: s and q are the replica and the sequence of node n
@@ -128,89 +130,146 @@ module _ (w : ℕ) (f : List ℕ) (v : Vector) (s k : ℕ) (e : k ≡ getD v (s 
     unfolding closedAt countIn
     closed-by at p o i b h = rw (← e, ne-eqb k 0 z, fields-at w f s k last-there at p .vector, ← i) h
 
--- the vector is closed at the first i replicas
-pub record ClosedTo (log : Log) (v : Vector) (i : ℕ) : Type 0 where
+---- a test of each replica: the first i pass
+
+pub record PassedTo (whole : Bool) (p : ℕ → Bool) (i : ℕ) : Type 0 where
   pub few : i ≤ 8
-  pub left : closed log v ≡ passFrom (closedAt log v) i
+  pub left : whole ≡ passFrom p i
 
-module _ (log : Log) (v : Vector) where
-  pub closed-first : ClosedTo log v 0
-  unfolding closed
-  closed-first = record { few = omega arith; left = pass-all (closedAt log v) }
+module _ (whole : Bool) (p : ℕ → Bool) (i : ℕ) (t : PassedTo whole p i) where
+  module _ (h : i < 8) where
+    pub each-not : p (i + 1) ≡ false → false ≡ whole
+    each-not e = sym (t .left ∙ pass-turn p i h ∙ rw e)
 
-  module _ (i : ℕ) (t : ClosedTo log v i) where
-    module _ (h : i < 8) where
-      pub closed-not : closedAt log v (i + 1) ≡ false → false ≡ closed log v
-      closed-not e = sym (t .left ∙ pass-turn _ i h ∙ rw e)
+    pub each-next : p (i + 1) ≡ true → PassedTo whole p (i + 1)
+    each-next e = record { few = omega arith; left = t .left ∙ pass-turn p i h ∙ rw e }
 
-      pub closed-next : closedAt log v (i + 1) ≡ true → ClosedTo log v (i + 1)
-      closed-next e = record { few = omega arith; left = t .left ∙ pass-turn _ i h ∙ rw e }
+  pub each-last : 8 ≤ i → true ≡ whole
+  each-last h = sym (t .left ∙ pass-end p i h)
 
-    pub closed-last : 8 ≤ i → true ≡ closed log v
-    closed-last h = sym (t .left ∙ pass-end _ i h)
+---- what has changed since the vector before
+
+module _ (log : Log) (before v : Vector) (own : ℕ) where
+  module _ (s : ℕ) where
+    pub change-own : s ≡ own → true ≡ changeClosed log before v own s
+    unfolding changeClosed
+    change-own e = rw (eq-eqb s own e)
+
+    module _ (n : s ≡ own → ⊥) where
+      pub change-none : getD v (s - 1) 0 ≡ getD before (s - 1) 0 → true ≡ changeClosed log before v own s
+      unfolding changeClosed countIn
+      change-none e = rw (ne-eqb s own n, eq-eqb _ _ e)
+
+      pub change-some : (getD v (s - 1) 0 ≡ getD before (s - 1) 0 → ⊥) → (b : Bool) → b ≡ closedAt log v s
+          → b ≡ changeClosed log before v own s
+      unfolding changeClosed countIn
+      change-some e b h = rw (ne-eqb s own n, ne-eqb _ _ e) h
+
+  pub changes-first : PassedTo (changesClosed log before v own) (changeClosed log before v own) 0
+  unfolding changesClosed
+  changes-first = record { few = omega arith; left = pass-all (changeClosed log before v own) }
+
+  pub risen-not : within before v ≡ false → false ≡ risen log before v own
+  unfolding risen
+  risen-not e = rw e
+
+  pub risen-changes : within before v ≡ true → (b : Bool) → b ≡ changesClosed log before v own → b ≡ risen log before v own
+  unfolding risen
+  risen-changes e b h = rw e h
+
+pub closed-changes : (log : Log) (v : Vector) (b : Bool) → b ≡ changesClosed log (replicate 8 0) v 0 → b ≡ closed log v
+closed-changes log v b e = e ∙ sym (closed-since-none log v)
+
+module _ (before v : Vector) (s q : ℕ) where
+  pub alone-first : q < 2 → false ≡ ownAlone before v s q
+  unfolding ownAlone
+  alone-first h = rw (le-ltb 1 q (omega arith))
+
+  pub alone-later : 2 ≤ q → (b : Bool) → b ≡ isStep before v s → b ≡ ownAlone before v s q
+  unfolding ownAlone
+  alone-later h b e = rw (lt-ltb 1 q h) e
+
+---- the vector of an op: k is its own count
+
+module _ (w : ℕ) (f : List ℕ) (counts before : Vector) (s q : ℕ) (x : OpHere w f counts before s q) where
+  pub alone-asks : (1 ≤ s) × (s ≤ 8) × (countIn before s < 255)
+  alone-asks =
+      let t = x .there in
+      (t .low, t .high, before-few (logOf w f) s q before (x .last) (t .low) (t .high) (small w f s q t))
+
+  module _ (v : Vector) where
+    covers : (b : Bool) → within v counts ≡ b → covered (logOf w f) v ≡ b
+    unfolding covered
+    covers b h = rw (counts-logOf w f, ← x .held) h
+
+    pub vector-alone : ownAlone before v s q ≡ true → true ≡ vectorBy (logOf w f) v s q
+    vector-alone e =
+        let t = x .there in
+        sym (alone-passes (logOf w f) s q before (x .last) (t .low) (t .high) v e
+        (omega (arith, counts-in w f s (t .low) (t .high), t .last)))
+
+    pub vector-held : within v counts ≡ true → Held w f v
+    vector-held h = held-of w f v (x .there .wide) (x .there .is-laid) (rw (← x .held) h)
+
+    pub passed-held : vectorBy (logOf w f) v s q ≡ true → Held w f v
+    unfolding vectorBy covered
+    passed-held e = held-of w f v (x .there .wide) (x .there .is-laid)
+        (rw (counts-logOf w f) at (and-right (eqb (countIn v s + 1) q) _ (and-left (eqb (countIn v s + 1) q && covered (logOf w f) v) _ e)))
+
+    module _ (k : ℕ) (e : k ≡ getD v (s - 1) 0) where
+      pub vector-other : (k ≡ q - 1 → ⊥) → false ≡ vectorBy (logOf w f) v s q
+      unfolding vectorBy countIn
+      vector-other n = rw (← e, ne-eqb (k + 1) q (λ z. n (omega arith)))
+
+      module _ (z : k ≡ q - 1) where
+        number : countIn v s + 1 ≡ q
+        unfolding countIn
+        number = omega (arith, x .there .first)
+
+        pub vector-early : within v counts ≡ false → false ≡ vectorBy (logOf w f) v s q
+        unfolding vectorBy
+        vector-early h = rw (eq-eqb (countIn v s + 1) q number, covers false h)
+
+        pub vector-risen : within v counts ≡ true → (b : Bool) → b ≡ risen (logOf w f) before v s → b ≡ vectorBy (logOf w f) v s q
+        unfolding vectorBy
+        vector-risen h b i =
+            let t = x .there in
+            rw (
+              eq-eqb (countIn v s + 1) q number,
+              covers true h,
+              closed-risen (logOf w f) s q before (x .last) (t .low) (t .high) v number,
+            ) i
 
 ---- one op, by its fields
 
-module _ (r : ℕ) (v : Vector) (s q : ℕ) (x : ℕ) (e : x ≡ r) where
-  pub own-other : (x ≡ s → ⊥) → false ≡ ownBy r v s q
-  unfolding ownBy
-  own-other h = rw (← e, ne-eqb x s h)
-
-  pub own-number : x ≡ s → 1 ≤ q → (k : ℕ) → k ≡ getD v (s - 1) 0 → eqb k (q - 1) ≡ ownBy r v s q
-  unfolding ownBy countIn
-  own-number h l k i = rw (← e, eq-eqb x s h, ← i) (one-more k q l)
-    where
-      one-more : (k q : ℕ) → 1 ≤ q → eqb k (q - 1) ≡ eqb (k + 1) q
-      one-more k q l = elim (ℕ-discrete k (q - 1)) [
-        | yes z ↦ rw (eq-eqb k (q - 1) z, eq-eqb (k + 1) q (omega arith))
-        | no z ↦ rw (ne-eqb k (q - 1) z, ne-eqb (k + 1) q (λ y. z (omega arith)))
-      ]
-
-module _ (w : ℕ) (f : List ℕ) (v : Vector) (kind node parent own : ℕ) where
-  pub kind-unfit : kindFits kind parent ≡ false → false ≡ passesBy (logOf w f) v kind node parent own
+module _ (log : Log) (v : Vector) (kind node parent own : ℕ) where
+  pub kind-unfit : kindFits kind parent ≡ false → false ≡ passesBy log v kind node parent own
   unfolding passesBy
   kind-unfit e = rw e
 
-  module _ (e : kindFits kind parent ≡ true) (counts : Vector) (t : LaidOut w f counts) where
-    covers : (b : Bool) → within v counts ≡ b → covered (logOf w f) v ≡ b
-    unfolding covered
-    covers b h = rw (counts-logOf w f, ← t .held) h
-
-    pub not-covered : within v counts ≡ false → false ≡ passesBy (logOf w f) v kind node parent own
-    unfolding passesBy
-    not-covered h = rw (e, covers false h)
-
-    module _ (h : within v counts ≡ true) where
-      pub not-closed : closed (logOf w f) v ≡ false → false ≡ passesBy (logOf w f) v kind node parent own
-      unfolding passesBy
-      not-closed x = rw (e, covers true h, x)
-
-      pub passes-names : closed (logOf w f) v ≡ true → (b : Bool) → b ≡ namesBy (logOf w f) v kind node parent own
-          → b ≡ passesBy (logOf w f) v kind node parent own
-      unfolding passesBy
-      passes-names x b i = rw (e, covers true h, x) i
-
-pub held-within : (w : ℕ) (f : List ℕ) (counts v : Vector) → LaidOut w f counts → within v counts ≡ true → Held w f v
-held-within w f counts v t h = held-of w f v (t .wide) (t .is-laid) (rw (← t .held) h)
+  pub passes-names : kindFits kind parent ≡ true → (b : Bool) → b ≡ namesBy log v kind node parent own
+      → b ≡ passesBy log v kind node parent own
+  unfolding passesBy
+  passes-names e b i = rw e i
 
 -- all tests, by the fields
 module _ (log : Log) (s q : ℕ) (r : Op) where
-  own-is : (eqb (replicaOf r) s && eqb (seqOf r) q) ≡ ownBy (replicaOf r) (vectorOf r) s q
-  unfolding ownBy seqOf ownCount
-  own-is = and-under (eqb (replicaOf r) s) _ _ (λ e. rw (eqb-true (replicaOf r) s e))
+  abbrev passesAll : Bool
+  passesAll = passesBy log (vectorOf r) (kindOf r) (nodeOf r) (parentOf r) (256 * s + q)
 
-  sound-other : ownBy (replicaOf r) (vectorOf r) s q ≡ false → soundOp log s q r ≡ false
+  sound-other : (replicaOf r ≡ s → ⊥) → soundOp log s q r ≡ false
   unfolding soundOp
-  sound-other e = rw (own-is, e)
+  sound-other e = rw (ne-eqb (replicaOf r) s e)
 
-  sound-own : ownBy (replicaOf r) (vectorOf r) s q ≡ true → 1 ≤ s → s ≤ 8 → q ≤ 255
-      → soundOp log s q r ≡ passesBy log (vectorOf r) (kindOf r) (nodeOf r) (parentOf r) (256 * s + q)
-  unfolding soundOp ownBy passesBy seqOf ownCount wellFormed isReplica isRemove namesKnown isAdd nodeNumber namesBy
-  sound-own e l u h =
-      let a : replicaOf r ≡ s = eqb-true _ _ (and-left (eqb (replicaOf r) s) _ e) in
-      let b : countIn (vectorOf r) s + 1 ≡ q = eqb-true _ _ (and-right (eqb (replicaOf r) s) _ e) in
-      let c : countIn (vectorOf r) s < 255 = omega arith in
-      rw (a, eq-eqb s s refl, b, eq-eqb q q refl, le-leb 1 s l, le-leb s 8 u, lt-ltb (countIn (vectorOf r) s) 255 c, and-true)
+  sound-own : replicaOf r ≡ s → 1 ≤ s → s ≤ 8 → q ≤ 255 → soundOp log s q r ≡ (vectorBy log (vectorOf r) s q && passesAll)
+  unfolding soundOp vectorBy passesBy seqOf ownCount wellFormed isReplica isRemove namesKnown isAdd nodeNumber namesBy
+  sound-own a l u h = elim (ℕ-discrete (countIn (vectorOf r) s + 1) q) [
+    | yes b ↦
+        let c : countIn (vectorOf r) s < 255 = omega arith in
+        rw (a, eq-eqb s s refl, b, eq-eqb q q refl, le-leb 1 s l, le-leb s 8 u, lt-ltb (countIn (vectorOf r) s) 255 c, and-true)
+        (and-regroup (kindFits (kindOf r) (parentOf r)) _ _ _)
+    | no n ↦ rw (a, ne-eqb (countIn (vectorOf r) s + 1) q n, and-false)
+  ]
 
 -- the number of the node that an op makes
 module _ (w : ℕ) (f : List ℕ) (s q : ℕ) (x : InFile w f s q) where
@@ -220,25 +279,33 @@ module _ (w : ℕ) (f : List ℕ) (s q : ℕ) (x : InFile w f s q) where
   pub own-short : 256 * s + q < 2 ^ 16
   own-short = omega (arith, small w f s q x, x .high)
 
--- the op at a place: v is its vector, r its replica
-module _ (w : ℕ) (f : List ℕ) (s q : ℕ) (x : InFile w f s q) (at : ℕ) (is : at ≡ placeOf w f s q) where
-  module _ (v : Vector) (iv : v ≡ vectorOf (drop at f)) (r : ℕ) (ir : r ≡ replicaOf (drop at f)) where
-    own-at : (b : Bool) → ownBy r v s q ≡ b → ownBy (replicaOf (opAt (logOf w f) s q)) (vectorOf (opAt (logOf w f) s q)) s q ≡ b
-    own-at b e = let o = fields-at w f s q x at is in rw (o .replica, o .vector, ← ir, ← iv) e
+pub op-there : (w : ℕ) (f : List ℕ) (counts before : Vector) (s q : ℕ) → OpHere w f counts before s q → (at : ℕ) → at ≡ placeOf w f s q
+    → at + 14 ≤ length f
+op-there w f counts before s q x at e = omega (arith, op-fits w f s q (x .there) at e, x .there .wide)
 
-    pub op-other : ownBy r v s q ≡ false → false ≡ soundAt (logOf w f) s q
-    op-other e = sym (sound-other (logOf w f) s q _ (own-at false e))
+-- the op at a place: r is its replica, v its vector
+module _ (w : ℕ) (f : List ℕ) (counts before : Vector) (s q : ℕ) (x : OpHere w f counts before s q) (at : ℕ) (is : at ≡ placeOf w f s q)
+    (r k : ℕ) (ir : r ≡ replicaOf (drop at f)) (ik : k ≡ r) where
+  here : SameFields (opAt (logOf w f) s q) (drop at f)
+  here = fields-at w f s q (x .there) at is
 
-    pub op-own : ownBy r v s q ≡ true
-        → (k : ℕ) → k ≡ kindOf (drop at f) → (n : ℕ) → n ≡ nodeOf (drop at f) → (p : ℕ) → p ≡ parentOf (drop at f)
-        → (b : Bool) → b ≡ passesBy (logOf w f) v k n p (256 * s + q) → b ≡ soundAt (logOf w f) s q
-    op-own e k ik n im p ip b h =
-        let o = fields-at w f s q x at is in
-        sym (sound-own (logOf w f) s q _ (own-at true e) (x .low) (x .high) (small w f s q x)
-        ∙ rw (o .vector, o .kind, o .node, o .parent, ← iv, ← ik, ← im, ← ip) (sym h))
+  pub op-other : (k ≡ s → ⊥) → false ≡ soundAt (logOf w f) s q
+  op-other n = sym (sound-other (logOf w f) s q _ (λ e. n (ik ∙ ir ∙ sym (here .replica) ∙ e)))
 
-  pub op-laid : (counts : Vector) → counts ≡ headerCounts f → LaidOut w f counts
-  op-laid counts e = record { wide = x .wide; is-laid = x .is-laid; held = e }
+  module _ (e : k ≡ s) (v : Vector) (iv : v ≡ vectorOf (drop at f)) where
+    by-vector : soundAt (logOf w f) s q ≡ (vectorBy (logOf w f) v s q && passesAll (logOf w f) s q (opAt (logOf w f) s q))
+    by-vector =
+        sound-own (logOf w f) s q _ (here .replica ∙ sym ir ∙ sym ik ∙ e) (x .there .low) (x .there .high) (small w f s q (x .there))
+        ∙ rw (here .vector, ← iv)
+
+    pub op-vector : vectorBy (logOf w f) v s q ≡ false → false ≡ soundAt (logOf w f) s q
+    op-vector h = sym (by-vector ∙ rw h)
+
+    pub op-passes : vectorBy (logOf w f) v s q ≡ true
+        → (m : ℕ) → m ≡ kindOf (drop at f) → (n : ℕ) → n ≡ nodeOf (drop at f) → (p : ℕ) → p ≡ parentOf (drop at f)
+        → (b : Bool) → b ≡ passesBy (logOf w f) v m n p (256 * s + q) → b ≡ soundAt (logOf w f) s q
+    op-passes h m im n jn p ip b i =
+        sym (by-vector ∙ rw (h, here .vector, here .kind, here .node, here .parent, ← iv, ← im, ← jn, ← ip) (sym i))
 
 ---- the whole file
 
@@ -263,12 +330,14 @@ pub ruleset knowing = (within-low, within-high, within-first, within-last, node-
 
 pub ruleset naming = (move-node, move-parent, move-apart, add-parent, add-node, remove-names, move-names)
 
-pub ruleset closing = (closed-none, last-there, closed-by, closed-first, closed-not, closed-next, closed-last)
+pub ruleset closing = (closed-none, last-there, closed-by, closed-changes, each-not, each-next, each-last)
 
-pub ruleset passing = (kind-unfit, not-covered, not-closed, passes-names, held-within)
+pub ruleset rising = (change-own, change-none, change-some, changes-first, risen-not, risen-changes, alone-first, alone-later)
 
-pub ruleset owning = (own-other, own-number, own-size, own-short, op-other, op-own, op-laid)
+pub ruleset vectors = (vector-alone, vector-held, passed-held, vector-other, vector-early, vector-risen)
+
+pub ruleset owning = (kind-unfit, passes-names, own-size, own-short, op-there, op-other, op-vector, op-passes)
 
 pub ruleset laying = (laid-short, laid-wrong, laid-fits, not-laid, laid-ops, laid-out)
 
-pub ruleset testing = (needs, tested, knowing, naming, closing, passing, owning, laying)
+pub ruleset testing = (needs, tested, knowing, naming, closing, rising, vectors, owning, laying)

@@ -1,3 +1,5 @@
+use crate::closed::vector_sound;
+use crate::header::count_at;
 use crate::header::counts_of;
 use crate::header::end_of;
 use crate::header::header_right;
@@ -11,13 +13,12 @@ use codec::replica_at;
 use codec::vector_at;
 use codec::widen;
 use codec::widen16;
-use codec::within;
 ghost use mathlib.Core.Path.{_≡_};
 ghost use Prim.Native.Nat.{_≤_};
 ghost use Rattle.rules.specs.File.{logOf, headerCounts};
-ghost use Rattle.rules.specs.Log.{nodeWithin, known, knownParent, closedAt, closed, soundLog, laid};
-ghost use Rattle.oplog.specs.Places.{InFile, Held};
-ghost use Rattle.oplog.specs.Tests.{LaidOut, moveNames, namesBy, ownBy, passesBy, soundAt, soundHere};
+ghost use Rattle.rules.specs.Log.{nodeWithin, known, knownParent, soundLog, laid};
+ghost use Rattle.oplog.specs.Places.{Held, Stands, placeOf, nextPlace};
+ghost use Rattle.oplog.specs.Tests.{LaidOut, OpHere, Before, moveNames, namesBy, passesBy, soundAt, soundHere, nextBefore};
 ghost use Rattle.rules.specs.Log as log;
 
 // Whether a vector counts the op of a node's replica and sequence.
@@ -108,116 +109,102 @@ pub fn names_known(
     }
 }
 
-// Whether a vector counts all that the last op that it counts of a replica has seen.
-fn closed_at(file: &[u8], v: [u8; 8], s: usize, width: usize) -> bool
-    requires { ⌜ Held width (now file) v × (1 ≤ s) × (s ≤ 8) ⌝ }
-    ensures { λ r. ⌜ r ≡ closedAt (logOf width (now (file .entry))) v s ⌝ }
-{
-    let k = widen(v[s - 1]);
-    if k == 0 {
-        return true;
-    }
-    let at = place(file, s, k, width);
-    within(vector_at(file, at), v)
-}
-
-// Whether a vector is closed (number 6).
-pub fn closed_in(file: &[u8], v: [u8; 8], width: usize) -> bool
+// Whether an op passes tests 3 and 7, by its fields.
+fn passes(file: &[u8], v: [u8; 8], kind: u8, node: u16, parent: u16, own: u16, width: usize) -> bool
     requires { ⌜ Held width (now file) v ⌝ }
-    ensures { λ r. ⌜ r ≡ closed (logOf width (now (file .entry))) v ⌝ }
-{
-    for i in 0..8usize {
-        if !closed_at(file, v, i + 1, width) {
-            return false;
-        }
-    }
-    true
-}
-
-// Whether an op has the replica s and the sequence q, by its replica and its vector.
-fn is_own(replica: u8, v: [u8; 8], s: usize, q: usize) -> bool
-    requires { ⌜ (1 ≤ s) × (s ≤ 8) × (1 ≤ q) ⌝ }
-    ensures { λ r. ⌜ r ≡ ownBy replica v s q ⌝ }
-{
-    if widen(replica) != s {
-        return false;
-    }
-    widen(v[s - 1]) == q - 1
-}
-
-// Whether an op of a replica passes tests 3, 5, 6 and 7, by its fields.
-fn passes(
-    file: &[u8],
-    counts: [u8; 8],
-    v: [u8; 8],
-    kind: u8,
-    node: u16,
-    parent: u16,
-    own: u16,
-    width: usize,
-) -> bool
-    requires { ⌜ LaidOut width (now file) counts ⌝ }
     ensures { λ r. ⌜ r ≡ passesBy (logOf width (now (file .entry))) v kind node parent own ⌝ }
 {
     if !kind_fits(kind, parent) {
         return false;
     }
-    if !within(v, counts) {
-        return false;
-    }
-    if !closed_in(file, v, width) {
-        return false;
-    }
     names_known(file, v, kind, node, parent, own, width)
 }
 
-// Whether the body number q of replica s is a sound op: its own replica and sequence, and tests 3,
-// 5, 6 and 7.
-fn op_sound(file: &[u8], counts: [u8; 8], s: usize, q: usize, width: usize) -> bool
-    requires { ⌜ InFile width (now file) s q × (counts ≡ headerCounts (now file)) ⌝ }
+// Whether the body number q of replica s, which starts at a place, is a sound op: its own replica
+// and sequence, and tests 3, 5, 6 and 7.
+fn op_sound(
+    file: &[u8],
+    counts: [u8; 8],
+    before: [u8; 8],
+    s: usize,
+    q: usize,
+    at: usize,
+    width: usize,
+) -> bool
+    requires { ⌜ OpHere width (now file) counts before s q × (at ≡ placeOf width (now file) s q) ⌝ }
     ensures { λ r. ⌜ r ≡ soundAt (logOf width (now (file .entry))) s q ⌝ }
 {
-    let at = place(file, s, q, width);
+    if widen(replica_at(file, at)) != s {
+        return false;
+    }
     let v = vector_at(file, at);
-    if !is_own(replica_at(file, at), v, s, q) {
+    if !vector_sound(file, counts, before, v, s, q, width) {
         return false;
     }
     let kind = kind_at(file, at);
     let node = node_at(file, at);
     let parent = parent_at(file, at);
-    passes(
-        file,
-        counts,
-        v,
-        kind,
-        node,
-        parent,
-        (256 * s + q) as u16,
-        width,
-    )
+    passes(file, v, kind, node, parent, (256 * s + q) as u16, width)
 }
 
 // Whether the body at a marker, if there is one, is a sound op.
-fn here_sound(file: &[u8], counts: [u8; 8], m: Marker, width: usize) -> bool
-    requires { ⌜ LaidOut width (now file) counts × (1 ≤ m .replica) × (m .replica ≤ 8) × (1 ≤ m .sequence) ⌝ }
+fn here_sound(
+    file: &[u8],
+    counts: [u8; 8],
+    before: [u8; 8],
+    m: Marker,
+    at: usize,
+    width: usize,
+) -> bool
+    requires { ⌜ Stands width (now file) m at × (counts ≡ headerCounts (now file))
+        × Before (logOf width (now file)) (m .replica) (m .sequence) before ⌝ }
     ensures { λ r. ⌜ r ≡ soundHere width (now (file .entry)) m ⌝ }
 {
     if !m.in_file(file) {
         return true;
     }
-    op_sound(file, counts, m.replica, m.sequence, width)
+    op_sound(file, counts, before, m.replica, m.sequence, at, width)
 }
 
-// Whether every body is a sound op, by a marker through the file.
+// The vector before the next marker: that of the op at this one, or none where the next is a
+// replica's first.
+fn next_before(file: &[u8], m: Marker, at: usize, width: usize) -> [u8; 8]
+    requires { ⌜ Stands width (now file) m at ⌝ }
+    ensures { λ r. ⌜ r ≡ nextBefore width (now (file .entry)) m ⌝ }
+{
+    if count_at(file, m.replica) <= m.sequence {
+        return [0u8; 8];
+    }
+    vector_at(file, at)
+}
+
+// Where the op at the next marker starts: behind the one at this one, if there is one.
+fn next_place(file: &[u8], m: Marker, at: usize, width: usize) -> usize
+    requires { ⌜ Stands width (now file) m at ⌝ }
+    ensures { λ r. ⌜ r ≡ nextPlace width (now (file .entry)) m at ⌝ }
+{
+    if !m.in_file(file) {
+        return at;
+    }
+    at + width
+}
+
+// Whether every body is a sound op, by a marker through the file. With it go the place of its op
+// and the vector of its replica's op before.
 fn ops_sound(file: &[u8], counts: [u8; 8], width: usize) -> bool
     requires { ⌜ LaidOut width (now file) counts ⌝ }
     ensures { λ r. ⌜ r ≡ soundLog (logOf width (now (file .entry))) ⌝ }
 {
     let mut m = Marker::first();
+    let mut at: usize = 32;
+    let mut before = [0u8; 8];
     while m.replica <= 8 {
-        if !here_sound(file, counts, m, width) {
+        if !here_sound(file, counts, before, m, at, width) {
             return false;
         }
+        let after = next_before(file, m, at, width);
+        before = after;
+        at = next_place(file, m, at, width);
         m = m.next(file);
     }
     true

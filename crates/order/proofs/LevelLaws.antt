@@ -7,7 +7,7 @@ use Prim.Native.Nat.{ℕ, zero, suc, _+_, _-_, _≤_, _<_}
 use native.Mathlib.Nat.{le-refl}
 use native.Mathlib.Omega.{arith}
 use native.Mathlib.Decide.{ℕ-discrete, decLe}
-use borrow.Author.Tests.{leb-false, le-leb, ltb-true, ltb-false, eq-eqb, ne-eqb}
+use borrow.Author.Tests.{leb-false, ltb-true, ltb-false, eq-eqb, ne-eqb}
 use lib.ListN.{take, getD}
 use lib.Dec.{leb, ltb, eqb, lit≤}
 use Rattle.lists.specs.Lists.{upFrom, sum, greatest, concat, filter}
@@ -16,9 +16,9 @@ use Rattle.rules.specs.File.{Log, opsOf, opAt, countsOf, within}
 use Rattle.rules.specs.Log.{covered, closed}
 use Rattle.rules.specs.Tree.{slots}
 use Rattle.rules.specs.Replay.{Stamped, opsWithin, timestampIn, timestamp, stamp, stamped, ofReplica, ofKind, ofTime, byTime, ordered}
-use Rattle.rules.proofs.ReplicaLaws.{all-replicas, replica-fails, replica-cases}
+use Rattle.rules.proofs.ReplicaLaws.{replica-fails}
 use Rattle.lists.proofs.BoolLaws.{and-false, and-true}
-use Rattle.rules.proofs.CausalLaws.{Le, within-le, total, own, counted-le}
+use Rattle.rules.proofs.CausalLaws.{Le, within-le, count-none, total, own, counted-le}
 use Rattle.rules.proofs.TimeLaws.{timestamp-equation}
 use Rattle.lists.proofs.GreatestLaws.{greatest-take, greatest-bound, greatest-part, greatest-parts}
 use Rattle.lists.proofs.FilterLaws.{filter-none, filter-one, filter-part}
@@ -30,12 +30,8 @@ use Rattle.order.specs.Levels.{ready, nextAt, readyOps, advancedAt, adva
 use Rattle.rules.proofs.ClimbLaws.{up}
 
 pub count-nothing : (s : ℕ) → 1 ≤ s → s ≤ 8 → countIn nothing s ≡ 0
-unfolding countIn nothing
-count-nothing = replica-cases (λ s. countIn nothing s ≡ 0) refl refl refl refl refl refl refl refl
-
-pub le-within : (v u : Vector) → Le v u → within v u ≡ true
-unfolding within
-le-within v u h = all-replicas _ (λ s l b. le-leb (countIn v s) (countIn u s) (h s l b))
+unfolding nothing
+count-nothing = count-none
 
 -- a function's greatest value on what a vector counts
 module _ (log : Log) (v : Vector) (g : Op → ℕ) where

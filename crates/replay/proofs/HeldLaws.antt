@@ -10,7 +10,8 @@ use Rattle.rules.specs.File.{opAt, headerCounts, countsOf, logOf}
 use Rattle.rules.specs.Log.{covered, structural, closed}
 use Rattle.rules.proofs.StructureLaws.{counts-closed, HeldOp, structural-good, laid-reads, good-ops, structural-laid}
 use Rattle.rules.proofs.FileLaws.{counts-at, counts-logOf}
-use Rattle.order.proofs.LevelLaws.{le-within, Cut}
+use Rattle.rules.proofs.CausalLaws.{le-within}
+use Rattle.order.proofs.LevelLaws.{Cut}
 use Rattle.oplog.specs.Places.{InFile, Held}
 use Rattle.oplog.proofs.FieldLaws.{counts-in}
 

@@ -96,19 +96,25 @@ soundOps-at log s q (r ∷ rs) zero e h = rw (add-zero q) (and-left (soundOp log
 soundOps-at log s q (r ∷ rs) (suc i) e h =
     rw (add-suc, ← suc-add) (soundOps-at log s (suc q) rs i (and-right (soundOp log s q r) _ e) (le-of-suc-le-suc h))
 
-pub good-ops : {log : Log} → GoodLog log → HeldOps log
-unfolding opAt soundOp
-good-ops {log} g s q l u lq uq =
-    let i : q - 1 < length (opsOf log s) = omega (arith, count-held log s) in
-    let t = simp and-eq-true-iff at (soundOps-at log s 1 (opsOf log s) (q - 1) (g .ops s l u) i) in
+pub sound-held : (log : Log) (s q : ℕ) (r : Op) → soundOp log s q r ≡ true → HeldOp log s q r
+unfolding soundOp
+sound-held log s q r e =
+    let t = simp and-eq-true-iff at e in
     record {
       origin = eqb-true _ _ (t .0 .0 .0 .0 .0);
-      number = eqb-true _ _ (t .0 .0 .0 .0 .1) ∙ omega arith;
+      number = eqb-true _ _ (t .0 .0 .0 .0 .1);
       formed = t .0 .0 .0 .1;
       is-covered = t .0 .0 .1;
       is-closed = t .0 .1;
       names = t .1;
     }
+
+pub good-ops : {log : Log} → GoodLog log → HeldOps log
+unfolding opAt
+good-ops {log} g s q l u lq uq =
+    let i : q - 1 < length (opsOf log s) = omega (arith, count-held log s) in
+    let e : 1 + (q - 1) ≡ q = omega arith in
+    sound-held log s q _ (rw e at (soundOps-at log s 1 (opsOf log s) (q - 1) (g .ops s l u) i))
 
 pub held-in : (log : Log) (v : Vector) → covered log v ≡ true → (s : ℕ) → 1 ≤ s → s ≤ 8 → countIn v s ≤ countIn (countsOf log) s
 unfolding covered within

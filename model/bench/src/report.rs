@@ -9,11 +9,11 @@ const HEAD: &str = "# Performance
 Made by `model/bench/run`; do not edit.
 
 Every call of the library is measured beside the same call in safe Rust, written with equal care for speed over the same algorithms
-(model/bench/src/careful; its tests compare it with the model): no allocation, one pass for soundness, version vectors compared four counts
-at a time, replay level by level, a linear listing. Both are compiled by LLVM at the highest level for the same processor, the Rust with its
-bounds checks and without checks of overflow. One program calls both in turn, many times; the least time of each counts. It calls the
-library through the Rust crate, which makes a `Result` of the number that the library answers: at `make`, of eight instructions, that is
-most of the time.
+(model/bench/src/careful; its tests compare it with the model): no allocation, one pass for soundness, which looks up only those counts of a
+version vector that have changed since its replica's op before, vectors compared four or eight counts at a time, replay level by level, a
+linear listing. Both are compiled by LLVM at the highest level for the same processor, the Rust with its bounds checks and without checks of
+overflow. One program calls both in turn, many times; the least time of each counts. It calls the library through the Rust crate, which
+makes a `Result` of the number that the library answers: at `make`, of eight instructions, that is most of the time.
 
 Logs: **flat** has adds under the root, of all eight replicas, each by itself; **deep** is one chain, each node under the one before and each
 op counting all before; **random** has replicas that add, remove and move, and hear of each other now and then. The size is the number of

@@ -147,3 +147,28 @@ fn exchanges() {
     let unsound = Answer::Refused(outline_model::refusal::UNSOUND);
     assert_eq!(careful::exchange(&[], &mut [0; 40]), unsound);
 }
+
+/// Every count of every vector, one more and one less.
+#[test]
+fn changed_counts() {
+    let mut rng = Rng::new(3);
+    let mut sound = [0; 2];
+    for round in 0..40 {
+        let ops = World::random(&mut rng, Style::mixed(1 + round % 8, 30)).ops;
+        let file = examples::file_of(&ops);
+        for body in 0..ops.len() {
+            for count in 0..8 {
+                for change in [1, 255] {
+                    let mut buffer = file.clone();
+                    let at = 32 + 14 * body + 6 + count;
+                    buffer[at] = buffer[at].wrapping_add(change);
+                    let root = [7u16; 1];
+                    let answer = careful::path(&buffer, 0, &mut root.clone());
+                    assert_eq!(answer, outline_model::path(&buffer, 0, &mut root.clone()));
+                    sound[usize::from(matches!(answer, Answer::Refused(_)))] += 1;
+                }
+            }
+        }
+    }
+    assert!(sound[0] > 100 && sound[1] > 100, "{sound:?}");
+}

@@ -84,6 +84,13 @@ pub fn at_most(a: &Vector, b: &Vector) -> bool {
     (even | odd) & ABOVE == 0
 }
 
+/// Whether `after` is `before` with one op more of a replica counted. The sum
+/// carries into no other count where that one is below 255.
+fn is_step(before: &Vector, after: &Vector, index: usize) -> bool {
+    let step = 1 << (8 * index);
+    u64::from_le_bytes(*before).wrapping_add(step) == u64::from_le_bytes(*after)
+}
+
 /// A buffer with a sound log, and its header.
 #[derive(Clone, Copy)]
 pub struct Log<'a> {
@@ -143,18 +150,42 @@ impl<'a> Log<'a> {
         log.is_sound().then_some(log)
     }
 
+    /// Along a replica vectors rise, so a count that has not changed since the
+    /// op before is closed as it was there.
     fn is_sound(&self) -> bool {
         (0..REPLICAS).all(|index| {
-            (1..=usize::from(self.layout.counts[index])).all(|q| self.op_sound(index, q))
+            let mut before = [0; REPLICAS];
+            (1..=usize::from(self.layout.counts[index])).all(|sequence| {
+                let op = self.op(index, sequence);
+                let sound = self.op_sound(op, index, sequence, &before);
+                before = *op.vector();
+                sound
+            })
         })
     }
 
-    fn op_sound(&self, index: usize, sequence: usize) -> bool {
-        let op = self.op(index, sequence);
+    fn op_sound(&self, op: Op, index: usize, sequence: usize, before: &Vector) -> bool {
         usize::from(op.replica()) == index + 1
-            && usize::from(op.vector()[index]) == sequence - 1
+            && (sequence > 1 && is_step(before, op.vector(), index)
+                || self.vector_sound(op.vector(), index, sequence, before))
             && op.fits()
-            && self.test(op).is_ok()
+            && self.knows_names(op)
+    }
+
+    /// The own count, and tests 5 and 6 by what has changed. The own count names
+    /// the op before.
+    fn vector_sound(
+        &self,
+        vector: &Vector,
+        index: usize,
+        sequence: usize,
+        before: &Vector,
+    ) -> bool {
+        usize::from(vector[index]) == sequence - 1
+            && at_most(vector, &self.layout.counts)
+            && at_most(before, vector)
+            && (0..REPLICAS)
+                .all(|i| i == index || vector[i] == before[i] || self.is_closed_at(vector, i))
     }
 
     /// Op number `sequence`, from 1, of a replica.
@@ -180,7 +211,15 @@ impl<'a> Log<'a> {
         if !self.is_closed(vector) {
             return Err(refusal::NOT_CLOSED);
         }
-        let known = match op.kind() {
+        if !self.knows_names(op) {
+            return Err(refusal::UNKNOWN);
+        }
+        Ok(())
+    }
+
+    fn knows_names(&self, op: Op) -> bool {
+        let vector = op.vector();
+        match op.kind() {
             ADD => {
                 let own = u16::from_be_bytes([op.replica(), op.sequence() as u8]);
                 op.node() == own && self.knows_parent(vector, op.parent())
@@ -191,14 +230,16 @@ impl<'a> Log<'a> {
                     && self.knows_parent(vector, op.parent())
                     && op.parent() != op.node()
             }
-        };
-        known.then_some(()).ok_or(refusal::UNKNOWN)
+        }
     }
 
     fn is_closed(&self, vector: &Vector) -> bool {
-        vector.iter().enumerate().all(|(index, &count)| {
-            count == 0 || at_most(self.op(index, usize::from(count)).vector(), vector)
-        })
+        (0..REPLICAS).all(|index| self.is_closed_at(vector, index))
+    }
+
+    fn is_closed_at(&self, vector: &Vector, index: usize) -> bool {
+        let count = usize::from(vector[index]);
+        count == 0 || at_most(self.op(index, count).vector(), vector)
     }
 
     /// Whether an add within the vector made the node.

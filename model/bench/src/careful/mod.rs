@@ -1,6 +1,7 @@
 //! The calls in safe Rust, written for speed with equal care: no allocation,
-//! one pass for soundness, replay level by level, a linear listing. These are
-//! the algorithms of the verified library, so that the two can be compared.
+//! one pass for soundness that looks up changed counts alone, replay level by
+//! level, a linear listing. These are the algorithms of the verified library, so
+//! that the two can be compared.
 
 mod calls;
 mod exchange;

@@ -4,10 +4,10 @@ use Rattle.oplog.proofs.check.ops_sound.Statement.{statement}
 use Rattle.oplog.proofs.check.ops_sound.Tie as tie
 
 abbrev Inv-loop : tie.InvT-loop
-Inv-loop file counts width m₀ m = Walked width file m
+Inv-loop file counts width m₀ at₀ before₀ m at before = Walked width file m at before
 
 abbrev μ-loop : tie.MeasureT-loop
-μ-loop file counts width m₀ m = togo m
+μ-loop file counts width m₀ at₀ before₀ m at before = togo m
 
 pub ops-sound-spec : {M : Type 1} → statement M
 ops-sound-spec =
@@ -19,6 +19,8 @@ ops-sound-spec =
     (λ c. search walking)
     (λ c κs. search walking)
     (λ c. search walking)
+    (λ c κs. search walking)
+    (λ c κs. search walking)
     (λ c κs. search walking)
     (λ c. search walking)
     (λ c. search walking)

@@ -1,5 +1,4 @@
 -- `oplog::check::passes` meets its contract.
-use borrow.Author.Needs.{needs}
 use Rattle.oplog.proofs.TestLaws.{testing}
 use Rattle.oplog.proofs.check.passes.Statement.{statement}
 use Rattle.oplog.proofs.check.passes.Tie as tie
@@ -8,10 +7,6 @@ pub passes-spec : {M : Type 1} → statement M
 passes-spec =
     tie.close
     (tie.spec
-    (λ c κs. search needs)
-    (λ c. search testing)
-    (λ c κs. search needs)
-    (λ c. search testing)
     (λ c κs. search testing)
     (λ c. search testing)
     (λ c κs. search testing)

@@ -1,8 +1,8 @@
--- `oplog::check::closed_at` meets its contract.
+-- `oplog::closed::closed_at` meets its contract.
 use borrow.Author.Needs.{needs}
 use Rattle.oplog.proofs.TestLaws.{testing}
-use Rattle.oplog.proofs.check.closed_at.Statement.{statement}
-use Rattle.oplog.proofs.check.closed_at.Tie as tie
+use Rattle.oplog.proofs.closed.closed_at.Statement.{statement}
+use Rattle.oplog.proofs.closed.closed_at.Tie as tie
 
 pub closed-at-spec : {M : Type 1} → statement M
 closed-at-spec =

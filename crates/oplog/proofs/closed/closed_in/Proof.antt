@@ -1,0 +1,11 @@
+-- `oplog::closed::closed_in` meets its contract.
+use Rattle.oplog.proofs.TestLaws.{testing}
+use Rattle.oplog.proofs.closed.closed_in.Statement.{statement}
+use Rattle.oplog.proofs.closed.closed_in.Tie as tie
+
+pub closed-in-spec : {M : Type 1} → statement M
+closed-in-spec =
+    tie.close
+    (tie.spec
+    (λ c κs. search testing)
+    (λ c. search testing))

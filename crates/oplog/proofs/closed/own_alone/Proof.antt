@@ -1,0 +1,12 @@
+-- `oplog::closed::own_alone` meets its contract.
+use Rattle.oplog.proofs.TestLaws.{testing}
+use Rattle.oplog.proofs.closed.own_alone.Statement.{statement}
+use Rattle.oplog.proofs.closed.own_alone.Tie as tie
+
+pub own-alone-spec : {M : Type 1} → statement M
+own-alone-spec =
+    tie.close
+    (tie.spec
+    (λ c. search testing)
+    (λ c κs. search testing)
+    (λ c. search testing))
