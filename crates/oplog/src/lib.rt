@@ -7,6 +7,7 @@ mod marker;
 mod places;
 
 pub use append::append_op;
+pub use append::put_front;
 pub use check::closed_in;
 pub use check::known_in;
 pub use check::known_parent;
