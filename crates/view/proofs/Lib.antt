@@ -20,3 +20,4 @@ pub mod TouringCases
 pub mod LineCases
 pub mod ListingCases
 pub mod OutlineCases
+pub mod SizeCases

@@ -8,6 +8,7 @@ mod listings;
 mod marking;
 mod paths;
 mod printing;
+mod sizes;
 mod slots;
 mod touring;
 
@@ -15,3 +16,4 @@ pub use answer::View;
 pub use listings::listing;
 pub use paths::path;
 pub use printing::outline;
+pub use sizes::listing_size;
