@@ -95,9 +95,9 @@ pub enum Delivery {
 }
 
 /// The number that says that a delivered op was there already.
-pub(crate) const HAD_IT: usize = 16;
+pub(crate) const HAD_IT: usize = 128;
 /// The number that says that judging is done.
-pub(crate) const DONE: usize = 17;
+pub(crate) const DONE: usize = 129;
 /// Every value is answered with this added.
 const VALUE: usize = 256;
 
