@@ -18,7 +18,8 @@ use Rattle.rules.specs.Path.{Written, pathCall}
 use Rattle.rules.specs.Views.{View}
 use Rattle.outline_c.specs.Number.{number, ofResult, ofIssued, ofJudgement, ofWritten}
 use Rattle.outline_c.specs.Fits.{fits}
-use Rattle.outline_c.proofs.FitLaws.{make-fits, deliver-fits, issue-fits, judge-fits, path-fits, listing-fits, size-fits, end-fits, counts-fits, value-fits}
+use Rattle.outline_c.proofs.FitLaws.{make-fits, deliver-fits, issue-fits, judge-fits, path-fits, listing-fits}
+use Rattle.outline_c.proofs.FitLaws.{size-fits, end-fits, counts-fits, value-fits}
 use Rattle.codec.specs.declared.answer.Answer as code
 
 ---- the number of an answer
