@@ -52,7 +52,7 @@ example: target/outline_example
 check: target/header_c99 target/header_cxx target/outline_example $(program)
 	target/header_c99
 	target/header_cxx
-	target/outline_example >/dev/null
+	target/outline_example | cmp - examples/c/output
 	tests/print $(program)
 	tests/installed
 
