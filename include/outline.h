@@ -3,8 +3,9 @@
  * change without a line between them, and that is the same on all of them once
  * they have handed each other their ops.
  *
- * Link with liboutline_c.a (made by `rt staticlib outline_c`; x86-64 Linux).
- * The calls are proved; docs/LIBRARY.md says what that means for a caller.
+ * For C99 and C++. Link with liboutline_c.a (made by `rt staticlib outline_c`;
+ * x86-64 Linux). The calls of the library are proved; docs/LIBRARY.md says what
+ * that means for a caller. The inline functions here are plain C.
  *
  * Words. A log lies at the front of a buffer that the caller lends: 32 bytes of
  * header, then 14 bytes for each op. A replica is a number from 1 to 8; it
@@ -13,22 +14,24 @@
  *
  * Memory. Lent memory is a pointer and a length, in elements (bytes, or
  * two-byte entries where the pointer is to uint16_t). The pointer must be valid
- * for that length and aligned for its type. Two pieces of memory that are lent
- * to one call must not overlap, but for two that are both only read. Nothing is
- * kept after a call, nothing is allocated, and there is no global state, so any
- * number of threads may call at once with memory of their own. A call uses less
- * than 64 KiB of stack.
+ * for that length and aligned for its type; with length 0 it may be NULL. Two
+ * pieces of memory that are lent to one call must not overlap, but for two that
+ * are both only read. Nothing is kept after a call, nothing is allocated, and
+ * there is no global state, so any number of threads may call at once with
+ * memory of their own. A call uses less than 64 KiB of stack.
  *
  * No call asks anything else of its arguments: every content, every length and
  * every number is answered.
  *
- * Answers. Every call answers one number.
+ * Answers. Every call but outline_is_sound and outline_version answers one
+ * number.
  *   1 to 10   refused, for the reason below; all lent memory is unchanged
- *   16        OUTLINE_HAD_IT: the delivered op was there already; unchanged
- *   17        OUTLINE_DONE: judging is done
- *   256 ..    256 and a value: the new end of the file, the entries of a path,
- *             or the bytes of a listing; see outline_value()
- * No other number is answered.
+ *   128       OUTLINE_HAD_IT: the delivered op was there already; unchanged
+ *   129       OUTLINE_DONE: judging is done
+ *   256 ..    256 and a value: the end of the file, the entries of a path, the
+ *             bytes of a listing, how many counts; see outline_value()
+ * No other number is answered. The numbers up to 127 are kept for refusals and
+ * those up to 255 for answers without a value.
  */
 #ifndef OUTLINE_H
 #define OUTLINE_H
@@ -41,55 +44,57 @@
 extern "C" {
 #endif
 
+/* The version of this header; outline_version() answers that of the library. */
+#define OUTLINE_VERSION_MAJOR 0
+#define OUTLINE_VERSION_MINOR 1
+#define OUTLINE_VERSION_PATCH 0
+#define OUTLINE_VERSION_TEXT "0.1.0"
+#define OUTLINE_VERSION \
+    (10000 * OUTLINE_VERSION_MAJOR + 100 * OUTLINE_VERSION_MINOR + OUTLINE_VERSION_PATCH)
+
 /* Why a call is refused. */
 #define OUTLINE_UNSOUND 1    /* the buffer does not hold a sound log */
-#define OUTLINE_LENGTH 2     /* an op of another length than 14, or memory lent for an op or a table too short */
+#define OUTLINE_LENGTH 2     /* an op of not 14 bytes, or too little lent for an op or a table */
 #define OUTLINE_MALFORMED 3  /* no replica from 1 to 8, or an op out of form */
 #define OUTLINE_CONFLICT 4   /* another op of this replica and sequence is held */
 #define OUTLINE_EARLY 5      /* the op counts ops that are not held yet: deliver those first */
 #define OUTLINE_NOT_CLOSED 6 /* the op counts an op, but not all that this one counts */
 #define OUTLINE_UNKNOWN 7    /* a node that the op does not know, or a move of a node to itself */
-#define OUTLINE_NO_ROOM 8    /* the buffer, or what is lent for a path or a listing, is too short */
+#define OUTLINE_NO_ROOM 8    /* the buffer, or what is lent for an answer, is too short */
 #define OUTLINE_EXHAUSTED 9  /* the replica has issued its 255 ops */
 #define OUTLINE_CYCLE 10     /* the new parent lies below the node */
 
-#define OUTLINE_HAD_IT 16
-#define OUTLINE_DONE 17
+#define OUTLINE_HAD_IT 128
+#define OUTLINE_DONE 129
 #define OUTLINE_VALUE 256 /* added to every value */
 
-/* Sizes. */
+/* Sizes. What is lent in these sizes is never too short. */
+#define OUTLINE_REPLICAS 8
 #define OUTLINE_HEADER 32             /* bytes of an empty log */
 #define OUTLINE_OP 14                 /* bytes of an op */
+#define OUTLINE_MOST_OPS 2040         /* ops of the largest log */
+#define OUTLINE_LARGEST 28592         /* bytes of the largest log */
 #define OUTLINE_TABLE 2041            /* entries of a table of outline_judge */
-#define OUTLINE_LARGEST 28592         /* bytes of the largest log: a buffer of this size never lacks room */
 #define OUTLINE_LONGEST_PATH 2041     /* entries of the longest path */
 #define OUTLINE_LONGEST_LISTING 24492 /* bytes that are enough for every listing */
 
+/* Kinds of ops. */
+#define OUTLINE_ADD 1
+#define OUTLINE_REMOVE 2
+#define OUTLINE_MOVE_UP 3   /* to a parent that was less deep than the node when it was issued */
+#define OUTLINE_MOVE_DOWN 4 /* any other move */
+
 /* In the tables of outline_judge. */
 #define OUTLINE_ROOT 0
-#define OUTLINE_NO_PARENT 65535     /* parent entry of a slot without a node */
-#define OUTLINE_NO_OP 0             /* outcome entry of a slot without an op */
-#define OUTLINE_APPLIED 1           /* the op was applied */
-#define OUTLINE_PLACED_ALREADY 2    /* a move that lost against one of the same node and time */
+#define OUTLINE_NO_SLOT ((size_t)-1) /* the slot of a number that is no node's */
+#define OUTLINE_NO_PARENT 65535      /* parent entry of a slot without a node */
+#define OUTLINE_NO_OP 0              /* outcome entry of a slot without an op */
+#define OUTLINE_APPLIED 1            /* the op was applied */
+#define OUTLINE_PLACED_ALREADY 2     /* a move that lost against one of the same node and time */
 #define OUTLINE_WOULD_CLOSE_CIRCLE 3 /* a move that would have closed a circle */
 
-/* Whether the answer is a refusal. */
-static inline bool outline_refused(size_t answer) { return answer < OUTLINE_HAD_IT; }
-
-/* The value of an answer, or 0 for one without a value. */
-static inline size_t outline_value(size_t answer) {
-    return answer < OUTLINE_VALUE ? 0 : answer - OUTLINE_VALUE;
-}
-
-/* The node that op q of replica s adds. */
-static inline uint16_t outline_node(uint8_t replica, uint8_t sequence) {
-    return (uint16_t)(256 * replica + sequence);
-}
-
-/* The slot of a node (or of the op that adds it) in the tables of outline_judge. */
-static inline size_t outline_slot(uint16_t node) {
-    return node < 256 ? 0 : 255 * (size_t)(node / 256 - 1) + node % 256;
-}
+/* The version of the library: 10000 * major + 100 * minor + patch. */
+size_t outline_version(void);
 
 /*
  * Makes an empty log at the front of a buffer, whatever the buffer holds.
@@ -99,15 +104,35 @@ static inline size_t outline_slot(uint16_t node) {
  */
 size_t outline_make(uint8_t *buf, size_t buf_len);
 
+/* Whether a buffer holds a sound log: whether no call would answer 1. */
+bool outline_is_sound(const uint8_t *file, size_t file_len);
+
+/*
+ * Where the log in a buffer ends: how many bytes are to be stored or sent. What
+ * lies past them does not belong to it.
+ *   value end    from 32 to OUTLINE_LARGEST
+ *   1            unsound
+ */
+size_t outline_end(const uint8_t *file, size_t file_len);
+
+/*
+ * How many ops of each replica the log in a buffer holds.
+ *   value 8      the first 8 bytes of `out` are the counts of replicas 1 to 8
+ *   1, 8         unsound; `out` shorter than 8 bytes
+ * Bytes past the first 8 keep their content. If refused, `out` is unchanged.
+ */
+size_t outline_counts(const uint8_t *file, size_t file_len, uint8_t *out, size_t out_len);
+
 /*
  * Delivers an op, which another replica issued, to the log in a buffer.
  *   value end    accepted: the log has one op more and ends at `end`
- *   16           had it: the same op is there already
+ *   128          had it: the same op is there already
  *   1, 2, 3, 4   unsound; not 14 bytes; malformed; conflict
  *   5, 6, 7, 8   early; not closed; unknown; no room for 14 bytes more
  * The first number of the order 1, 2, 3, (had it or 4), 5, 6, 7, 8 is answered.
  * If accepted, the first `end` bytes are the log with the op; bytes past them
  * keep their content. Else the buffer is unchanged. The op is only read.
+ * In the order that outline_causal_order gives no op of a log is early.
  */
 size_t outline_deliver(uint8_t *buf, size_t buf_len, const uint8_t *op, size_t op_len);
 
@@ -115,7 +140,7 @@ size_t outline_deliver(uint8_t *buf, size_t buf_len, const uint8_t *op, size_t o
  * Issues an add of a new node under a parent, which is 0 or a node of the log.
  *   value end    accepted: the log has one op more and ends at `end`, and the
  *                first 14 bytes of `out` are that op, to be handed to others;
- *                the new node's number stands in its bytes 2 and 3, high first
+ *                outline_op_node() reads the new node's number from it
  *   1, 2, 3      unsound; `out` shorter than 14 bytes; no such replica
  *   9, 7, 8      exhausted; unknown parent; no room for 14 bytes more
  * in this order. Bytes of the buffer past `end`, and of `out` past 14, keep
@@ -143,7 +168,7 @@ size_t outline_issue_move(uint8_t *buf, size_t buf_len, uint8_t replica, uint16_
 
 /*
  * Judges a log: replays its ops into two tables, by slot (outline_slot).
- *   17           done: the first 2,041 entries of both tables are written;
+ *   129          done: the first 2,041 entries of both tables are written;
  *                parents: the node's parent, OUTLINE_NO_PARENT if the slot has
  *                no node; outcomes: OUTLINE_APPLIED .., OUTLINE_NO_OP if the
  *                slot has no op
@@ -160,7 +185,7 @@ size_t outline_judge(const uint8_t *file, size_t file_len, uint16_t *parents, si
  *   value n      the first n entries of `out` are the path
  *   1, 7, 8      unsound; neither 0 nor a node of the log; `out` too short
  * Entries past the first n keep their content. If refused, `out` is unchanged.
- * The log is only read.
+ * The log is only read. OUTLINE_LONGEST_PATH entries (4,082 bytes) always do.
  */
 size_t outline_path(const uint8_t *file, size_t file_len, uint16_t node, uint16_t *out,
                     size_t out_len);
@@ -175,10 +200,134 @@ size_t outline_path(const uint8_t *file, size_t file_len, uint16_t node, uint16_
  *   value n      the first n bytes of `out` are the listing (no 0 at the end)
  *   1, 8         unsound; `out` too short
  * Bytes past the first n keep their content. If refused, `out` is unchanged.
- * The log is only read.
+ * The log is only read. OUTLINE_LONGEST_LISTING bytes always do.
  */
 size_t outline_listing(const uint8_t *file, size_t file_len, bool skipping, uint8_t *out,
                        size_t out_len);
+
+/*
+ * How many bytes outline_listing needs for the same log and view.
+ *   value n      so many
+ *   1            unsound
+ */
+size_t outline_listing_size(const uint8_t *file, size_t file_len, bool skipping);
+
+/* ---- inline functions: answers */
+
+/* Whether the answer is a refusal. */
+static inline bool outline_refused(size_t answer) { return answer < OUTLINE_HAD_IT; }
+
+/* The value of an answer, or 0 for one without a value. */
+static inline size_t outline_value(size_t answer) {
+    return answer < OUTLINE_VALUE ? 0 : answer - OUTLINE_VALUE;
+}
+
+/* An answer in words, for people; never NULL. */
+static inline const char *outline_text(size_t answer) {
+    if (answer >= OUTLINE_VALUE) return "accepted";
+    switch (answer) {
+    case OUTLINE_UNSOUND: return "the buffer does not hold a sound log";
+    case OUTLINE_LENGTH: return "an op of not 14 bytes, or too little lent for an op or a table";
+    case OUTLINE_MALFORMED: return "no replica from 1 to 8, or an op out of form";
+    case OUTLINE_CONFLICT: return "another op of this replica and sequence is held";
+    case OUTLINE_EARLY: return "the op counts ops that are not held yet";
+    case OUTLINE_NOT_CLOSED: return "the op counts an op, but not all that this one counts";
+    case OUTLINE_UNKNOWN: return "an unknown node, or a move of a node to itself";
+    case OUTLINE_NO_ROOM: return "the buffer, or what is lent for an answer, is too short";
+    case OUTLINE_EXHAUSTED: return "the replica has issued its 255 ops";
+    case OUTLINE_CYCLE: return "the new parent lies below the node";
+    case OUTLINE_HAD_IT: return "the op was there already";
+    case OUTLINE_DONE: return "done";
+    default: return "no answer of this library";
+    }
+}
+
+/* ---- inline functions: nodes */
+
+/* The node that op q of replica s adds, for s from 1 to 8 and q from 1 to 255. */
+static inline uint16_t outline_node(uint8_t replica, uint8_t sequence) {
+    return (uint16_t)(256 * replica + sequence);
+}
+
+/*
+ * The slot of a node, or of the op that adds it, in the tables of
+ * outline_judge; 0 is the root's. OUTLINE_NO_SLOT, which lies outside of every
+ * table, for every other number: no replica from 1 to 8, or no sequence from 1.
+ */
+static inline size_t outline_slot(uint16_t node) {
+    size_t replica = node / 256, sequence = node % 256;
+    if (node == OUTLINE_ROOT) return 0;
+    if (replica < 1 || replica > OUTLINE_REPLICAS || sequence < 1) return OUTLINE_NO_SLOT;
+    return 255 * (replica - 1) + sequence;
+}
+
+/* ---- inline functions: the 14 bytes of an op; any bytes may be read so */
+
+/* OUTLINE_ADD .. OUTLINE_MOVE_DOWN. */
+static inline uint8_t outline_op_kind(const uint8_t *op) { return op[0]; }
+
+/* The replica that issued it. */
+static inline uint8_t outline_op_replica(const uint8_t *op) { return op[1]; }
+
+/* The node that it adds, removes or moves. */
+static inline uint16_t outline_op_node(const uint8_t *op) {
+    return (uint16_t)(256 * op[2] + op[3]);
+}
+
+/* The parent that it adds or moves the node to; 0 in a remove. */
+static inline uint16_t outline_op_parent(const uint8_t *op) {
+    return (uint16_t)(256 * op[4] + op[5]);
+}
+
+/* How many ops of a replica its replica held when it was issued; 0 if there is no such replica. */
+static inline uint8_t outline_op_count(const uint8_t *op, uint8_t replica) {
+    return replica < 1 || replica > OUTLINE_REPLICAS ? (uint8_t)0 : op[5 + replica];
+}
+
+/* Its number among the ops of its replica, from 1 to 255; 0 if it is out of form. */
+static inline uint8_t outline_op_sequence(const uint8_t *op) {
+    uint8_t replica = outline_op_replica(op);
+    if (replica < 1 || replica > OUTLINE_REPLICAS) return 0;
+    return (uint8_t)(outline_op_count(op, replica) + 1);
+}
+
+/* The sum of its eight counts; in a sound log it is below that of every op that has seen it. */
+static inline size_t outline_op_sum(const uint8_t *op) {
+    size_t sum = 0;
+    for (int i = 6; i < OUTLINE_OP; i++) sum += op[i];
+    return sum;
+}
+
+/* ---- inline functions: handing over */
+
+/*
+ * The places of the ops of the log in a buffer, in an order in which they can
+ * be delivered to another: by rising sums of their counts. Delivered so, none is
+ * early, and one pass hands over all that is missing; ops that the other has
+ * already (outline_counts) may be left out.
+ *   value n      the first n entries of `places` are where the ops start
+ *   1, 8         unsound; less than n entries (OUTLINE_MOST_OPS always do)
+ * Entries past the first n keep their content. If refused, all do. It uses 4
+ * KiB of stack beside what outline_end uses.
+ */
+static inline size_t outline_causal_order(const uint8_t *file, size_t file_len, uint16_t *places,
+                                          size_t places_len) {
+    uint16_t next[8 * 255 + 2] = {0}; /* by the sum: where its next op goes */
+    size_t answer = outline_end(file, file_len);
+    if (outline_refused(answer)) return answer;
+    size_t end = outline_value(answer);
+    size_t count = (end - OUTLINE_HEADER) / OUTLINE_OP;
+    if (places_len < count) return OUTLINE_NO_ROOM;
+    for (size_t at = OUTLINE_HEADER; at < end; at += OUTLINE_OP) {
+        size_t sum = outline_op_sum(file + at);
+        next[sum + 1] = (uint16_t)(next[sum + 1] + 1);
+    }
+    for (size_t sum = 0; sum < 8 * 255; sum++)
+        next[sum + 1] = (uint16_t)(next[sum + 1] + next[sum]);
+    for (size_t at = OUTLINE_HEADER; at < end; at += OUTLINE_OP)
+        places[next[outline_op_sum(file + at)]++] = (uint16_t)at;
+    return OUTLINE_VALUE + count;
+}
 
 #ifdef __cplusplus
 }

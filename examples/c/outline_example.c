@@ -16,20 +16,10 @@ struct machine {
     size_t end;
 };
 
-static const char *name_of(size_t answer) {
-    static const char *const names[] = {
-        "?", "unsound", "length", "malformed", "conflict", "early", "not closed", "unknown",
-        "no room", "exhausted", "cycle",
-    };
-    if (outline_refused(answer)) return answer < 11 ? names[answer] : "?";
-    if (answer == OUTLINE_HAD_IT) return "had it";
-    return answer == OUTLINE_DONE ? "done" : "accepted";
-}
-
 /* Ends the program where something is refused that cannot be. */
 static size_t value_of(size_t answer) {
     if (outline_refused(answer)) {
-        fprintf(stderr, "refused %zu: %s\n", answer, name_of(answer));
+        fprintf(stderr, "refused %zu: %s\n", answer, outline_text(answer));
         exit(1);
     }
     return outline_value(answer);
@@ -43,30 +33,36 @@ static void start(struct machine *m, uint8_t replica) {
 static uint16_t add(struct machine *m, uint16_t parent) {
     uint8_t op[OUTLINE_OP];
     m->end = value_of(outline_issue_add(m->log, sizeof m->log, m->replica, parent, op, sizeof op));
-    uint16_t node = (uint16_t)(256 * op[2] + op[3]);
-    printf("machine %d adds node %d under %d\n", m->replica, node, parent);
-    return node;
+    printf("machine %d adds node %d under %d\n", m->replica, outline_op_node(op), parent);
+    return outline_op_node(op);
 }
 
 static void move(struct machine *m, uint16_t node, uint16_t parent) {
     uint8_t op[OUTLINE_OP];
-    size_t answer = outline_issue_move(m->log, sizeof m->log, m->replica, node, parent, op, sizeof op);
-    printf("machine %d moves node %d under %d: %s\n", m->replica, node, parent, name_of(answer));
+    size_t answer =
+        outline_issue_move(m->log, sizeof m->log, m->replica, node, parent, op, sizeof op);
+    printf("machine %d moves node %d under %d: %s\n", m->replica, node, parent,
+           outline_text(answer));
     if (!outline_refused(answer)) m->end = outline_value(answer);
 }
 
-/* Hands every op of one log to another, again and again while some are early. */
+/*
+ * Hands over what one log has and another lacks, in an order in which no op is
+ * early. Between machines the counts go one way and then the ops the other way.
+ */
 static void hand_over(const struct machine *from, struct machine *to) {
-    bool early = true;
-    while (early) {
-        early = false;
-        for (size_t at = OUTLINE_HEADER; at < from->end; at += OUTLINE_OP) {
-            size_t answer = outline_deliver(to->log, sizeof to->log, from->log + at, OUTLINE_OP);
-            printf("machine %d gets the op at %zu of machine %d: %s\n", to->replica, at, from->replica,
-                   name_of(answer));
-            if (answer == OUTLINE_EARLY) early = true;
-            else if (answer != OUTLINE_HAD_IT) to->end = value_of(answer);
-        }
+    static uint16_t places[OUTLINE_MOST_OPS];
+    uint8_t had[OUTLINE_REPLICAS];
+    value_of(outline_counts(to->log, to->end, had, sizeof had));
+    size_t ops = value_of(outline_causal_order(from->log, from->end, places, OUTLINE_MOST_OPS));
+    for (size_t i = 0; i < ops; i++) {
+        const uint8_t *op = from->log + places[i];
+        uint8_t replica = outline_op_replica(op), sequence = outline_op_sequence(op);
+        if (sequence <= had[replica - 1]) continue;
+        size_t answer = outline_deliver(to->log, sizeof to->log, op, OUTLINE_OP);
+        printf("machine %d gets op %d of machine %d: %s\n", to->replica, sequence, replica,
+               outline_text(answer));
+        if (answer != OUTLINE_HAD_IT) to->end = value_of(answer);
     }
 }
 

@@ -1,8 +1,9 @@
-//! Making, delivering, issuing and judging on lent bytes.
+//! Making, delivering, issuing and judging on lent bytes, and what a log comes to.
 
 use crate::log::{Log, HEADER_LEN};
 use crate::op::{node_number, replica_index, Kind, Op, MAX_SEQUENCE, OP_LEN};
 use crate::tree::{Tree, SLOTS};
+use crate::view::put;
 use crate::{refusal, Answer};
 
 /// Writes an empty log.
@@ -122,6 +123,21 @@ fn try_judge(file: &[u8], parents: &mut [u16], outcomes: &mut [u8]) -> Result<An
     parents.copy_from_slice(&tree.parents);
     outcomes.copy_from_slice(&tree.outcomes);
     Ok(Answer::Done)
+}
+
+/// Whether the bytes hold a sound log.
+pub fn is_sound(file: &[u8]) -> bool {
+    open(file).is_ok()
+}
+
+/// Where the file ends.
+pub fn file_end(file: &[u8]) -> Answer {
+    answer(open(file).map(|log| Answer::Count(log.end())))
+}
+
+/// How many ops of each replica are held.
+pub fn held_counts(file: &[u8], out: &mut [u8]) -> Answer {
+    answer(open(file).and_then(|log| put(&log.held(), out)))
 }
 
 /// Test 1.

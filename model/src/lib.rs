@@ -14,11 +14,13 @@ pub mod script;
 pub mod tree;
 pub mod view;
 
-pub use calls::{deliver, issue_add, issue_move, issue_remove, judge, make};
+pub use calls::{
+    deliver, file_end, held_counts, is_sound, issue_add, issue_move, issue_remove, judge, make,
+};
 pub use log::{Log, HEADER_LEN, MAX_FILE};
 pub use op::{Kind, Op, Vector, MAX_SEQUENCE, OP_LEN, REPLICAS};
 pub use tree::{slot_of, Tree, NO_PARENT, SLOTS};
-pub use view::{listing, outline, path, View};
+pub use view::{listing, listing_size, outline, path, View};
 
 /// What a call hands back ("Numbers handed back").
 #[derive(Clone, Copy, PartialEq, Eq, Debug)]
@@ -29,7 +31,7 @@ pub enum Answer {
     HadIt,
     /// Judging is done.
     Done,
-    /// Entries of a path, or bytes of a listing.
+    /// Entries of a path, bytes of a listing or of a file, or how many counts.
     Count(usize),
     /// Refused with this number; nothing changed.
     Refused(u8),

@@ -31,8 +31,13 @@ pub fn listing(file: &[u8], view: View, out: &mut [u8]) -> Answer {
     answer(open(file).and_then(|log| put(&lines(&log, view), out)))
 }
 
+/// How many bytes the lines of a view have.
+pub fn listing_size(file: &[u8], view: View) -> Answer {
+    answer(open(file).map(|log| Answer::Count(lines(&log, view).len())))
+}
+
 /// Test 8, then the written part.
-fn put<T: Copy>(written: &[T], out: &mut [T]) -> Result<Answer, u8> {
+pub(crate) fn put<T: Copy>(written: &[T], out: &mut [T]) -> Result<Answer, u8> {
     let lent = out.get_mut(..written.len()).ok_or(refusal::ROOM)?;
     lent.copy_from_slice(written);
     Ok(Answer::Count(written.len()))

@@ -33,8 +33,32 @@ fn assert_unsound(buffer: &[u8]) {
     }
     for view in VIEWS {
         assert_eq!(listing_in(&buffer, view, 0).0, Refused(1));
+        assert_eq!(listing_size(&buffer, view), Refused(1));
     }
+    assert!(!is_sound(&buffer));
+    assert_eq!(file_end(&buffer), Refused(1));
+    assert_eq!(held_counts(&buffer, &mut [0; 7]), Refused(1));
     assert_eq!(outline(&buffer), b"refused 1\n");
+}
+
+#[test]
+fn what_a_log_comes_to() {
+    for length in [88, 89, 500] {
+        let buffer = p1_in(length);
+        assert!(is_sound(&buffer));
+        assert_eq!(file_end(&buffer), Count(88));
+        let mut counts = [9; 9];
+        assert_eq!(held_counts(&buffer, &mut counts[..7]), Refused(8));
+        assert_eq!(counts, [9; 9]);
+        assert_eq!(held_counts(&buffer, &mut counts), Count(8));
+        assert_eq!(counts, [3, 1, 0, 0, 0, 0, 0, 0, 9]);
+        for view in VIEWS {
+            assert_eq!(
+                listing_size(&buffer, view),
+                listing_in(&buffer, view, 300).0
+            );
+        }
+    }
 }
 
 #[test]

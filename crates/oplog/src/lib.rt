@@ -8,6 +8,7 @@ mod marker;
 mod places;
 
 pub use append::append_op;
+pub use append::put_front;
 pub use check::known_in;
 pub use check::known_parent;
 pub use check::names_known;

@@ -6,10 +6,13 @@ use mathlib.Core.Path.{_≡_, refl, transport, ap}
 use native.Mathlib.Omega.{arith}
 use Rattle.outline_c.specs.Fits.{fits}
 use Rattle.rules.specs.Views.{View}
-use Rattle.rules.specs.Listing.{listingAnswer, listingOf, listing}
+use Rattle.rules.specs.Listing.{listingAnswer, listingOf, listing, listingSize}
+use Rattle.rules.specs.Measure.{countsAnswer, countsCall, endAnswer}
 use Rattle.rules.specs.Path.{pathAnswer, pathOf, pathCall}
 use Rattle.rules.proofs.DeliverLaws.{admitted, required, accepted-same}
 use Rattle.rules.proofs.IssueLaws.{allowed}
+use Rattle.rules.proofs.SoundLaws.{sound-laid}
+use Rattle.order.proofs.TourLaws.{sound-listing}
 use Rattle.rules.specs.Answer.{Answer, refused, hadIt, done, accepted}
 use Rattle.rules.specs.Deliver.{makeAnswer, deliverAnswer}
 use Rattle.rules.specs.Issue.{Request, issueAnswer}
@@ -64,6 +67,28 @@ listing-fits f v out h =
     let c = required _ _ _ m (required _ _ _ m e .1) in
     let room : length (listingOf v (logOf width f)) ≤ length out = leb-true _ _ (c .0) in
     omega (arith, room, accepted-same _ m (c .1)))
+
+pub size-fits : (f : List ℕ) (v : View) → fits (listingSize width f v)
+unfolding listingSize
+size-fits f v =
+    fits-if (listingSize width f v)
+    (λ m e.
+    let c = required _ _ _ m e in
+    omega (arith, sound-listing width f v (c .0), accepted-same _ m (c .1)))
+
+pub end-fits : (f : List ℕ) → length f ≤ 9223372036854775807 → fits (endAnswer width f)
+unfolding endAnswer
+end-fits f h =
+    fits-if (endAnswer width f)
+    (λ m e.
+    let c = required _ _ _ m e in
+    omega (arith, sound-laid width f (c .0) .fits, accepted-same _ m (c .1)))
+
+pub counts-fits : (f out : List ℕ) → fits (countsCall width f out .answer)
+unfolding countsCall countsAnswer
+counts-fits f out =
+    fits-if (countsAnswer width f (length out))
+    (λ m e. omega (arith, accepted-same 8 m (required _ _ _ m (required _ _ _ m e .1) .1)))
 
 -- an answer that fits and accepts a value
 pub value-fits : (a : Answer) (n : ℕ) → a ≡ accepted n → fits a → n ≤ 9223372036854775807

@@ -11,13 +11,15 @@ use Rattle.rules.specs.Answer.{Answer}
 use Rattle.rules.specs.Deliver.{Result, make, deliver}
 use Rattle.rules.specs.Issue.{Issued, Request, issue}
 use Rattle.rules.specs.Judge.{Judgement, judge}
-use Rattle.rules.specs.Listing.{listing}
+use Rattle.rules.specs.Listing.{listing, listingSize}
 use Rattle.rules.specs.File.{width}
+use Rattle.rules.specs.Measure.{countsCall, endAnswer}
 use Rattle.rules.specs.Path.{Written, pathCall}
 use Rattle.rules.specs.Views.{View}
 use Rattle.outline_c.specs.Number.{number, ofResult, ofIssued, ofJudgement, ofWritten}
 use Rattle.outline_c.specs.Fits.{fits}
-use Rattle.outline_c.proofs.FitLaws.{make-fits, deliver-fits, issue-fits, judge-fits, path-fits, listing-fits, value-fits}
+use Rattle.outline_c.proofs.FitLaws.{make-fits, deliver-fits, issue-fits, judge-fits, path-fits, listing-fits}
+use Rattle.outline_c.proofs.FitLaws.{size-fits, end-fits, counts-fits, value-fits}
 use Rattle.codec.specs.declared.answer.Answer as code
 
 ---- the number of an answer
@@ -27,11 +29,11 @@ module _ (a : code.Answer) where
   unfolding number
   refused-number why e n h = rw e h
 
-  pub had-it-number : a ≡ HadIt → 16 ≡ number (answerOf a)
+  pub had-it-number : a ≡ HadIt → 128 ≡ number (answerOf a)
   unfolding number
   had-it-number e = rw e
 
-  pub done-number : a ≡ Done → 17 ≡ number (answerOf a)
+  pub done-number : a ≡ Done → 129 ≡ number (answerOf a)
   unfolding number
   done-number e = rw e
 
@@ -63,6 +65,12 @@ module _ (a : Answer) (n : ℕ) (is : n ≡ number a) where
       (n, o) ≡ ofWritten (listing width f w out)
   listing-over f out o v w h e = rw (← h) (written-over o (listing width f v out) e)
 
+  pub answer-over : (x : Answer) → a ≡ x → n ≡ number x
+  answer-over x e = rw is (ap number e)
+
+  pub size-over : (f : List ℕ) (v w : View) → v ≡ w → a ≡ listingSize width f v → n ≡ number (listingSize width f w)
+  size-over f v w h e = rw (← h) (answer-over (listingSize width f v) e)
+
 ---- and its answer fits
 
 module _ (a : Answer) where
@@ -91,11 +99,20 @@ module _ (a : Answer) where
       length out ≤ 9223372036854775807 → fits a
   listing-written f v out o e h = rw (ap (λ (x : Written). x .answer) e) (listing-fits f v out h)
 
+  pub sized-fits : (f : List ℕ) (v : View) → a ≡ listingSize width f v → fits a
+  sized-fits f v e = rw e (size-fits f v)
+
+  pub ended-fits : (f : List ℕ) → a ≡ endAnswer width f → length f ≤ 9223372036854775807 → fits a
+  ended-fits f e h = rw e (end-fits f h)
+
+  pub counted-fits : (f out o : List ℕ) → record { answer = a; out = o } ≡ countsCall width f out → fits a
+  counted-fits f out o e = rw (ap (λ (x : Written). x .answer) e) (counts-fits f out)
+
 ---- what the code of numbers needs: search numbering
 pub ruleset answers = (refused-number, had-it-number, done-number, accepted-number, accepted-fits)
 
-pub ruleset handing = (result-over, issued-over, judgement-over, written-over, listing-over)
+pub ruleset handing = (result-over, issued-over, judgement-over, written-over, listing-over, answer-over, size-over)
 
-pub ruleset fitting = (made-fits, delivered-fits, issued-fits, judged-fits, path-written, listing-written)
+pub ruleset fitting = (made-fits, delivered-fits, issued-fits, judged-fits, path-written, listing-written, sized-fits, counted-fits)
 
 pub ruleset numbering = (needs, answers, handing, fitting)

@@ -1,4 +1,4 @@
--- One number for each answer, and a bool for each view, for callers in other languages.
+-- One number for each answer, a bool for each view, and the version, for callers in other languages.
 use Prim.Native.Nat.{ℕ, _+_}
 use mathlib.Core.Bool.{Bool, true, false}
 use mathlib.Core.List.{List}
@@ -9,11 +9,11 @@ use Rattle.rules.specs.Judge.{Judgement}
 use Rattle.rules.specs.Path.{Written}
 use Rattle.rules.specs.Views.{View, keeping, skipping}
 
--- a refusal by the document's number, 1 to 10; 16 had it; 17 done; from 256 on, 256 and the value
+-- a refusal by the document's number; 128 had it, 129 done, above every refusal that may come; from 256 on, 256 and the value
 unfoldable pub number : Answer → ℕ
 number (refused n) = n
-number hadIt = 16
-number done = 17
+number hadIt = 128
+number done = 129
 number (accepted n) = 256 + n
 
 -- what each call hands over: the number of its answer, and what it leaves in lent memory
@@ -28,6 +28,10 @@ ofJudgement x = (number (x .answer), x .parents, x .outcomes)
 
 abbrev pub ofWritten : Written → ℕ × List ℕ
 ofWritten x = (number (x .answer), x .out)
+
+-- 0.1.0, as 10000 * major + 100 * minor + patch
+abbrev pub version : ℕ
+version = 100
 
 -- the view that a caller asks for
 unfoldable pub viewFor : Bool → View

@@ -30,8 +30,8 @@ pub(crate) fn number(answer: Answer) -> usize
 {
     match answer {
         Answer::Refused(why) => refusal_number(why),
-        Answer::HadIt => 16,
-        Answer::Done => 17,
+        Answer::HadIt => 128,
+        Answer::Done => 129,
         Answer::Accepted(value) => 256 + value,
     }
 }

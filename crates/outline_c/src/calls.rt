@@ -5,19 +5,34 @@ use replica::issue_move;
 use replica::issue_remove;
 use replica::judge;
 use replica::make;
+use soundness::file_end;
+use soundness::held_counts;
+use soundness::is_sound;
 use view::View;
 use view::listing;
+use view::listing_size;
 use view::path;
 ghost use mathlib.Core.Path.{_≡_};
 ghost use Rattle.rules.specs.Issue.{add, remove, move};
 ghost use Rattle.rules.specs.File.{width};
+ghost use Rattle.rules.specs.Measure.{endAnswer, countsCall};
 ghost use Rattle.rules.specs.Path.{pathCall};
+ghost use Rattle.rules.specs.Sound.{sound};
 ghost use Rattle.view.specs.Answers.{viewOf};
-ghost use Rattle.outline_c.specs.Number.{viewFor, ofResult, ofIssued, ofJudgement, ofWritten};
+ghost use Rattle.outline_c.specs.Number.{version, viewFor, ofResult, ofIssued, ofJudgement, ofWritten};
+ghost use Rattle.outline_c.specs.Number as specs;
 ghost use Rattle.rules.specs.Deliver as delivering;
 ghost use Rattle.rules.specs.Issue as issuing;
 ghost use Rattle.rules.specs.Judge as judging;
 ghost use Rattle.rules.specs.Listing as listings;
+
+// The version of the library.
+#[no_mangle]
+pub extern "C" fn outline_version() -> usize
+    ensures { λ r. ⌜ r ≡ version ⌝ }
+{
+    100
+}
 
 // Makes an empty log in a buffer.
 #[no_mangle]
@@ -111,4 +126,36 @@ pub extern "C" fn outline_listing(file: &[u8], skipping: bool, out: &mut [u8]) -
         ≡ ofWritten (listings.listing width (now (file .entry)) (viewFor skipping) (now (out .entry))) ⌝ }
 {
     number(listing(file, view_for(skipping), out))
+}
+
+// How many bytes the listing of a view has.
+#[no_mangle]
+pub extern "C" fn outline_listing_size(file: &[u8], skipping: bool) -> usize
+    ensures { λ r. ⌜ r ≡ specs.number (listings.listingSize width (now (file .entry)) (viewFor skipping)) ⌝ }
+{
+    number(listing_size(file, view_for(skipping)))
+}
+
+// Whether a buffer holds a sound log.
+#[no_mangle]
+pub extern "C" fn outline_is_sound(file: &[u8]) -> bool
+    ensures { λ r. ⌜ r ≡ sound width (now (file .entry)) ⌝ }
+{
+    is_sound(file)
+}
+
+// Where the file of the log in a buffer ends.
+#[no_mangle]
+pub extern "C" fn outline_end(file: &[u8]) -> usize
+    ensures { λ r. ⌜ r ≡ specs.number (endAnswer width (now (file .entry))) ⌝ }
+{
+    number(file_end(file))
+}
+
+// Puts the held counts into lent bytes.
+#[no_mangle]
+pub extern "C" fn outline_counts(file: &[u8], out: &mut [u8]) -> usize
+    ensures { λ r. ⌜ (r, now (out .exit)) ≡ ofWritten (countsCall width (now (file .entry)) (now (out .entry))) ⌝ }
+{
+    number(held_counts(file, out))
 }

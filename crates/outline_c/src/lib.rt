@@ -3,11 +3,16 @@
 mod answer;
 mod calls;
 
+pub use calls::outline_counts;
 pub use calls::outline_deliver;
+pub use calls::outline_end;
+pub use calls::outline_is_sound;
 pub use calls::outline_issue_add;
 pub use calls::outline_issue_move;
 pub use calls::outline_issue_remove;
 pub use calls::outline_judge;
 pub use calls::outline_listing;
+pub use calls::outline_listing_size;
 pub use calls::outline_make;
 pub use calls::outline_path;
+pub use calls::outline_version;

@@ -12,9 +12,10 @@ use Rattle.rules.specs.Deliver.{makeAnswer, isHeld, heldAnswer, admitAns
 use Rattle.rules.specs.Issue.{Request, add, remove, move, opBytes, issued, requestKnown, requestClear, issueAnswer, issueOut}
 use Rattle.rules.specs.Tree.{moveKind, slots, slot, slotOf, parentIn, climb, path, depth, atOrBelow}
 use Rattle.rules.specs.Judge.{judgeAnswer}
-use Rattle.rules.specs.Listing.{children, preorder, digits, decimal, lineOf, line, listingIn, listingOf, listingAnswer, listing, refusedLine, outline}
+use Rattle.rules.specs.Listing.{children, preorder, digits, decimal, lineOf, line, listingIn, listingOf, listingAnswer, listing, listingSize, refusedLine, outline}
 use Rattle.rules.specs.File.{Log, emptyLog, opsOf, opAt, countsOf, append, countAt, startAt, headerCounts, startOf, endOf, fileEnd, chunks, chunksOf, logOf, headerEntry, headerOf, fileOf, within, width}
 use Rattle.rules.specs.Log.{covered, closedAt, closed, nodeWithin, known, knownParent, namesKnown, soundOp, soundOps, soundLog, soundHeader, laid, structural}
+use Rattle.rules.specs.Measure.{endAnswer, countsAnswer, countsCall}
 use Rattle.rules.specs.Op.{Op, Vector, replicas, isReplica, countIn, kindOf, replicaOf, nodeOf, parentOf, vectorOf, ownCount, seqOf, nodeNumber, isAdd, isRemove, isMove, wellFormed}
 use Rattle.rules.specs.Path.{pathOf, pathAnswer, pathCall}
 use Rattle.rules.specs.Replay.{opsWithin, addedIn, removedIn, timestampIn, timestamp, stamp, stamped, ofReplica, ofKind, ofTime, byTime, ordered, start, outcomeSlot, outcomeOf, step, replay, parentsOf, outcomesOf}
@@ -46,6 +47,10 @@ pub data Row : Type 0 where
   paths : (file : List ℕ) (node : ℕ) (out : List ℕ) → Answer → (after : List ℕ) → Row
   -- the listing of a view, put into lent bytes, is answered, and they hold
   lists : (file : List ℕ) → View → (out : List ℕ) → Answer → (after : List ℕ) → Row
+  -- the bytes of a listing, the end of a file and the held counts, put into lent bytes, are answered
+  sizes : (file : List ℕ) → View → Answer → Row
+  ends : (file : List ℕ) → Answer → Row
+  counts : (file out : List ℕ) → Answer → (after : List ℕ) → Row
   -- the program prints
   prints : (input text : List ℕ) → Row
 
@@ -61,6 +66,9 @@ Holds (outcomes log os) = ofOps (λ s q. getD (outcomesOf log) (slot s q) 0) log
 Holds (times log ts) = ofOps (λ s q. timestamp log (opAt log s q)) log ≡ ts
 Holds (paths f n out a after) = pathCall width f n out ≡ record { answer = a; out = after }
 Holds (lists f view out a after) = listing width f view out ≡ record { answer = a; out = after }
+Holds (sizes f view a) = listingSize width f view ≡ a
+Holds (ends f a) = endAnswer width f ≡ a
+Holds (counts f out a after) = countsCall width f out ≡ record { answer = a; out = after }
 Holds (prints f text) = outline width f ≡ text
 
 abbrev pub AllHold : List Row → Type 0
@@ -267,6 +275,15 @@ table =
     ∷ judges p1File slots slots done
     ∷ judges p1File 2040 slots (refused 2)
     ∷ judges p1File slots 2040 (refused 2)
+    -- sizes, ends and counts; what lies past the file does not matter
+    ∷ sizes prunedFile keeping (accepted 30)
+    ∷ sizes prunedFile skipping (accepted 14)
+    ∷ sizes (replicate 31 0) keeping (refused 1)
+    ∷ ends p1Buffer (accepted 88)
+    ∷ ends (replicate 31 0) (refused 1)
+    ∷ counts p1Buffer (replicate 9 9) (accepted 8) (3 ∷ 1 ∷ 0 ∷ 0 ∷ 0 ∷ 0 ∷ 0 ∷ 0 ∷ 9 ∷ [])
+    ∷ counts p1Buffer (replicate 7 9) (refused 8) (replicate 7 9)
+    ∷ counts (replicate 31 0) (replicate 7 9) (refused 1) (replicate 7 9)
     ∷ []
 
 -- one row holds, and the others
@@ -284,13 +301,13 @@ unfolding ofOps table p1 p1File p1Buffer emptyFile p10 p11 p11All p12 p12All riv
     slotOf parentIn climb path depth atOrBelow opsWithin addedIn removedIn timestampIn timestamp stamp stamped ofReplica ofKind ofTime
     byTime ordered start outcomeSlot outcomeOf step replay parentsOf outcomesOf opBytes moveKind issued requestKnown requestClear
     issueAnswer issueOut nodes marked shown children preorder digits decimal lineOf line listingIn listingOf listingAnswer listing
-    refusedLine outline judgeAnswer pathOf pathAnswer pathCall
+    listingSize refusedLine outline judgeAnswer pathOf pathAnswer pathCall endAnswer countsAnswer countsCall
 table-holds =
     (refl, refl) & refl & refl & refl & refl & refl & refl & refl & refl & refl & refl & refl & refl & refl & refl
     & refl & refl & refl & refl & refl & refl & refl & refl & refl & refl & refl & refl & refl & refl & refl & refl
     & (refl, refl) & refl & refl & refl & refl & (refl, refl) & refl & refl & refl & refl & refl & (refl, refl) & refl
     & refl & refl & refl & refl & refl & refl & (refl, refl) & refl & refl & refl & refl & refl & refl & refl & refl
-    & refl & refl & refl & refl & refl & refl & tt
+    & refl & refl & refl & refl & refl & refl & refl & refl & refl & refl & refl & refl & refl & refl & tt
 
 -- what holds of all rows holds of each
 each : (xs : List Row) (d : Row) → AllHold xs → (k : ℕ) → k < length xs → Holds (getD xs k d)

@@ -11,6 +11,7 @@ pub mod Deliver
 pub mod Judge
 pub mod Issue
 pub mod Path
+pub mod Measure
 pub mod Views
 pub mod Listing
 pub mod TreeClaim

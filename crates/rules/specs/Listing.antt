@@ -54,6 +54,10 @@ listing w f view out =
     let a = listingAnswer w f view (length out) in
     record { answer = a; out = ifAccepted a (listingOf view (logOf w f) ++ drop (length (listingOf view (logOf w f))) out) out }
 
+-- how many bytes a listing has, for a caller who is to lend them
+unfoldable pub listingSize : ℕ → (file : List ℕ) → View → Answer
+listingSize w f view = require (sound w f) 1 (accepted (length (listingOf view (logOf w f))))
+
 -- "refused 1" and a line feed
 unfoldable pub refusedLine : List ℕ
 refusedLine = 114 ∷ 101 ∷ 102 ∷ 117 ∷ 115 ∷ 101 ∷ 100 ∷ 32 ∷ 49 ∷ 10 ∷ []

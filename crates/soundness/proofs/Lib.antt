@@ -1,1 +1,2 @@
+pub mod MeasureCases
 pub mod SoundCases

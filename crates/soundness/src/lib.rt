@@ -1,15 +1,9 @@
-// Whether a buffer holds a sound log: what every call tests first.
-use oplog::structural;
-ghost use mathlib.Core.Path.{_≡_};
-ghost use Rattle.rules.specs.File.{width};
-ghost use Rattle.rules.specs.Sound.{sound};
+// Whether a buffer holds a sound log, which every call tests first; and where its file ends, and how
+// many ops of each replica it holds.
+mod check;
+mod measure;
 
-// The bytes of an op.
-pub const WIDTH: usize = 14;
-
-// Whether a buffer holds a sound log (number 1).
-pub fn is_sound(file: &[u8]) -> bool
-    ensures { λ r. ⌜ r ≡ sound width (now (file .entry)) ⌝ }
-{
-    structural(file, WIDTH)
-}
+pub use check::WIDTH;
+pub use check::is_sound;
+pub use measure::file_end;
+pub use measure::held_counts;

@@ -7,3 +7,4 @@ pub mod LinkingCases
 pub mod LineCases
 pub mod ListingCases
 pub mod OutlineCases
+pub mod SizeCases

@@ -35,7 +35,7 @@ fn order_view(parents: &[u16], marks: &[u8], view: View, order: &mut [u32]) -> u
 }
 
 // Arranges the nodes that a view shows, and marks those that ops remove.
-fn arrange_view(file: &[u8], view: View, marks: &mut [u8], order: &mut [u32]) -> usize
+pub(crate) fn arrange_view(file: &[u8], view: View, marks: &mut [u8], order: &mut [u32]) -> usize
     requires { ⌜ Arrangeable (now file) (now marks) (now order) ⌝ }
     ensures { λ r. ⌜ (now (marks .exit) ≡ marksOf (logOf width (now (file .entry))))
         × (take r (now (order .exit)) ≡ orderOf (logOf width (now (file .entry))) (viewOf view)) × (r ≤ slots) ⌝ }

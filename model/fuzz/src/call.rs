@@ -1,6 +1,7 @@
 //! The calls, and the two sides that answer them.
 
 use crate::lent::{Guards, Lent};
+use crate::raw;
 use outline::{plain, Delivery, Refusal};
 use outline_model::{Answer, View};
 
@@ -36,9 +37,17 @@ pub enum Call {
         view: View,
         room: usize,
     },
+    Size {
+        view: View,
+    },
+    IsSound,
+    End,
+    Counts {
+        room: usize,
+    },
 }
 
-pub const NAMES: [&str; 8] = [
+pub const NAMES: [&str; 12] = [
     "make",
     "deliver",
     "issue_add",
@@ -47,6 +56,10 @@ pub const NAMES: [&str; 8] = [
     "judge",
     "path",
     "listing",
+    "listing_size",
+    "is_sound",
+    "end",
+    "counts",
 ];
 
 impl Call {
@@ -61,6 +74,10 @@ impl Call {
             Call::Judge { .. } => 5,
             Call::Path { .. } => 6,
             Call::Listing { .. } => 7,
+            Call::Size { .. } => 8,
+            Call::IsSound => 9,
+            Call::End => 10,
+            Call::Counts { .. } => 11,
         }
     }
 }
@@ -72,6 +89,11 @@ pub enum Outcome {
     HadIt,
     Done,
     Value(usize),
+}
+
+/// A bool as 0 or 1.
+fn truth(holds: bool) -> Outcome {
+    Outcome::Value(usize::from(holds))
 }
 
 /// The answer, and all memory that was lent besides the buffer.
@@ -92,6 +114,10 @@ pub trait Side {
     fn judge(file: &[u8], parents: &mut [u16], outcomes: &mut [u8]) -> Outcome;
     fn path(file: &[u8], node: u16, out: &mut [u16]) -> Outcome;
     fn listing(file: &[u8], view: View, out: &mut [u8]) -> Outcome;
+    fn listing_size(file: &[u8], view: View) -> Outcome;
+    fn is_sound(file: &[u8]) -> Outcome;
+    fn end(file: &[u8]) -> Outcome;
+    fn counts(file: &[u8], out: &mut [u8]) -> Outcome;
 }
 
 pub struct Library;
@@ -99,6 +125,14 @@ pub struct Model;
 
 fn value(answer: Result<usize, Refusal>) -> Outcome {
     answer.map_or_else(|why| Outcome::Refused(why.number()), Outcome::Value)
+}
+
+/// The number of an answer that is refused or has a value.
+fn numbered(answer: usize) -> Outcome {
+    match answer {
+        256.. => Outcome::Value(answer - 256),
+        _ => Outcome::Refused(answer as u8),
+    }
 }
 
 impl Side for Library {
@@ -145,6 +179,22 @@ impl Side for Library {
         };
         value(plain::listing(file, view, out))
     }
+
+    fn listing_size(file: &[u8], view: View) -> Outcome {
+        numbered(raw::listing_size(file, view == View::Skipping))
+    }
+
+    fn is_sound(file: &[u8]) -> Outcome {
+        truth(raw::is_sound(file))
+    }
+
+    fn end(file: &[u8]) -> Outcome {
+        numbered(raw::end(file))
+    }
+
+    fn counts(file: &[u8], out: &mut [u8]) -> Outcome {
+        numbered(raw::counts(file, out))
+    }
 }
 
 impl From<Answer> for Outcome {
@@ -189,6 +239,22 @@ impl Side for Model {
 
     fn listing(file: &[u8], view: View, out: &mut [u8]) -> Outcome {
         outline_model::listing(file, view, out).into()
+    }
+
+    fn listing_size(file: &[u8], view: View) -> Outcome {
+        outline_model::listing_size(file, view).into()
+    }
+
+    fn is_sound(file: &[u8]) -> Outcome {
+        truth(outline_model::is_sound(file))
+    }
+
+    fn end(file: &[u8]) -> Outcome {
+        outline_model::file_end(file).into()
+    }
+
+    fn counts(file: &[u8], out: &mut [u8]) -> Outcome {
+        outline_model::held_counts(file, out).into()
     }
 }
 
@@ -270,6 +336,13 @@ pub fn run<S: Side>(call: &Call, buffer: &mut Lent<u8>, guards: Guards, salt: us
         Call::Listing { view, room } => {
             bytes.push(lender.bytes(room));
             S::listing(buf, view, bytes[0].get_mut())
+        }
+        Call::Size { view } => S::listing_size(buf, view),
+        Call::IsSound => S::is_sound(buf),
+        Call::End => S::end(buf),
+        Call::Counts { room } => {
+            bytes.push(lender.bytes(room));
+            S::counts(buf, bytes[0].get_mut())
         }
     };
     After {

@@ -149,7 +149,13 @@ impl Input {
     pub fn call(&self, rng: &mut Rng) -> Call {
         match rng.below(100) {
             0 => Call::Make,
-            1..=39 => Call::Deliver(self.record(rng)),
+            1..=35 => Call::Deliver(self.record(rng)),
+            36 => Call::IsSound,
+            37 => Call::End,
+            38 => Call::Counts {
+                room: rng.below(12),
+            },
+            39 => Call::Size { view: view(rng) },
             40..=49 => Call::Add {
                 replica: replica(rng),
                 parent: self.node(rng),
@@ -179,7 +185,7 @@ impl Input {
                 },
             },
             _ => Call::Listing {
-                view: rng.pick(&[View::Keeping, View::Skipping]),
+                view: view(rng),
                 room: if self.is_large() || rng.one_in(4) {
                     rng.pick(&[24_492, 20_000, 2_000, 300])
                 } else {
@@ -227,6 +233,10 @@ impl Input {
         }
         rng.pick(&self.ops).node
     }
+}
+
+fn view(rng: &mut Rng) -> View {
+    rng.pick(&[View::Keeping, View::Skipping])
 }
 
 fn replica(rng: &mut Rng) -> u8 {

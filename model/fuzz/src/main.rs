@@ -4,6 +4,7 @@
 mod call;
 mod input;
 mod lent;
+mod raw;
 
 use call::{run, Call, Library, Model, Outcome, NAMES};
 use input::{Input, Stock};
@@ -53,7 +54,7 @@ fn number(word: &str) -> Result<u64, String> {
 /// How often each call gave each answer: refusals by number, had it, done, a value.
 #[derive(Default)]
 struct Tally {
-    counts: [[u64; 14]; 8],
+    counts: [[u64; 14]; NAMES.len()],
     full: u64,
 }
 

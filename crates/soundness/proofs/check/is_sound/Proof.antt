@@ -1,8 +1,8 @@
--- `soundness::is_sound` meets its contract.
+-- `soundness::check::is_sound` meets its contract.
 use borrow.Author.Needs.{needs}
 use Rattle.rules.specs.Sound.{sound}
-use Rattle.soundness.proofs.is_sound.Statement.{statement}
-use Rattle.soundness.proofs.is_sound.Tie as tie
+use Rattle.soundness.proofs.check.is_sound.Statement.{statement}
+use Rattle.soundness.proofs.check.is_sound.Tie as tie
 
 returns : tie.Need-returns
 unfolding sound

@@ -1,0 +1,272 @@
+/* Every name of include/outline.h, tested through the library. Valid as C99 and as C++. */
+#include "outline.h"
+
+#include <stdio.h>
+#include <string.h>
+
+static int failures;
+
+static void expect_at(int line, const char *what, bool holds) {
+    if (holds) return;
+    fprintf(stderr, "tests/header.c:%d: not so: %s\n", line, what);
+    failures++;
+}
+
+#define EXPECT(test) expect_at(__LINE__, #test, test)
+#define VALUE(n) ((size_t)OUTLINE_VALUE + (n))
+
+static uint8_t log_a[OUTLINE_LARGEST], log_b[OUTLINE_LARGEST];
+static uint16_t parents[OUTLINE_TABLE], path[OUTLINE_LONGEST_PATH], places[OUTLINE_MOST_OPS + 1];
+static uint8_t outcomes[OUTLINE_TABLE], text[OUTLINE_LONGEST_LISTING], op[OUTLINE_OP];
+
+static size_t add(uint8_t *log, uint8_t replica, uint16_t parent) {
+    return outline_issue_add(log, OUTLINE_LARGEST, replica, parent, op, sizeof op);
+}
+
+static size_t move(uint8_t *log, uint8_t replica, uint16_t node, uint16_t parent) {
+    return outline_issue_move(log, OUTLINE_LARGEST, replica, node, parent, op, sizeof op);
+}
+
+static size_t deliver(uint8_t *log, const uint8_t *bytes) {
+    return outline_deliver(log, OUTLINE_LARGEST, bytes, OUTLINE_OP);
+}
+
+static void versions(void) {
+    char said[32];
+    snprintf(said, sizeof said, "%d.%d.%d", OUTLINE_VERSION_MAJOR, OUTLINE_VERSION_MINOR,
+             OUTLINE_VERSION_PATCH);
+    EXPECT(strcmp(said, OUTLINE_VERSION_TEXT) == 0);
+    EXPECT(outline_version() == OUTLINE_VERSION);
+}
+
+static void numbers(void) {
+    EXPECT(OUTLINE_UNSOUND == 1 && OUTLINE_CYCLE == 10);
+    EXPECT(OUTLINE_HAD_IT == 128 && OUTLINE_DONE == 129 && OUTLINE_VALUE == 256);
+    EXPECT(outline_refused(OUTLINE_UNSOUND) && outline_refused(OUTLINE_CYCLE));
+    EXPECT(!outline_refused(OUTLINE_HAD_IT) && !outline_refused(OUTLINE_DONE));
+    EXPECT(!outline_refused(OUTLINE_VALUE));
+    EXPECT(outline_value(OUTLINE_CYCLE) == 0 && outline_value(OUTLINE_DONE) == 0);
+    EXPECT(outline_value(VALUE(0)) == 0 && outline_value(VALUE(28592)) == 28592);
+    const char *none = outline_text(0);
+    for (size_t a = 0; a < 300; a++) {
+        bool named = (a >= 1 && a <= 10) || a == OUTLINE_HAD_IT || a == OUTLINE_DONE || a >= 256;
+        EXPECT(outline_text(a) != NULL && (strcmp(outline_text(a), none) != 0) == named);
+        for (size_t b = 0; b < a && a <= OUTLINE_VALUE; b++)
+            EXPECT(!named || strcmp(outline_text(a), outline_text(b)) != 0);
+    }
+}
+
+/* A slot for the root and the 2,040 node numbers, each its own; none for any other number. */
+static void slots(void) {
+    static bool taken[OUTLINE_TABLE];
+    size_t found = 0;
+    for (unsigned n = 0; n <= 65535; n++) {
+        unsigned s = n / 256, q = n % 256;
+        bool is_node = n == OUTLINE_ROOT || (s >= 1 && s <= OUTLINE_REPLICAS && q >= 1);
+        size_t slot = outline_slot((uint16_t)n);
+        EXPECT(is_node ? slot < OUTLINE_TABLE : slot == OUTLINE_NO_SLOT);
+        if (slot >= OUTLINE_TABLE) continue;
+        EXPECT(!taken[slot]);
+        taken[slot] = true;
+        found++;
+        if (n != OUTLINE_ROOT) EXPECT(outline_node((uint8_t)s, (uint8_t)q) == n);
+    }
+    EXPECT(found == OUTLINE_TABLE && outline_slot(OUTLINE_ROOT) == 0);
+    EXPECT(outline_slot(OUTLINE_NO_PARENT) == OUTLINE_NO_SLOT);
+}
+
+static void fields(void) {
+    outline_make(log_a, sizeof log_a);
+    add(log_a, 2, 0);
+    add(log_a, 2, 0);
+    EXPECT(add(log_a, 8, 514) == VALUE(OUTLINE_HEADER + 3 * OUTLINE_OP));
+    EXPECT(outline_op_kind(op) == OUTLINE_ADD && outline_op_replica(op) == 8);
+    EXPECT(outline_op_sequence(op) == 1 && outline_op_node(op) == outline_node(8, 1));
+    EXPECT(outline_op_parent(op) == 514 && outline_op_sum(op) == 2);
+    EXPECT(outline_op_count(op, 2) == 2 && outline_op_count(op, 8) == 0);
+    EXPECT(outline_op_count(op, 0) == 0 && outline_op_count(op, 9) == 0);
+    EXPECT(move(log_a, 8, 513, 2049) == VALUE(OUTLINE_HEADER + 4 * OUTLINE_OP));
+    EXPECT(outline_op_kind(op) == OUTLINE_MOVE_DOWN && outline_op_sequence(op) == 2);
+    EXPECT(outline_op_node(op) == 513 && outline_op_parent(op) == 2049);
+    move(log_a, 1, 513, 0);
+    EXPECT(outline_op_kind(op) == OUTLINE_MOVE_UP);
+    outline_issue_remove(log_a, sizeof log_a, 1, 513, op, sizeof op);
+    EXPECT(outline_op_kind(op) == OUTLINE_REMOVE && outline_op_parent(op) == 0);
+    op[1] = 0;
+    EXPECT(outline_op_sequence(op) == 0);
+    op[1] = 9;
+    EXPECT(outline_op_sequence(op) == 0);
+    memset(op, 255, sizeof op);
+    op[1] = 8;
+    EXPECT(outline_op_sequence(op) == 0 && outline_op_sum(op) == 2040);
+}
+
+/* Each refusal by its number, had it, and done. */
+static void answers(void) {
+    uint8_t early[OUTLINE_OP], bad[OUTLINE_OP];
+    outline_make(log_a, sizeof log_a);
+    outline_make(log_b, sizeof log_b);
+    EXPECT(add(log_a, 1, 0) == VALUE(46));
+    memcpy(bad, op, sizeof bad);
+    EXPECT(deliver(log_b, bad) == VALUE(46) && deliver(log_b, bad) == OUTLINE_HAD_IT);
+    EXPECT(outline_deliver(log_b, sizeof log_b, bad, 13) == OUTLINE_LENGTH);
+    bad[5] = 1;
+    EXPECT(deliver(log_b, bad) == OUTLINE_CONFLICT);
+    bad[0] = 5;
+    EXPECT(deliver(log_b, bad) == OUTLINE_MALFORMED);
+    EXPECT(add(log_a, 9, 0) == OUTLINE_MALFORMED && add(log_a, 0, 0) == OUTLINE_MALFORMED);
+    add(log_a, 1, 257);
+    add(log_a, 2, 258);
+    memcpy(early, op, sizeof early);
+    EXPECT(deliver(log_b, early) == OUTLINE_EARLY);
+    outline_deliver(log_b, sizeof log_b, log_a + OUTLINE_HEADER + OUTLINE_OP, OUTLINE_OP);
+    EXPECT(deliver(log_b, early) == VALUE(74));
+    memcpy(bad, early, sizeof bad); /* replica 3, which has seen 513 and not what 513 had seen */
+    bad[1] = 3;
+    bad[2] = 3;
+    bad[6] = 1;
+    bad[7] = 1;
+    EXPECT(deliver(log_b, bad) == OUTLINE_NOT_CLOSED);
+    EXPECT(add(log_a, 1, 259) == OUTLINE_UNKNOWN && move(log_a, 1, 257, 257) == OUTLINE_UNKNOWN);
+    EXPECT(move(log_a, 1, 257, 513) == OUTLINE_CYCLE);
+    EXPECT(outline_make(log_b, 31) == OUTLINE_NO_ROOM);
+    EXPECT(outline_issue_add(log_a, 74, 1, 0, op, sizeof op) == OUTLINE_NO_ROOM);
+    for (int i = 0; i < 253; i++) add(log_a, 1, 0);
+    EXPECT(add(log_a, 1, 0) == OUTLINE_EXHAUSTED);
+    EXPECT(outline_judge(log_a, sizeof log_a, parents, OUTLINE_TABLE, outcomes, OUTLINE_TABLE) ==
+           OUTLINE_DONE);
+    EXPECT(parents[outline_slot(513)] == 258 && parents[outline_slot(514)] == OUTLINE_NO_PARENT);
+    EXPECT(outcomes[outline_slot(513)] == OUTLINE_APPLIED);
+    EXPECT(outcomes[outline_slot(514)] == OUTLINE_NO_OP);
+    EXPECT(outline_path(log_a, sizeof log_a, 513, path, OUTLINE_LONGEST_PATH) == VALUE(4));
+    EXPECT(path[0] == 513 && path[1] == 258 && path[2] == 257 && path[3] == OUTLINE_ROOT);
+    log_a[0] = 1;
+    EXPECT(add(log_a, 1, 0) == OUTLINE_UNSOUND);
+}
+
+/* Two moves of one node, and two that close a circle: the outcomes of those that lost. */
+static void clashes(void) {
+    outline_make(log_a, sizeof log_a);
+    for (int i = 0; i < 3; i++) add(log_a, 1, 0);
+    memcpy(log_b, log_a, sizeof log_b);
+    move(log_a, 1, 257, 258);
+    move(log_b, 2, 257, 259);
+    EXPECT(!outline_refused(deliver(log_a, op)));
+    outline_judge(log_a, sizeof log_a, parents, OUTLINE_TABLE, outcomes, OUTLINE_TABLE);
+    EXPECT(outcomes[outline_slot(outline_node(1, 4))] == OUTLINE_PLACED_ALREADY);
+    outline_make(log_a, sizeof log_a);
+    for (int i = 0; i < 2; i++) add(log_a, 1, 0);
+    memcpy(log_b, log_a, sizeof log_b);
+    move(log_a, 1, 257, 258);
+    move(log_b, 2, 258, 257);
+    deliver(log_a, op);
+    outline_judge(log_a, sizeof log_a, parents, OUTLINE_TABLE, outcomes, OUTLINE_TABLE);
+    EXPECT(outcomes[outline_slot(outline_node(1, 3))] == OUTLINE_WOULD_CLOSE_CIRCLE);
+}
+
+/* Soundness, end, counts and sizes of a log, whatever lies past it. */
+static void measures(void) {
+    uint8_t counts[OUTLINE_REPLICAS + 1];
+    memset(log_a, 255, sizeof log_a);
+    EXPECT(!outline_is_sound(log_a, sizeof log_a));
+    EXPECT(outline_end(log_a, sizeof log_a) == OUTLINE_UNSOUND);
+    EXPECT(outline_listing_size(log_a, sizeof log_a, false) == OUTLINE_UNSOUND);
+    EXPECT(outline_make(log_a, sizeof log_a) == VALUE(OUTLINE_HEADER));
+    add(log_a, 1, 0);
+    add(log_a, 1, 257);
+    add(log_a, 7, 0);
+    outline_issue_remove(log_a, sizeof log_a, 7, 257, op, sizeof op);
+    EXPECT(outline_is_sound(log_a, sizeof log_a) && outline_is_sound(log_a, 88));
+    EXPECT(!outline_is_sound(log_a, 87));
+    EXPECT(outline_end(log_a, sizeof log_a) == VALUE(88) && outline_end(log_a, 88) == VALUE(88));
+    memset(counts, 9, sizeof counts);
+    EXPECT(outline_counts(log_a, 87, counts, 8) == OUTLINE_UNSOUND && counts[0] == 9);
+    EXPECT(outline_counts(log_a, 88, counts, 7) == OUTLINE_NO_ROOM && counts[0] == 9);
+    EXPECT(outline_counts(log_a, 88, counts, sizeof counts) == VALUE(8));
+    EXPECT(memcmp(counts, "\2\0\0\0\0\0\2\0\11", 9) == 0);
+    for (int skipping = 0; skipping < 2; skipping++) {
+        size_t answer = outline_listing_size(log_a, 88, skipping == 1);
+        size_t size = outline_value(answer);
+        EXPECT(size == (skipping ? 15 : 31));
+        EXPECT(outline_listing(log_a, 88, skipping == 1, text, size - 1) == OUTLINE_NO_ROOM);
+        EXPECT(outline_listing(log_a, 88, skipping == 1, text, size) == answer);
+    }
+    EXPECT(memcmp(text, "0 0 k\n1 1793 k\n", 15) == 0);
+}
+
+/* Length 0 with NULL. */
+static void nulls(void) {
+    uint8_t *none = NULL;
+    uint16_t *no_entries = NULL;
+    EXPECT(outline_make(none, 0) == OUTLINE_NO_ROOM);
+    EXPECT(!outline_is_sound(none, 0) && outline_end(none, 0) == OUTLINE_UNSOUND);
+    EXPECT(outline_counts(none, 0, none, 0) == OUTLINE_UNSOUND);
+    EXPECT(outline_deliver(none, 0, none, 0) == OUTLINE_UNSOUND);
+    EXPECT(outline_issue_add(none, 0, 1, 0, none, 0) == OUTLINE_UNSOUND);
+    EXPECT(outline_issue_remove(none, 0, 1, 257, none, 0) == OUTLINE_UNSOUND);
+    EXPECT(outline_issue_move(none, 0, 1, 257, 0, none, 0) == OUTLINE_UNSOUND);
+    EXPECT(outline_judge(none, 0, no_entries, 0, none, 0) == OUTLINE_UNSOUND);
+    EXPECT(outline_path(none, 0, 0, no_entries, 0) == OUTLINE_UNSOUND);
+    EXPECT(outline_listing(none, 0, false, none, 0) == OUTLINE_UNSOUND);
+    EXPECT(outline_listing_size(none, 0, true) == OUTLINE_UNSOUND);
+    EXPECT(outline_causal_order(none, 0, no_entries, 0) == OUTLINE_UNSOUND);
+    outline_make(log_a, sizeof log_a);
+    EXPECT(outline_causal_order(log_a, sizeof log_a, no_entries, 0) == VALUE(0));
+    add(log_a, 1, 0);
+    EXPECT(outline_counts(log_a, sizeof log_a, none, 0) == OUTLINE_NO_ROOM);
+    EXPECT(outline_deliver(log_a, sizeof log_a, none, 0) == OUTLINE_LENGTH);
+    EXPECT(outline_issue_add(log_a, sizeof log_a, 1, 0, none, 0) == OUTLINE_LENGTH);
+    EXPECT(outline_issue_remove(log_a, sizeof log_a, 1, 257, none, 0) == OUTLINE_LENGTH);
+    EXPECT(outline_issue_move(log_a, sizeof log_a, 1, 257, 0, none, 0) == OUTLINE_LENGTH);
+    EXPECT(outline_judge(log_a, sizeof log_a, no_entries, 0, none, 0) == OUTLINE_LENGTH);
+    EXPECT(outline_judge(log_a, sizeof log_a, parents, OUTLINE_TABLE, none, 0) == OUTLINE_LENGTH);
+    EXPECT(outline_path(log_a, sizeof log_a, 0, no_entries, 0) == OUTLINE_NO_ROOM);
+    EXPECT(outline_listing(log_a, sizeof log_a, false, none, 0) == OUTLINE_NO_ROOM);
+    EXPECT(outline_causal_order(log_a, sizeof log_a, no_entries, 0) == OUTLINE_NO_ROOM);
+}
+
+/* A full log, its replicas taking turns, is handed over in one pass; in file order it is not. */
+static void handing_over(void) {
+    size_t last = 0, accepted = 0, early = 0;
+    outline_make(log_a, sizeof log_a);
+    for (int i = 0; i < OUTLINE_MOST_OPS; i++) add(log_a, (uint8_t)(i % 8 + 1), 0);
+    EXPECT(outline_end(log_a, sizeof log_a) == VALUE(OUTLINE_LARGEST));
+    places[0] = 7;
+    EXPECT(outline_causal_order(log_a, sizeof log_a, places, OUTLINE_MOST_OPS - 1) ==
+           OUTLINE_NO_ROOM);
+    EXPECT(outline_causal_order(log_a, OUTLINE_LARGEST - 1, places, OUTLINE_MOST_OPS) ==
+           OUTLINE_UNSOUND);
+    EXPECT(places[0] == 7);
+    places[OUTLINE_MOST_OPS] = 7;
+    EXPECT(outline_causal_order(log_a, sizeof log_a, places, OUTLINE_MOST_OPS + 1) ==
+           VALUE(OUTLINE_MOST_OPS));
+    EXPECT(places[OUTLINE_MOST_OPS] == 7);
+    outline_make(log_b, sizeof log_b);
+    for (size_t i = 0; i < OUTLINE_MOST_OPS; i++) {
+        const uint8_t *next = log_a + places[i];
+        EXPECT(last <= outline_op_sum(next));
+        last = outline_op_sum(next);
+        accepted += !outline_refused(deliver(log_b, next));
+    }
+    EXPECT(accepted == OUTLINE_MOST_OPS && memcmp(log_a, log_b, sizeof log_a) == 0);
+    outline_make(log_b, sizeof log_b);
+    for (size_t at = OUTLINE_HEADER; at < OUTLINE_LARGEST; at += OUTLINE_OP)
+        early += deliver(log_b, log_a + at) == OUTLINE_EARLY;
+    EXPECT(early > 0);
+    EXPECT(outline_listing(log_a, sizeof log_a, false, text, sizeof text) ==
+           outline_listing_size(log_a, sizeof log_a, false));
+}
+
+int main(void) {
+    versions();
+    numbers();
+    slots();
+    fields();
+    answers();
+    clashes();
+    measures();
+    nulls();
+    handing_over();
+    if (failures == 0) puts("header: all as said");
+    return failures == 0 ? 0 : 1;
+}
