@@ -12,7 +12,8 @@ use Rattle.rules.specs.Sound.{sound}
 use Rattle.rules.specs.Views.{View}
 use Rattle.view.proofs.ListingCases.{listings}
 use Rattle.view.proofs.ListingLaws.{listing-is}
-use Rattle.view.specs.Tables.{linesOf, marksOf, orderOf}
+use Rattle.marks.specs.Marking.{marksOf}
+use Rattle.view.specs.Tables.{linesOf, orderOf}
 
 module _ (f : List ℕ) (view : View) where
   pub size-unsound : sound width f ≡ false → refused 1 ≡ listingSize width f view
