@@ -22,7 +22,7 @@ use Rattle.rules.proofs.DeliverLaws.{admitted}
 use Rattle.rules.proofs.FileLaws.{counts-logOf}
 use Rattle.rules.proofs.StructureLaws.{count-held}
 use Rattle.oplog.specs.Places.{Held, InFile, placeOf}
-use Rattle.oplog.specs.Tests.{namesBy}
+use Rattle.structure.specs.Tests.{namesBy}
 use Rattle.oplog.proofs.FieldLaws.{held-of, counts-in, op-is}
 use Rattle.codec.specs.Asked.{isAccepted}
 use Rattle.codec.specs.Answers.{numberOf}

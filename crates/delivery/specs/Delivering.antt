@@ -8,7 +8,7 @@ use lib.ListN.{length}
 use Rattle.rules.specs.Deliver.{isHeld}
 use Rattle.rules.specs.Op.{Vector, nodeNumber, wellFormed}
 use Rattle.rules.specs.Sound.{sound}
-use Rattle.oplog.specs.Tests.{namesBy}
+use Rattle.structure.specs.Tests.{namesBy}
 use Rattle.codec.specs.Read.{fieldsOf}
 use Rattle.codec.specs.declared.op.Fields.{Fields}
 use Rattle.soundness.specs.Asked.{Tallied}

@@ -1,4 +1,3 @@
 pub mod Append
 pub mod Header
 pub mod Places
-pub mod Tests

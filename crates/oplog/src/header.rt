@@ -12,7 +12,7 @@ ghost use Rattle.rules.specs.Log.{soundHeader};
 ghost use Rattle.oplog.specs.Header.{entryRight, withEntry};
 
 // The count that the header gives for replica s.
-pub(crate) fn count_at(file: &[u8], s: usize) -> usize
+pub fn count_at(file: &[u8], s: usize) -> usize
     requires { ⌜ (32 ≤ length (now file)) × (1 ≤ s) × (s ≤ 8) ⌝ }
     ensures { λ r. ⌜ r ≡ countAt (now (file .entry)) s ⌝ }
 {

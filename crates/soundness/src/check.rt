@@ -1,4 +1,4 @@
-use oplog::structural;
+use structure::structural;
 ghost use mathlib.Core.Path.{_≡_};
 ghost use Rattle.rules.specs.File.{width};
 ghost use Rattle.rules.specs.Sound.{sound};

@@ -1,10 +1,10 @@
 use codec::Answer;
 use codec::Refusal;
 use oplog::counts_of;
-use oplog::known_parent;
 use replay::replay_all;
 use soundness::WIDTH;
 use soundness::is_sound;
+use structure::known_parent;
 use tree::SLOTS;
 use tree::depth_of;
 use tree::slot_of;

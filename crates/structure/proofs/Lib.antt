@@ -1,0 +1,3 @@
+pub mod RiseLaws
+pub mod TestLaws
+pub mod WalkLaws
