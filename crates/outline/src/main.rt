@@ -1,6 +1,11 @@
 // Reads one log from standard input and prints its keeping view; input that is no log prints
 // `refused 1`. A read or a write that fails is told on standard error, with its cause.
 use codec::Answer;
+use soundness::LARGEST;
+use view::LONGEST;
+
+// One byte more than the largest log, so that longer input shows.
+const INPUT: usize = LARGEST + 1;
 
 // What came of reading: so many bytes, or a read that failed.
 enum Input {
@@ -38,8 +43,7 @@ fn print(bytes: &[u8], n: usize) {
 // Prints the view of the first bytes.
 fn show(input: &[u8], n: usize) {
     if n <= input.len() {
-        // Enough for every output.
-        let mut out = [0u8; 24492];
+        let mut out = [0u8; LONGEST];
         let Answer::Accepted(size) = view::outline(&input[..n], &mut out) else {
             return;
         };
@@ -48,8 +52,7 @@ fn show(input: &[u8], n: usize) {
 }
 
 fn main() {
-    // One byte more than the largest log, so that longer input shows.
-    let mut input = [0u8; 28593];
+    let mut input = [0u8; INPUT];
     let Input::Bytes(n) = read_all(&mut input) else {
         os::fail(b"outline: cannot read the input");
         return;

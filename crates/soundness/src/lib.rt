@@ -3,6 +3,7 @@
 mod check;
 mod measure;
 
+pub use check::LARGEST;
 pub use check::WIDTH;
 pub use check::is_sound;
 pub use measure::file_end;

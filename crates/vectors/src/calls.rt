@@ -8,6 +8,7 @@ use codec::Refusal;
 use codec::widen;
 use codec::widen16;
 use codec::word_at;
+use view::LONGEST;
 use view::View;
 
 fn refused(why: Refusal) {
@@ -191,7 +192,7 @@ fn listing(file: &[u8], line: &[u8]) {
 
 // What the program `outline` prints for the buffer.
 fn outline(input: &[u8]) {
-    let mut out = [0u8; 24492];
+    let mut out = [0u8; LONGEST];
     text(b"o");
     let Answer::Accepted(n) = view::outline(input, &mut out) else {
         return;

@@ -11,5 +11,6 @@ mod sizes;
 pub use answer::View;
 pub use listings::listing;
 pub use paths::path;
+pub use printing::LONGEST;
 pub use printing::outline;
 pub use sizes::listing_size;

@@ -5,12 +5,16 @@ use codec::Refusal;
 use oplog::end_of;
 use soundness::WIDTH;
 use soundness::is_sound;
+use tree::SLOTS;
 ghost use mathlib.Core.Path.{_≡_};
 ghost use Rattle.rules.specs.File.{width};
 ghost use Rattle.rules.specs.Listing.{refusedLine};
 ghost use Rattle.codec.specs.Answers.{answerOf};
 ghost use Rattle.view.specs.Answers.{putIn};
 ghost use Rattle.rules.specs.Listing as rules;
+
+// Bytes that are enough for every listing, and for every output of the program.
+pub const LONGEST: usize = 12 * SLOTS;
 
 // Writes the line of a refused input.
 fn refuse(out: &mut [u8]) -> Answer
