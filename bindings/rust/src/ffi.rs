@@ -62,6 +62,7 @@ mod c {
             out: *mut u16,
             out_len: usize,
         ) -> usize;
+        pub fn outline_listing_size(file: *const u8, file_len: usize, skipping: bool) -> usize;
         pub fn outline_listing(
             file: *const u8,
             file_len: usize,
@@ -144,6 +145,12 @@ pub fn path(file: &[u8], node: u16, out: &mut [u16]) -> Answer {
     let (out, out_len) = (out.as_mut_ptr(), out.len());
     // SAFETY: pointers and lengths are those of slices, which do not overlap.
     Answer(unsafe { c::outline_path(file.as_ptr(), file.len(), node, out, out_len) })
+}
+
+#[inline]
+pub fn listing_size(file: &[u8], skipping: bool) -> Answer {
+    // SAFETY: pointer and length are those of a slice.
+    Answer(unsafe { c::outline_listing_size(file.as_ptr(), file.len(), skipping) })
 }
 
 #[inline]

@@ -333,6 +333,23 @@ pub fn path(file: &[u8], node: u16, out: &mut [u16]) -> Result<usize, Refusal> {
     ffi::path(file, node, out).value()
 }
 
+/// How many bytes the listing of a view has, for who lends just as many.
+///
+/// ```
+/// use outline::{plain, View};
+/// let mut buf = [0; 40];
+/// plain::make(&mut buf)?;
+/// assert_eq!(plain::listing_size(&buf, View::Keeping), Ok(6));
+/// # Ok::<(), outline::Refusal>(())
+/// ```
+///
+/// # Errors
+///
+/// [`Refusal::Unsound`].
+pub fn listing_size(file: &[u8], view: View) -> Result<usize, Refusal> {
+    ffi::listing_size(file, view == View::Skipping).value()
+}
+
 /// Puts the listing of a view into `out`, and answers how many bytes that are.
 ///
 /// A line is a node's depth, a space, its number, a space, `k` or `r`

@@ -135,6 +135,13 @@ fn numbered(answer: usize) -> Outcome {
     }
 }
 
+fn library_view(view: View) -> outline::View {
+    match view {
+        View::Keeping => outline::View::Keeping,
+        View::Skipping => outline::View::Skipping,
+    }
+}
+
 impl Side for Library {
     fn make(buf: &mut [u8]) -> Outcome {
         value(plain::make(buf))
@@ -173,23 +180,19 @@ impl Side for Library {
     }
 
     fn listing(file: &[u8], view: View, out: &mut [u8]) -> Outcome {
-        let view = match view {
-            View::Keeping => outline::View::Keeping,
-            View::Skipping => outline::View::Skipping,
-        };
-        value(plain::listing(file, view, out))
+        value(plain::listing(file, library_view(view), out))
     }
 
     fn listing_size(file: &[u8], view: View) -> Outcome {
-        numbered(raw::listing_size(file, view == View::Skipping))
+        value(plain::listing_size(file, library_view(view)))
     }
 
     fn is_sound(file: &[u8]) -> Outcome {
-        truth(raw::is_sound(file))
+        truth(plain::is_sound(file))
     }
 
     fn end(file: &[u8]) -> Outcome {
-        numbered(raw::end(file))
+        value(plain::end(file))
     }
 
     fn counts(file: &[u8], out: &mut [u8]) -> Outcome {
