@@ -18,8 +18,8 @@ pub const BELOW_NODE: u8 = 3;
 pub struct Tree {
     pub parents: Vec<u16>,
     pub outcomes: Vec<u8>,
-    /// Removed nodes (the document's marks).
-    pub tombstones: Vec<bool>,
+    /// Which nodes are marked.
+    pub marks: Vec<bool>,
     /// The timestamp of the last applied move of a node, 0 if none.
     moved_at: Vec<usize>,
 }
@@ -29,7 +29,7 @@ impl Tree {
         let mut tree = Tree {
             parents: vec![NO_PARENT; SLOTS],
             outcomes: vec![NO_OP; SLOTS],
-            tombstones: vec![false; SLOTS],
+            marks: vec![false; SLOTS],
             moved_at: vec![0; SLOTS],
         };
         tree.parents[0] = 0;
@@ -43,7 +43,7 @@ impl Tree {
         let slot = slot_of(op.node);
         match op.kind {
             Kind::Add => self.parents[slot] = op.parent,
-            Kind::Remove => self.tombstones[slot] = true,
+            Kind::Remove => self.marks[slot] = true,
             Kind::Up | Kind::Down => {
                 if self.moved_at[slot] == timestamp {
                     return RIVAL_FIRST;
@@ -77,8 +77,8 @@ impl Tree {
             .map(node_at)
     }
 
-    pub fn is_tombstone(&self, node: u16) -> bool {
-        self.tombstones[slot_of(node)]
+    pub fn is_marked(&self, node: u16) -> bool {
+        self.marks[slot_of(node)]
     }
 }
 

@@ -6,9 +6,9 @@ use crate::{refusal, Answer, Log};
 
 #[derive(Clone, Copy, PartialEq, Eq, Debug)]
 pub enum View {
-    /// Shows a node if it or some node below it is no tombstone.
+    /// Shows a node if it or some node below it is unmarked.
     Keeping,
-    /// Shows a node if neither it nor any node above it is a tombstone.
+    /// Shows a node if neither it nor any node above it is marked.
     Skipping,
 }
 
@@ -61,7 +61,7 @@ fn lines(log: &Log, view: View) -> Vec<u8> {
     while let Some((depth, node)) = waiting.pop() {
         // What hangs below a hidden node is hidden too, in both views.
         if shown[slot_of(node)] {
-            let mark = if tree.is_tombstone(node) { 'r' } else { 'k' };
+            let mark = if tree.is_marked(node) { 'r' } else { 'k' };
             text.extend(format!("{depth} {node} {mark}\n").bytes());
             let below = children[slot_of(node)].iter().rev();
             waiting.extend(below.map(|&child| (depth + 1, child)));
@@ -85,14 +85,14 @@ fn shown(tree: &Tree, view: View) -> Vec<bool> {
     shown[0] = true;
     for node in tree.nodes() {
         match view {
-            View::Keeping if !tree.is_tombstone(node) => {
+            View::Keeping if !tree.is_marked(node) => {
                 for above in tree.path(node) {
                     shown[slot_of(above)] = true;
                 }
             }
             View::Keeping => {}
             View::Skipping => {
-                shown[slot_of(node)] = !tree.path(node).any(|above| tree.is_tombstone(above));
+                shown[slot_of(node)] = !tree.path(node).any(|above| tree.is_marked(above));
             }
         }
     }

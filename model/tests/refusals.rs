@@ -352,7 +352,7 @@ fn number_9_before_7_10_8() {
 
 #[test]
 fn number_10_before_8() {
-    let file = file_of(&tombstones());
+    let file = file_of(&removals());
     for room in [0, 14] {
         let mut buffer = in_buffer(&file, file.len() + room);
         for (node, parent) in [(260, 258), (260, 770), (258, 259), (259, 770)] {

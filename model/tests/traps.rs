@@ -94,7 +94,7 @@ fn later_bodies_of_other_replicas_may_be_named() {
 
 #[test]
 fn kinds_at_issue() {
-    let base = in_buffer(&file_of(&tombstones()), 400);
+    let base = in_buffer(&file_of(&removals()), 400);
     let kind = |node, parent| {
         let (answer, op) = issue_checked(&mut base.clone(), 2, Issue::Move(node, parent));
         assert_eq!(answer, Accepted(186));
@@ -121,7 +121,7 @@ fn an_issued_op_is_applied_and_a_delivered_kind_stays() {
 
 #[test]
 fn slots_without_a_node() {
-    let (parents, outcomes) = judged(&file_of(&tombstones()));
+    let (parents, outcomes) = judged(&file_of(&removals()));
     assert_eq!((parents[0], outcomes[0]), (0, 0));
     assert_eq!(parents[..7], [0, 0, 260, 258, 0, 65535, 65535]);
     assert_eq!(outcomes[..8], [0, 1, 1, 1, 1, 1, 1, 0]);
@@ -132,7 +132,7 @@ fn slots_without_a_node() {
 
 #[test]
 fn both_views() {
-    let file = file_of(&tombstones());
+    let file = file_of(&removals());
     let kept = "0 0 k\n1 260 r\n2 258 k\n3 259 r\n4 770 k\n";
     assert_eq!(listed(&file, View::Keeping), kept);
     assert_eq!(listed(&file, View::Skipping), "0 0 k\n");

@@ -141,7 +141,7 @@ pub fn chain_not_count() -> Vec<Op> {
 }
 
 /// A removed node with a kept one below, and one removed below a kept one.
-pub fn tombstones() -> Vec<Op> {
+pub fn removals() -> Vec<Op> {
     vec![
         add(1, 0, &[]),
         add(1, 257, &[1]),
@@ -205,6 +205,6 @@ pub fn small_logs() -> Vec<Vec<Op>> {
         rival_passed_over(),
         rivals_with_different_vectors(),
         chain_not_count(),
-        tombstones(),
+        removals(),
     ]
 }

@@ -1,7 +1,7 @@
 //! Issuing.
 
 use super::damage;
-use super::examples::{adds, file_of, mutual, p1, small_logs, tombstones};
+use super::examples::{adds, file_of, mutual, p1, removals, small_logs};
 use super::world::{full, Style, World};
 use super::Script;
 use crate::log::{HEADER_LEN, MAX_FILE};
@@ -63,11 +63,7 @@ fn edges(script: &mut Script) {
 
 /// Calls with several causes at once: the first in order is answered.
 fn order_of_tests(script: &mut Script) {
-    let sound = [
-        file_of(&p1()),
-        file_of(&adds(1, 255)),
-        file_of(&tombstones()),
-    ];
+    let sound = [file_of(&p1()), file_of(&adds(1, 255)), file_of(&removals())];
     for file in sound {
         for damaged in [false, true] {
             for room in [0, 14] {
@@ -88,7 +84,7 @@ fn order_of_tests(script: &mut Script) {
 
 /// Every pair of node and parent, known or not, in three trees.
 fn names(script: &mut Script) {
-    for ops in [p1(), tombstones()] {
+    for ops in [p1(), removals()] {
         let file = file_of(&ops);
         for node in NUMBERS {
             script.load_in(&file, file.len() + OP_LEN);
