@@ -256,7 +256,7 @@ module _ (w : ℕ) (f : List ℕ) (m : Marker) where
       unfolding nextBefore
       before-op v iv = rw (← e, lt-ltb (m .sequence) n h) (iv ∙ sym (fields-at w f _ _ there at (t .place) .vector))
 
----- a turn of the walk
+---- the walk with all that goes along
 
 -- the ops before the marker are sound; the place of its op, and the vector of its replica's op before
 pub record Walked (w : ℕ) (f : List ℕ) (m : Marker) (p : ℕ) (before : Vector) : Type 0 where
@@ -278,7 +278,7 @@ after-op log s q l e =
     let z : q + 1 - 1 ≡ q = omega arith in
     record { is = rw (lt-ltb 1 (q + 1) (omega arith), z); is-sound = λ h. rw z e }
 
--- where the next op starts
+-- where the next op starts, of the same replica and of the next
 next-in : (w : ℕ) (f : List ℕ) (s q : ℕ) → 1 ≤ q → placeOf w f s q + w ≡ placeOf w f s (q + 1)
 next-in w f s q l =
     let e : q + 1 - 1 ≡ q - 1 + 1 = omega arith in
@@ -341,13 +341,12 @@ module _ (w : ℕ) (f : List ℕ) (m : Marker) where
             let s : ℕ = m .replica in
             let q : ℕ = m .sequence in
             let n : ℕ = countAt f s in
-            let to-next : q ≡ n + 1 → placeOf w f s q ≡ placeOf w f (s + 1) 1 = next-replica-at w f s q (t .at .low) u in
             rw (e, i, t .place) (elim (decLe (q + 1) n) [
               | yes k ↦ rw (lt-ltb q n (omega arith), le-leb q n (omega arith)) (next-in w f s q (t .at .first))
               | no k ↦ rw (le-ltb q n (omega arith)) (elim (ℕ-discrete q n) [
                 | yes z ↦ rw (le-leb q n (omega arith), next-in w f s q (t .at .first))
                     (next-replica-at w f s (q + 1) (t .at .low) u (omega arith))
-                | no nz ↦ rw (lt-leb q n (omega arith)) (to-next (omega (arith, t .most)))
+                | no nz ↦ rw (lt-leb q n (omega arith)) (next-replica-at w f s q (t .at .low) u (omega (arith, t .most)))
               ])
             ])
 
