@@ -23,7 +23,7 @@ use Rattle.rules.proofs.ReplicaLaws.{all-alike, map-replicas}
 use Rattle.rules.proofs.StructureLaws.{count-held, laid-reads}
 use Rattle.oplog.specs.declared.marker.Marker.{Marker}
 use Rattle.oplog.specs.Places.{InFile, Stands, nextMarker, nextPlace, placeOf}
-use Rattle.oplog.specs.Tests.{LaidOut, OpHere, Before, vectorBefore, nextBefore, soundAt, soundHere}
+use Rattle.oplog.specs.Tests.{LaidOut, OpHere, Before, vectorBefore, nextBefore, Turned, soundAt, soundHere}
 use Rattle.oplog.proofs.FieldLaws.{counts-in, fields-at, op-fits}
 use Rattle.oplog.proofs.HeaderLaws.{laid-long, start-after, start-first}
 
@@ -231,6 +231,16 @@ module _ (w : ℕ) (f : List ℕ) (m : Marker) where
 ---- what goes with the next marker; n is the count that was read
 
 module _ (w : ℕ) (f : List ℕ) (m : Marker) where
+  module _ (n : ℕ) (e : n ≡ countAt f (m .replica)) (h : m .sequence < n) (at : ℕ) (t : Stands w f m at) where
+    more-there : InFile w f (m .replica) (m .sequence)
+    more-there = stands-there w f m (le-leb (m .sequence) (countAt f (m .replica)) (omega arith)) at t
+
+    pub more-fits : at + 14 ≤ length f
+    more-fits = omega (arith, op-fits w f _ _ more-there at (t .place), t .wide)
+
+    pub more-sum : length f < 2 ^ 64 → at + w < 2 ^ 64
+    more-sum l = omega (arith, op-fits w f _ _ more-there at (t .place))
+
   module _ (at : ℕ) where
     pub place-same : leb (m .sequence) (countAt f (m .replica)) ≡ false → at ≡ nextPlace w f m at
     unfolding nextPlace
@@ -240,21 +250,20 @@ module _ (w : ℕ) (f : List ℕ) (m : Marker) where
     unfolding nextPlace
     place-behind e = rw e
 
-  module _ (n : ℕ) (e : n ≡ countAt f (m .replica)) where
-    pub before-none : n ≤ m .sequence → replicate 8 0 ≡ nextBefore w f m
+  module _ (n : ℕ) (e : n ≡ countAt f (m .replica)) (m′ : Marker) (i : m′ ≡ nextMarker f m) (at : ℕ) where
+    pub turn-last : n ≤ m .sequence → (p : ℕ) → p ≡ nextPlace w f m at
+        → Turned w f m at (record { marker = m′; at = p; before = replicate 8 0 })
     unfolding nextBefore
-    before-none h = rw (← e, le-ltb (m .sequence) n h)
+    turn-last h p j = record { marker = i; place = j; before = rw (← e, le-ltb (m .sequence) n h) }
 
-    module _ (h : m .sequence < n) (at : ℕ) (t : Stands w f m at) where
-      there : InFile w f (m .replica) (m .sequence)
-      there = stands-there w f m (le-leb (m .sequence) (countAt f (m .replica)) (omega arith)) at t
-
-      pub before-fits : at + 14 ≤ length f
-      before-fits = omega (arith, op-fits w f _ _ there at (t .place), t .wide)
-
-      pub before-op : (v : Vector) → v ≡ vectorOf (drop at f) → v ≡ nextBefore w f m
-      unfolding nextBefore
-      before-op v iv = rw (← e, lt-ltb (m .sequence) n h) (iv ∙ sym (fields-at w f _ _ there at (t .place) .vector))
+    pub turn-more : m .sequence < n → Stands w f m at → (v : Vector) → v ≡ vectorOf (drop at f)
+        → Turned w f m at (record { marker = m′; at = at + w; before = v })
+    unfolding nextBefore nextPlace
+    turn-more h t v iv = record {
+      marker = i;
+      place = rw (← e, le-leb (m .sequence) n (omega arith));
+      before = rw (← e, lt-ltb (m .sequence) n h) (iv ∙ sym (fields-at w f _ _ (more-there n e h at t) at (t .place) .vector));
+    }
 
 ---- the walk with all that goes along
 
@@ -381,6 +390,6 @@ module _ (w : ℕ) (f : List ℕ) (m : Marker) where
 ---- what the code of the walk needs: search walking
 pub ruleset here = (here-none, here-some, here-op)
 
-pub ruleset carrying = (place-same, place-behind, place-sum, before-none, before-fits, before-op)
+pub ruleset carrying = (place-same, place-behind, place-sum, more-fits, more-sum, turn-last, turn-more)
 
 pub ruleset walking = (needs, tested, laid-long, here, carrying, walk-first, walk-stands, walk-fails, walk-less, walk-next, walk-last)

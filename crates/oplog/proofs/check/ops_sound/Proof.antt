@@ -20,8 +20,6 @@ ops-sound-spec =
     (λ c κs. search walking)
     (λ c. search walking)
     (λ c κs. search walking)
-    (λ c κs. search walking)
-    (λ c κs. search walking)
     (λ c. search walking)
     (λ c. search walking)
     (λ c. search walking))

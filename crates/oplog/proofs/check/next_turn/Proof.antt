@@ -1,0 +1,17 @@
+-- `oplog::check::next_turn` meets its contract.
+use Rattle.oplog.proofs.MarkerLaws.{walking}
+use Rattle.oplog.proofs.check.next_turn.Statement.{statement}
+use Rattle.oplog.proofs.check.next_turn.Tie as tie
+
+pub next-turn-spec : {M : Type 1} → statement M
+next-turn-spec =
+    tie.close
+    (tie.spec
+    (λ c κs. search walking)
+    (λ c κs. search walking)
+    (λ c κs. search walking)
+    (λ c. search walking)
+    (λ c. search walking)
+    (λ c κs. search walking)
+    (λ c κs. search walking)
+    (λ c. search walking))
