@@ -22,7 +22,7 @@ use Rattle.oplog.specs.Places.{InFile, Stands, nextMarker, nextPlace, placeOf}
 use Rattle.oplog.proofs.FieldLaws.{fields-at, op-fits}
 use Rattle.oplog.proofs.HeaderLaws.{laid-long, start-after, start-first}
 use Rattle.oplog.proofs.MarkerLaws.{Walk, left, left-end, left-first, left-next, onward, row, togo}
-use Rattle.structure.specs.Tests.{LaidOut, OpHere, Before, vectorBefore, nextBefore, soundAt, soundHere}
+use Rattle.structure.specs.Tests.{LaidOut, OpHere, Before, vectorBefore, nextBefore, Turned, soundAt, soundHere}
 
 -- every test passes
 abbrev pub every : List Bool → Bool
@@ -99,6 +99,16 @@ module _ (w : ℕ) (f : List ℕ) (m : Marker) where
 ---- what goes with the next marker; n is the count that was read
 
 module _ (w : ℕ) (f : List ℕ) (m : Marker) where
+  module _ (n : ℕ) (e : n ≡ countAt f (m .replica)) (h : m .sequence < n) (at : ℕ) (t : Stands w f m at) where
+    more-there : InFile w f (m .replica) (m .sequence)
+    more-there = stands-there w f m (le-leb (m .sequence) (countAt f (m .replica)) (omega arith)) at t
+
+    pub more-fits : at + 14 ≤ length f
+    more-fits = omega (arith, op-fits w f _ _ more-there at (t .place), t .wide)
+
+    pub more-sum : length f < 2 ^ 64 → at + w < 2 ^ 64
+    more-sum l = omega (arith, op-fits w f _ _ more-there at (t .place))
+
   module _ (at : ℕ) where
     pub place-same : leb (m .sequence) (countAt f (m .replica)) ≡ false → at ≡ nextPlace w f m at
     unfolding nextPlace
@@ -108,23 +118,22 @@ module _ (w : ℕ) (f : List ℕ) (m : Marker) where
     unfolding nextPlace
     place-behind e = rw e
 
-  module _ (n : ℕ) (e : n ≡ countAt f (m .replica)) where
-    pub before-none : n ≤ m .sequence → replicate 8 0 ≡ nextBefore w f m
+  module _ (n : ℕ) (e : n ≡ countAt f (m .replica)) (m′ : Marker) (i : m′ ≡ nextMarker f m) (at : ℕ) where
+    pub turn-last : n ≤ m .sequence → (p : ℕ) → p ≡ nextPlace w f m at
+        → Turned w f m at (record { marker = m′; at = p; before = replicate 8 0 })
     unfolding nextBefore
-    before-none h = rw (← e, le-ltb (m .sequence) n h)
+    turn-last h p j = record { marker = i; place = j; before = rw (← e, le-ltb (m .sequence) n h) }
 
-    module _ (h : m .sequence < n) (at : ℕ) (t : Stands w f m at) where
-      there : InFile w f (m .replica) (m .sequence)
-      there = stands-there w f m (le-leb (m .sequence) (countAt f (m .replica)) (omega arith)) at t
+    pub turn-more : m .sequence < n → Stands w f m at → (v : Vector) → v ≡ vectorOf (drop at f)
+        → Turned w f m at (record { marker = m′; at = at + w; before = v })
+    unfolding nextBefore nextPlace
+    turn-more h t v iv = record {
+      marker = i;
+      place = rw (← e, le-leb (m .sequence) n (omega arith));
+      before = rw (← e, lt-ltb (m .sequence) n h) (iv ∙ sym (fields-at w f _ _ (more-there n e h at t) at (t .place) .vector));
+    }
 
-      pub before-fits : at + 14 ≤ length f
-      before-fits = omega (arith, op-fits w f _ _ there at (t .place), t .wide)
-
-      pub before-op : (v : Vector) → v ≡ vectorOf (drop at f) → v ≡ nextBefore w f m
-      unfolding nextBefore
-      before-op v iv = rw (← e, lt-ltb (m .sequence) n h) (iv ∙ sym (fields-at w f _ _ there at (t .place) .vector))
-
----- a turn of the walk
+---- the walk with all that goes along
 
 -- the ops before the marker are sound; the place of its op, and the vector of its replica's op before
 pub record Walked (w : ℕ) (f : List ℕ) (m : Marker) (p : ℕ) (before : Vector) : Type 0 where
@@ -146,7 +155,7 @@ after-op log s q l e =
     let z : q + 1 - 1 ≡ q = omega arith in
     record { is = rw (lt-ltb 1 (q + 1) (omega arith), z); is-sound = λ h. rw z e }
 
--- where the next op starts
+-- where the next op starts, of the same replica and of the next
 next-in : (w : ℕ) (f : List ℕ) (s q : ℕ) → 1 ≤ q → placeOf w f s q + w ≡ placeOf w f s (q + 1)
 next-in w f s q l =
     let e : q + 1 - 1 ≡ q - 1 + 1 = omega arith in
@@ -209,13 +218,12 @@ module _ (w : ℕ) (f : List ℕ) (m : Marker) where
             let s : ℕ = m .replica in
             let q : ℕ = m .sequence in
             let n : ℕ = countAt f s in
-            let to-next : q ≡ n + 1 → placeOf w f s q ≡ placeOf w f (s + 1) 1 = next-replica-at w f s q (t .at .low) u in
             rw (e, i, t .place) (elim (decLe (q + 1) n) [
               | yes k ↦ rw (lt-ltb q n (omega arith), le-leb q n (omega arith)) (next-in w f s q (t .at .first))
               | no k ↦ rw (le-ltb q n (omega arith)) (elim (ℕ-discrete q n) [
                 | yes z ↦ rw (le-leb q n (omega arith), next-in w f s q (t .at .first))
                     (next-replica-at w f s (q + 1) (t .at .low) u (omega arith))
-                | no nz ↦ rw (lt-leb q n (omega arith)) (to-next (omega (arith, t .most)))
+                | no nz ↦ rw (lt-leb q n (omega arith)) (next-replica-at w f s q (t .at .low) u (omega (arith, t .most)))
               ])
             ])
 
@@ -250,6 +258,6 @@ module _ (w : ℕ) (f : List ℕ) (m : Marker) where
 ---- what the code of the walk needs: search walking
 pub ruleset here = (here-none, here-some, here-op)
 
-pub ruleset carrying = (place-same, place-behind, place-sum, before-none, before-fits, before-op)
+pub ruleset carrying = (place-same, place-behind, place-sum, more-fits, more-sum, turn-last, turn-more)
 
 pub ruleset walking = (needs, tested, laid-long, here, carrying, walk-first, walk-stands, walk-fails, walk-less, walk-next, walk-last)

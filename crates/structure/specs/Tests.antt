@@ -11,7 +11,8 @@ use Rattle.rules.specs.File.{Log, countAt, headerCounts, logOf, opAt, within}
 use Rattle.rules.specs.Log.{laid, known, knownParent, covered, closedAt, closed, soundOp}
 use Rattle.codec.specs.Asked.{kindFits}
 use Rattle.codec.specs.Packed.{isStep}
-use Rattle.oplog.specs.Places.{InFile}
+use Rattle.oplog.specs.Places.{InFile, nextMarker, nextPlace}
+use Rattle.structure.specs.declared.sound.Turn.{Turn}
 use Rattle.oplog.specs.declared.marker.Marker.{Marker}
 
 -- a laid-out file and its counts
@@ -65,7 +66,7 @@ ownAlone before v s q = ltb 1 q && isStep before v s
 
 -- a vector is closed at the count of another replica than the own, if that has changed
 unfoldable pub changeClosed : Log → Vector → Vector → ℕ → ℕ → Bool
-changeClosed log before v own t = eqb t own || (eqb (countIn v t) (countIn before t) || closedAt log v t)
+changeClosed log before v own t = eqb (countIn v t) (countIn before t) || (eqb t own || closedAt log v t)
 
 unfoldable pub changesClosed : Log → Vector → Vector → ℕ → Bool
 changesClosed log before v own = all (changeClosed log before v own) replicas
@@ -85,3 +86,9 @@ soundHere w f m =
 unfoldable pub nextBefore : ℕ → List ℕ → Marker → Vector
 nextBefore w f m =
     cond (ltb (m .sequence) (countAt f (m .replica))) (vectorOf (opAt (logOf w f) (m .replica) (m .sequence))) (replicate 8 0)
+
+-- a turn leads to the next marker, the place of its op and the vector before it
+pub record Turned (w : ℕ) (f : List ℕ) (m : Marker) (at : ℕ) (t : Turn) : Type 0 where
+  pub marker : t .marker ≡ nextMarker f m
+  pub place : t .at ≡ nextPlace w f m at
+  pub before : t .before ≡ nextBefore w f m

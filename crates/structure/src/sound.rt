@@ -17,7 +17,7 @@ ghost use Prim.Native.Nat.{_≤_};
 ghost use Rattle.rules.specs.File.{logOf, headerCounts};
 ghost use Rattle.rules.specs.Log.{soundLog, laid};
 ghost use Rattle.oplog.specs.Places.{Held, Stands, placeOf, nextPlace};
-ghost use Rattle.structure.specs.Tests.{LaidOut, OpHere, Before, passesBy, soundAt, soundHere, nextBefore};
+ghost use Rattle.structure.specs.Tests.{LaidOut, OpHere, Before, passesBy, soundAt, soundHere, Turned};
 ghost use Rattle.rules.specs.Log as log;
 
 // Whether an op passes tests 3 and 7, by its fields.
@@ -77,18 +77,6 @@ fn here_sound(
     op_sound(file, counts, before, m.replica, m.sequence, at, width)
 }
 
-// The vector before the next marker: that of the op at this one, or none where the next is a
-// replica's first.
-fn next_before(file: &[u8], m: Marker, at: usize, width: usize) -> [u8; 8]
-    requires { ⌜ Stands width (now file) m at ⌝ }
-    ensures { λ r. ⌜ r ≡ nextBefore width (now (file .entry)) m ⌝ }
-{
-    if count_at(file, m.replica) <= m.sequence {
-        return [0u8; 8];
-    }
-    vector_at(file, at)
-}
-
 // Where the op at the next marker starts: behind the one at this one, if there is one.
 fn next_place(file: &[u8], m: Marker, at: usize, width: usize) -> usize
     requires { ⌜ Stands width (now file) m at ⌝ }
@@ -100,8 +88,38 @@ fn next_place(file: &[u8], m: Marker, at: usize, width: usize) -> usize
     at + width
 }
 
-// Whether every body is a sound op, by a marker through the file. With it go the place of its op
-// and the vector of its replica's op before.
+// The next marker and what goes with it: the place of its op, and the vector of its replica's op
+// before, that of this marker's op, or none at a replica's first.
+struct Turn {
+    marker: Marker,
+    at: usize,
+    before: [u8; 8],
+}
+
+// One branch for all three: that a replica has more ops is foreseen, so no turn waits for the count.
+fn next_turn(file: &[u8], m: Marker, at: usize, width: usize) -> Turn
+    requires { ⌜ Stands width (now file) m at ⌝ }
+    ensures { λ r. ⌜ Turned width (now (file .entry)) m at r ⌝ }
+{
+    if m.sequence < count_at(file, m.replica) {
+        let before = vector_at(file, at);
+        let marker = m.next(file);
+        return Turn {
+            marker,
+            at: at + width,
+            before,
+        };
+    }
+    let place = next_place(file, m, at, width);
+    let marker = m.next(file);
+    Turn {
+        marker,
+        at: place,
+        before: [0u8; 8],
+    }
+}
+
+// Whether every body is a sound op, by a marker through the file.
 fn ops_sound(file: &[u8], counts: [u8; 8], width: usize) -> bool
     requires { ⌜ LaidOut width (now file) counts ⌝ }
     ensures { λ r. ⌜ r ≡ soundLog (logOf width (now (file .entry))) ⌝ }
@@ -113,10 +131,12 @@ fn ops_sound(file: &[u8], counts: [u8; 8], width: usize) -> bool
         if !here_sound(file, counts, before, m, at, width) {
             return false;
         }
-        let after = next_before(file, m, at, width);
+        let turn = next_turn(file, m, at, width);
+        let marker = turn.marker;
+        m = marker;
+        at = turn.at;
+        let after = turn.before;
         before = after;
-        at = next_place(file, m, at, width);
-        m = m.next(file);
     }
     true
 }

@@ -91,6 +91,12 @@ fn is_step(before: &Vector, after: &Vector, index: usize) -> bool {
     u64::from_le_bytes(*before).wrapping_add(step) == u64::from_le_bytes(*after)
 }
 
+fn ops_in(bodies: &[u8]) -> impl Iterator<Item = Op<'_>> {
+    bodies
+        .chunks_exact(OP)
+        .map(|body| Op(body.try_into().expect("14 bytes")))
+}
+
 /// A buffer with a sound log, and its header.
 #[derive(Clone, Copy)]
 pub struct Log<'a> {
@@ -155,8 +161,7 @@ impl<'a> Log<'a> {
     fn is_sound(&self) -> bool {
         (0..REPLICAS).all(|index| {
             let mut before = [0; REPLICAS];
-            (1..=usize::from(self.layout.counts[index])).all(|sequence| {
-                let op = self.op(index, sequence);
+            self.ops_of(index).zip(1..).all(|(op, sequence)| {
                 let sound = self.op_sound(op, index, sequence, &before);
                 before = *op.vector();
                 sound
@@ -185,7 +190,7 @@ impl<'a> Log<'a> {
             && at_most(vector, &self.layout.counts)
             && at_most(before, vector)
             && (0..REPLICAS)
-                .all(|i| i == index || vector[i] == before[i] || self.is_closed_at(vector, i))
+                .all(|i| vector[i] == before[i] || i == index || self.is_closed_at(vector, i))
     }
 
     /// Op number `sequence`, from 1, of a replica.
@@ -196,10 +201,14 @@ impl<'a> Log<'a> {
 
     /// All ops in file order.
     pub fn ops(&self) -> impl Iterator<Item = Op<'a>> {
-        let bodies = &self.bytes[HEADER..self.layout.end];
-        bodies
-            .chunks_exact(OP)
-            .map(|body| Op(body.try_into().expect("14 bytes")))
+        ops_in(&self.bytes[HEADER..self.layout.end])
+    }
+
+    /// Those of a replica.
+    fn ops_of(&self, index: usize) -> impl Iterator<Item = Op<'a>> {
+        let start = self.layout.starts[index];
+        let length = OP * usize::from(self.layout.counts[index]);
+        ops_in(&self.bytes[start..start + length])
     }
 
     /// Tests 5, 6 and 7.

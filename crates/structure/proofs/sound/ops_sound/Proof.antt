@@ -21,8 +21,6 @@ ops-sound-spec =
     (λ c κs. search walking)
     (λ c. search walking)
     (λ c κs. search walking)
-    (λ c κs. search walking)
-    (λ c κs. search walking)
     (λ c. search walking)
     (λ c. search walking)
     (λ c. search walking))
