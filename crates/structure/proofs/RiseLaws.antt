@@ -86,8 +86,7 @@ module _ (log : Log) (s q : ℕ) (before : Vector) (t : Before log s q before) (
       risen-if e =
           let there = replica-passes (closedAt log v) e in
           and-both (sym (own-closed v own) ∙ there s l u)
-          (all-replicas (changeClosed log before v s)
-          (λ k lk uk. rw (there k lk uk, or-true) (or-true (eqb (countIn v k) (countIn before k)))))
+          (all-replicas (changeClosed log before v s) (λ k lk uk. rw (there k lk uk, or-true) (or-true (eqb k s))))
 
       closed-if : risen log before v s ≡ true → closed log v ≡ true
       unfolding closed risen changesClosed changeClosed
@@ -95,9 +94,9 @@ module _ (log : Log) (s q : ℕ) (before : Vector) (t : Before log s q before) (
           let h : within before v ≡ true = and-left (within before v) _ e in
           let there = replica-passes (changeClosed log before v s) (and-right (within before v) _ e) in
           all-replicas (closedAt log v) (λ k lk uk.
-          ⊎-elim (λ z. unchanged-closed h k lk uk (eqb-true _ _ z))
-          (λ z. ⊎-elim (λ x. rw (eqb-true k s x) (own-closed v own ∙ h)) (λ x. x) (or-cases (eqb k s) _ z))
-          (or-cases (eqb (countIn v k) (countIn before k)) _ (there k lk uk)))
+          ⊎-elim (λ z. rw (eqb-true k s z) (own-closed v own ∙ h))
+          (λ z. ⊎-elim (λ x. unchanged-closed h k lk uk (eqb-true _ _ x)) (λ x. x)
+          (or-cases (eqb (countIn v k) (countIn before k)) _ z)) (or-cases (eqb k s) _ (there k lk uk)))
 
       pub closed-risen : closed log v ≡ risen log before v s
       closed-risen = both-ways _ _ risen-if closed-if

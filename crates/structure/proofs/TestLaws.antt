@@ -151,18 +151,19 @@ module _ (whole : Bool) (p : ℕ → Bool) (i : ℕ) (t : PassedTo whole p i) wh
 
 module _ (log : Log) (before v : Vector) (own : ℕ) where
   module _ (s : ℕ) where
-    pub change-none : getD v (s - 1) 0 ≡ getD before (s - 1) 0 → true ≡ changeClosed log before v own s
-    unfolding changeClosed countIn
-    change-none e = rw (eq-eqb _ _ e)
+    pub change-own : s ≡ own → true ≡ changeClosed log before v own s
+    unfolding changeClosed
+    change-own e = rw (eq-eqb s own e)
 
-    module _ (n : getD v (s - 1) 0 ≡ getD before (s - 1) 0 → ⊥) where
-      pub change-own : s ≡ own → true ≡ changeClosed log before v own s
+    module _ (n : s ≡ own → ⊥) where
+      pub change-none : getD v (s - 1) 0 ≡ getD before (s - 1) 0 → true ≡ changeClosed log before v own s
       unfolding changeClosed countIn
-      change-own e = rw (ne-eqb _ _ n, eq-eqb s own e)
+      change-none e = rw (ne-eqb s own n, eq-eqb _ _ e)
 
-      pub change-some : (s ≡ own → ⊥) → (b : Bool) → b ≡ closedAt log v s → b ≡ changeClosed log before v own s
+      pub change-some : (getD v (s - 1) 0 ≡ getD before (s - 1) 0 → ⊥) → (b : Bool) → b ≡ closedAt log v s
+          → b ≡ changeClosed log before v own s
       unfolding changeClosed countIn
-      change-some e b h = rw (ne-eqb _ _ n, ne-eqb s own e) h
+      change-some e b h = rw (ne-eqb s own n, ne-eqb _ _ e) h
 
   pub changes-first : PassedTo (changesClosed log before v own) (changeClosed log before v own) 0
   unfolding changesClosed
@@ -331,7 +332,7 @@ pub ruleset naming = (move-node, move-parent, move-apart, add-parent, add-node, 
 
 pub ruleset closing = (closed-none, last-there, closed-by, closed-changes, each-not, each-next, each-last)
 
-pub ruleset rising = (change-none, change-own, change-some, changes-first, risen-not, risen-changes, alone-first, alone-later)
+pub ruleset rising = (change-own, change-none, change-some, changes-first, risen-not, risen-changes, alone-first, alone-later)
 
 pub ruleset vectors = (vector-alone, vector-held, passed-held, vector-other, vector-early, vector-risen)
 

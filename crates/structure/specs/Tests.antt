@@ -66,7 +66,7 @@ ownAlone before v s q = ltb 1 q && isStep before v s
 
 -- a vector is closed at the count of another replica than the own, if that has changed
 unfoldable pub changeClosed : Log → Vector → Vector → ℕ → ℕ → Bool
-changeClosed log before v own t = eqb (countIn v t) (countIn before t) || (eqb t own || closedAt log v t)
+changeClosed log before v own t = eqb t own || (eqb (countIn v t) (countIn before t) || closedAt log v t)
 
 unfoldable pub changesClosed : Log → Vector → Vector → ℕ → Bool
 changesClosed log before v own = all (changeClosed log before v own) replicas

@@ -51,10 +51,10 @@ fn change_closed(
     requires { ⌜ Held width (now file) v × (1 ≤ s) × (s ≤ 8) ⌝ }
     ensures { λ r. ⌜ r ≡ changeClosed (logOf width (now (file .entry))) before v own s ⌝ }
 {
-    if v[s - 1] == before[s - 1] {
+    if s == own {
         return true;
     }
-    if s == own {
+    if v[s - 1] == before[s - 1] {
         return true;
     }
     closed_at(file, v, s, width)

@@ -190,7 +190,7 @@ impl<'a> Log<'a> {
             && at_most(vector, &self.layout.counts)
             && at_most(before, vector)
             && (0..REPLICAS)
-                .all(|i| vector[i] == before[i] || i == index || self.is_closed_at(vector, i))
+                .all(|i| i == index || vector[i] == before[i] || self.is_closed_at(vector, i))
     }
 
     /// Op number `sequence`, from 1, of a replica.
