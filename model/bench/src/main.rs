@@ -87,7 +87,12 @@ fn measure(passes: usize) {
     let text = report::text(&found);
     print!("{text}");
     let page = root.join("docs/PERFORMANCE.md");
-    std::fs::write(page, text).expect("docs/PERFORMANCE.md is written");
+    // The part that model/against wrote stays.
+    let before = std::fs::read_to_string(&page).unwrap_or_default();
+    let against = before
+        .find("\n## Against")
+        .map_or("", |part| &before[part..]);
+    std::fs::write(page, text + against).expect("docs/PERFORMANCE.md is written");
 }
 
 /// Keeps the least time of a call at each side, of some rounds in turn.
