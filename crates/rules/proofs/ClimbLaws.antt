@@ -42,8 +42,8 @@ pub short : (P : ℕ → Type 0) → ((x : ℕ) → P x → Valid x) → (parent
     → (j : ℕ) × (j ≤ 2040) × Reaches P parents j n × ((k : ℕ) → k < j → up parents k n ≡ 0 → ⊥)
 short P pv parents i n r =
     let (j, u, z, o) = least (λ k. up parents k n) i (r .root) in
-    let bound = pigeonhole slots (suc j) (λ k. slotOf (up parents k n)) (λ k h. slot-below _ (pv _ (r .on k (omega arith)))) (differ j u z o)
-    in
+    let slot : ℕ → ℕ = λ k. slotOf (up parents k n) in
+    let bound = pigeonhole slots (suc j) slot (λ k h. slot-below _ (pv _ (r .on k (omega arith)))) (differ j u z o) in
     (j, omega arith, record { root = z; on = λ k h. r .on k (omega arith) }, o)
   where
     differ : (j : ℕ) → j ≤ i → up parents j n ≡ 0 → ((k : ℕ) → k < j → up parents k n ≡ 0 → ⊥) → (a b : ℕ) → a < b → b < suc j

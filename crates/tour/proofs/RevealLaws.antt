@@ -221,7 +221,7 @@ module _ (log : Log) (good : GoodLog log) where
       reveal-slots n (suc a) (omega arith) (omega arith) (revealSlot P marks hidden a)
       (λ m. S m || (unmarked a && isIn m (path P (slotNode a)))) (slot-size hidden a ∙ l) (reveal-slot a p (omega arith) hidden S l is u)
       (upward-more a S u) m vm
-      ∙ or-assoc (S m) (unmarked a && isIn m (path P (slotNode a))) (any (λ k. unmarked k && isIn m (path P (slotNode k))) (upFrom (suc a) n))
+      ∙ or-assoc (S m) _ (any (λ k. unmarked k && isIn m (path P (slotNode k))) (upFrom (suc a) n))
 
   start-hidden : (m : ℕ) → Valid m → shows-in (set (replicate slots 1) 0 0) m ≡ eqb m 0
   start-hidden m (inl e) =
