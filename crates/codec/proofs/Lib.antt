@@ -1,6 +1,4 @@
 pub mod AnswerLaws
-pub mod VectorLaws
-pub mod PackedLaws
 pub mod ReadLaws
 pub mod WriteLaws
 pub mod ReadsBackLaws

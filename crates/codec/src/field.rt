@@ -1,5 +1,5 @@
-use crate::vector::read_vector;
 use crate::word::word_at;
+use vector::read_vector;
 ghost use mathlib.Core.Path.{_≡_};
 ghost use Prim.Native.Nat.{_+_, _≤_};
 ghost use lib.ListN.{length, drop};

@@ -1,9 +1,7 @@
-// Bytes to numbers and back: two-byte words, version vectors by value, and the reader and writer
-// of an op (the document's record); what a call answers.
+// Bytes to numbers and back: two-byte words, and the reader and writer of an op (the document's record); what a call answers.
 mod answer;
 mod field;
 mod op;
-mod vector;
 mod word;
 
 pub use answer::Answer;
@@ -19,8 +17,6 @@ pub use op::Read;
 pub use op::kind_fits;
 pub use op::read_op;
 pub use op::write_op;
-pub use vector::is_step;
-pub use vector::within;
 pub use word::put_word;
 pub use word::widen;
 pub use word::widen16;

@@ -22,7 +22,7 @@ use Rattle.rules.specs.Bytes.{wordAt, word}
 use Rattle.rules.proofs.FileLaws.{counts-at, length-counts}
 use Rattle.rules.proofs.ReplicaLaws.{pass-all, pass-turn, pass-end, replica-passes, passFrom}
 use Rattle.rules.proofs.StructureLaws.{laid-reads}
-use Rattle.codec.proofs.VectorLaws.{build-step, count-of}
+use Rattle.vector.proofs.VectorLaws.{build-step, count-of}
 use Rattle.oplog.specs.Header.{entryRight, withEntry}
 
 ---- starts by counts

@@ -13,7 +13,7 @@ use mir.Val.{Fits}
 use Rattle.rules.specs.Op.{countIn, vectorOf, Vector}
 use Rattle.rules.specs.File.{opAt, Log, logOf, within}
 use Rattle.rules.proofs.FileLaws.{count-map}
-use Rattle.codec.proofs.VectorLaws.{count-of, Built, build-none, build-more, build-all}
+use Rattle.vector.proofs.VectorLaws.{count-of, Built, build-none, build-more, build-all}
 use Rattle.oplog.specs.Places.{Held, InFile, placeOf}
 use Rattle.oplog.proofs.FieldLaws.{in-file-of, fields-at}
 use Rattle.order.specs.Levels.{advanced, advancedAt, nextAt, readyOps, ready}

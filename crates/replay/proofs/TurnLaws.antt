@@ -21,7 +21,7 @@ use Rattle.rules.proofs.FileLaws.{vector-eta}
 use Rattle.rules.proofs.ReplicaLaws.{map-replicas}
 use Rattle.rules.proofs.CausalLaws.{within-le}
 use Rattle.rules.proofs.StepLaws.{Full, full-run}
-use Rattle.codec.proofs.VectorLaws.{length-eight}
+use Rattle.vector.proofs.VectorLaws.{length-eight}
 use Rattle.replay.specs.Tables.{Bottom, Replayable, ReplayableAt, ReplayableIn, Sized, Top, tables}
 use Rattle.replay.proofs.ReadyLaws.{next-held}
 use Rattle.replay.proofs.DueLaws.{classes, dues, bounds, op-zero}

@@ -1,7 +1,7 @@
 use codec::vector_at;
 use codec::widen;
-use codec::within;
 use oplog::place;
+use vector::within;
 ghost use mathlib.Core.Path.{_≡_};
 ghost use Rattle.rules.specs.File.{logOf};
 ghost use Rattle.oplog.specs.Places.{Held};

@@ -17,7 +17,7 @@ use Rattle.rules.specs.Op.{Vector, countIn, vectorOf, seqOf, ownCount}
 use Rattle.rules.proofs.ReplicaLaws.{all-alike, all-replicas, replica-passes}
 use Rattle.rules.proofs.CausalLaws.{closed-zero, count-none, le-within, none-closed, none-within, within-trans}
 use Rattle.rules.proofs.StructureLaws.{HeldOp, held-in, sound-held}
-use Rattle.codec.specs.Packed.{isStep}
+use Rattle.vector.specs.Packed.{isStep}
 use Rattle.structure.specs.Tests.{Before, vectorBefore, ownAlone, changeClosed, changesClosed, risen, vectorBy}
 
 -- since nothing was counted, every count above 0 has changed

@@ -17,7 +17,7 @@ use Rattle.rules.specs.Op.{Op, Vector, replicaOf, countIn, seqOf, isReplica, ow
 use Rattle.rules.proofs.FileLaws.{counts-logOf}
 use Rattle.rules.proofs.ReplicaLaws.{passFrom, pass-all, pass-turn, pass-end}
 use Rattle.codec.specs.Asked.{kindFits}
-use Rattle.codec.specs.Packed.{isStep}
+use Rattle.vector.specs.Packed.{isStep}
 use Rattle.oplog.specs.Places.{InFile, Held, placeOf}
 use Rattle.structure.specs.Tests.{LaidOut, OpHere, namesBy, moveNames, passesBy, vectorBy, soundAt, ownAlone, changeClosed, changesClosed, risen}
 use Rattle.oplog.proofs.FieldLaws.{SameFields, counts-in, held-of, fields-at, small, in-file-of, op-fits}

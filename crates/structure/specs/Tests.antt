@@ -10,7 +10,7 @@ use Rattle.rules.specs.Op.{Vector, countIn, replicas, vectorOf}
 use Rattle.rules.specs.File.{Log, countAt, headerCounts, logOf, opAt, within}
 use Rattle.rules.specs.Log.{laid, known, knownParent, covered, closedAt, closed, soundOp}
 use Rattle.codec.specs.Asked.{kindFits}
-use Rattle.codec.specs.Packed.{isStep}
+use Rattle.vector.specs.Packed.{isStep}
 use Rattle.oplog.specs.Places.{InFile, nextMarker, nextPlace}
 use Rattle.structure.specs.declared.sound.Turn.{Turn}
 use Rattle.oplog.specs.declared.marker.Marker.{Marker}

@@ -1,10 +1,10 @@
 // Tests 5 and 6: whether a vector is within the held counts, and closed. Along a replica vectors
 // rise, so only counts that have changed since the vector of its op before are looked up.
-use codec::is_step;
 use codec::vector_at;
 use codec::widen;
-use codec::within;
 use oplog::place;
+use vector::is_step;
+use vector::within;
 ghost use mathlib.Core.Path.{_≡_};
 ghost use Prim.Native.Nat.{_≤_, _<_};
 ghost use Rattle.rules.specs.File.{logOf};

@@ -1,7 +1,7 @@
 -- `replay::ready::advance` meets its contract.
 use Rattle.replay.proofs.ReadyLaws.{readies}
 use Prim.Native.Nat.{_-_}
-use Rattle.codec.proofs.VectorLaws.{Built}
+use Rattle.vector.proofs.VectorLaws.{Built}
 use Rattle.order.specs.Levels.{advancedAt}
 use Rattle.replay.proofs.ready.advance.Statement.{statement}
 use Rattle.replay.proofs.ready.advance.Tie as tie

@@ -1,7 +1,7 @@
 -- `replay::ready::next_ops` meets its contract.
 use Rattle.replay.proofs.ReadyLaws.{readies}
 use Prim.Native.Nat.{_-_}
-use Rattle.codec.proofs.VectorLaws.{Built}
+use Rattle.vector.proofs.VectorLaws.{Built}
 use Rattle.order.specs.Levels.{nextAt}
 use Rattle.rules.specs.File.{logOf}
 use Rattle.replay.proofs.ready.next_ops.Statement.{statement}

@@ -9,7 +9,7 @@ use mathlib.Core.List.{List, map}
 use mathlib.Core.Path.{_≡_, refl, sym, _∙_}
 use native.Mathlib.Decide.{decLe}
 use native.Mathlib.Omega.{arith}
-use Rattle.codec.specs.Spread.{allMarked, spreadOf, Counts}
+use Rattle.vector.specs.Spread.{allMarked, spreadOf, Counts}
 use Rattle.lists.proofs.BoolLaws.{both-ways}
 use Rattle.rules.proofs.FileLaws.{count-map}
 use Rattle.lists.specs.Lists.{upFrom, all}

@@ -1,10 +1,10 @@
--- `codec::vector::packed` meets its contract.
+-- `vector::counts::packed` meets its contract.
 use borrow.Author.Needs.{needs}
 use native.Mathlib.Omega.{arith}
-use Rattle.codec.proofs.PackedLaws.{halves-packed}
-use Rattle.codec.proofs.VectorLaws.{spread-most}
-use Rattle.codec.proofs.vector.packed.Statement.{statement}
-use Rattle.codec.proofs.vector.packed.Tie as tie
+use Rattle.vector.proofs.PackedLaws.{halves-packed}
+use Rattle.vector.proofs.VectorLaws.{spread-most}
+use Rattle.vector.proofs.counts.packed.Statement.{statement}
+use Rattle.vector.proofs.counts.packed.Tie as tie
 
 mul-result : tie.Need-mul-result
 mul-result c = let e = c .spread2 .ensures in omega (arith, e .0, spread-most _ _ _ _ (e .1))

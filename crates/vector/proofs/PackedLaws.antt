@@ -12,8 +12,8 @@ use Rattle.lists.proofs.BoolLaws.{both-ways, and-both, and-left, and-right, and
 use Rattle.lists.specs.Lists.{all, upFrom}
 use Rattle.rules.specs.Op.{Vector, countIn, replicas}
 use Rattle.rules.proofs.ReplicaLaws.{replica-cases}
-use Rattle.codec.specs.Packed.{packedOf, unitOf, EightCounts, isStep}
-use Rattle.codec.specs.Spread.{spreadOf, Counts}
+use Rattle.vector.specs.Packed.{packedOf, unitOf, EightCounts, isStep}
+use Rattle.vector.specs.Spread.{spreadOf, Counts}
 
 -- eight digits as a number
 abbrev number : (ℕ → ℕ) → ℕ

@@ -1,10 +1,10 @@
--- `codec::vector::within` meets its contract.
-use Rattle.codec.proofs.VectorLaws.{evenReach, oddReach, within-halves, spread-most, four-reach}
+-- `vector::counts::within` meets its contract.
+use Rattle.vector.proofs.VectorLaws.{evenReach, oddReach, within-halves, spread-most, four-reach}
 use borrow.Author.Needs.{needs}
 use mathlib.Core.Path.{sym, _≡_, _∙_}
 use native.Mathlib.Omega.{arith}
-use Rattle.codec.proofs.vector.within.Statement.{statement}
-use Rattle.codec.proofs.vector.within.Tie as tie
+use Rattle.vector.proofs.counts.within.Statement.{statement}
+use Rattle.vector.proofs.counts.within.Tie as tie
 
 even-is : (c : tie.After-all-marked) → let apart = c .before .before in
     let a = apart .before .before .before .args in

@@ -1,10 +1,10 @@
--- `codec::vector::spread` meets its contract.
+-- `vector::counts::spread` meets its contract.
 use borrow.Author.Needs.{needs}
 use mathlib.Core.Path.{refl}
 use native.Mathlib.Omega.{arith}
-use Rattle.codec.proofs.vector.spread.Statement.{statement}
-use Rattle.codec.specs.Spread.{spreadOf}
-use Rattle.codec.proofs.vector.spread.Tie as tie
+use Rattle.vector.proofs.counts.spread.Statement.{statement}
+use Rattle.vector.specs.Spread.{spreadOf}
+use Rattle.vector.proofs.counts.spread.Tie as tie
 
 returns : tie.Need-returns
 unfolding spreadOf

@@ -1,13 +1,13 @@
 ghost use mathlib.Core.Path.{_≡_};
 ghost use Prim.Native.Nat.{_+_, _≤_, _<_};
 ghost use lib.ListN.{length, take, drop};
-ghost use Rattle.codec.specs.Packed.{packedOf, EightCounts, unitOf, isStep};
-ghost use Rattle.codec.specs.Spread.{spreadOf, allMarked, Counts};
+ghost use Rattle.vector.specs.Packed.{packedOf, EightCounts, unitOf, isStep};
+ghost use Rattle.vector.specs.Spread.{spreadOf, allMarked, Counts};
 ghost use Rattle.rules.specs.Op.{countIn};
 ghost use Rattle.rules.specs.File as log;
 
 // The version vector (the document's context) at a place.
-pub(crate) fn read_vector(bytes: &[u8], at: usize) -> [u8; 8]
+pub fn read_vector(bytes: &[u8], at: usize) -> [u8; 8]
     requires { ⌜ at + 8 ≤ length (now bytes) ⌝ }
     ensures { λ r. ⌜ r ≡ take 8 (drop at (now (bytes .entry))) ⌝ }
 {

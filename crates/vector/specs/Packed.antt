@@ -5,7 +5,7 @@ use lib.ListN.{getD}
 use lib.Dec.{eqb}
 use Rattle.lists.specs.Lists.{all}
 use Rattle.rules.specs.Op.{Vector, countIn, replicas}
-use Rattle.codec.specs.Spread.{spreadOf}
+use Rattle.vector.specs.Spread.{spreadOf}
 
 unfoldable pub packedOf : Vector → ℕ
 packedOf v =

@@ -1,13 +1,13 @@
--- `codec::vector::read_vector` meets its contract.
+-- `vector::counts::read_vector` meets its contract.
 use mathlib.Core.Path.{_≡_, refl, sym, _∙_}
 use Prim.Native.Nat.{_-_, _≤_}
 use native.Mathlib.Omega.{arith}
 use lib.ListN.{length, take, drop, length-drop, length-set}
 use denote.Ref.{now}
 use lib.Seq.{take-all, getD-drop}
-use Rattle.codec.proofs.vector.read_vector.Statement.{statement}
+use Rattle.vector.proofs.counts.read_vector.Statement.{statement}
 use Rattle.lists.proofs.ListLaws.{copy-step}
-use Rattle.codec.proofs.vector.read_vector.Tie as tie
+use Rattle.vector.proofs.counts.read_vector.Tie as tie
 
 abbrev Inv-loop : tie.InvT-loop
 Inv-loop bytes at v₀ i₀ v i = (i ≤ 8) × (length v ≡ 8) × (take i v ≡ take i (drop at bytes))

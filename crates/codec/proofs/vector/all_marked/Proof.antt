@@ -1,8 +1,0 @@
--- `codec::vector::all_marked` meets its contract.
-use Rattle.codec.proofs.VectorLaws.{marking}
-use Rattle.codec.proofs.vector.all_marked.Statement.{statement}
-use Rattle.codec.proofs.vector.all_marked.Tie as tie
-
-pub all-marked-spec : {M : Type 1} → statement M
-all-marked-spec =
-    tie.close (tie.spec (λ c. search marking) (λ c. search marking) (λ c. search marking) (λ c. search marking))
