@@ -1,4 +1,5 @@
 pub mod HeaderLaws
 pub mod FieldLaws
+pub mod HeldLaws
 pub mod MarkerLaws
 pub mod InsertLaws

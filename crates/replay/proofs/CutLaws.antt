@@ -3,21 +3,26 @@ use mathlib.Core.Path.{_≡_, refl, ap, _∙_}
 use mathlib.Core.Bool.{true}
 use mathlib.Core.List.{List, foldl}
 use Prim.Native.Nat.{ℕ, _≤_}
+use native.Mathlib.Omega.{arith}
 use lib.ListN.{length, set, replicate, length-replicate}
 use borrow.Author.Needs.{needs}
 use Rattle.lists.proofs.ListLaws.{Filled, fill-none, fill-more, fill-all}
 use Rattle.rules.specs.Op.{Vector}
-use Rattle.rules.specs.File.{logOf, headerCounts}
-use Rattle.rules.specs.Log.{structural, soundHeader}
+use Rattle.rules.specs.File.{logOf, headerCounts, countsOf}
+use Rattle.rules.specs.Log.{structural, soundHeader, covered, closed}
 use Rattle.rules.specs.Tree.{slots, noParent}
 use Rattle.rules.specs.Replay.{State, outcomesOf, parentsOf, replay, start, step}
 use Rattle.rules.proofs.FileLaws.{counts-logOf}
 use Rattle.rules.proofs.StructureLaws.{laid-reads, structural-good, structural-laid}
 use Rattle.order.specs.Levels.{levels, nothing}
-use Rattle.order.proofs.LevelLaws.{ordered-levels}
+use Rattle.order.proofs.LevelLaws.{Cut, ordered-levels}
+use Rattle.rules.proofs.CausalLaws.{le-within}
+use Rattle.oplog.specs.Places.{Held}
+use Rattle.oplog.proofs.FieldLaws.{counts-in}
 use Rattle.oplog.proofs.HeaderLaws.{laid-header}
-use Rattle.replay.specs.Tables.{Replayable, ReplayableCut, tables}
-use Rattle.replay.proofs.HeldLaws.{cut-of, whole-held, whole-closed}
+use Rattle.effect.specs.Effects.{tables}
+use Rattle.replay.specs.Tables.{Replayable, ReplayableCut}
+use Rattle.oplog.proofs.HeldLaws.{whole-held, whole-closed}
 
 ---- clearing
 
@@ -31,6 +36,14 @@ module _ (i : ℕ) (t : List ℕ) (h : slots ≤ i) where
   cleared-outcomes f = fill-all 0 slots i t f h
 
 ---- a cut, from cleared tables
+
+-- a cut as the laws of the order want it
+cut-of : (w : ℕ) (f : List ℕ) (cut : Vector) → Held w f cut → closed (logOf w f) cut ≡ true → Cut (logOf w f) cut
+unfolding covered
+cut-of w f cut h c = record {
+  is-covered = le-within cut (countsOf (logOf w f)) (λ s l u. omega (arith, h .each s l u, counts-in w f s l u));
+  is-closed = c;
+}
 
 start-tables : tables (start .parents) (start .outcomes) (replicate slots 0) ≡ start
 unfolding start

@@ -17,8 +17,9 @@ use Rattle.order.specs.Levels.{readyOp}
 use Rattle.rules.proofs.KnownLaws.{kinds}
 use Rattle.oplog.specs.Places.{InFile, placeOf}
 use Rattle.oplog.proofs.FieldLaws.{fields-at, in-file-of}
-use Rattle.replay.specs.Tables.{Applicable, Bottom, ReplayableAt, StructuralAt, Top, classOf, dueAt, stampedAt}
-use Rattle.replay.proofs.HeldLaws.{held-op}
+use Rattle.effect.specs.Effects.{Applicable, stampedAt}
+use Rattle.replay.specs.Tables.{Bottom, ReplayableAt, StructuralAt, Top, classOf, dueAt}
+use Rattle.oplog.proofs.HeldLaws.{held-op}
 
 ---- the class of a kind
 

@@ -1,5 +1,3 @@
-pub mod HeldLaws
-pub mod EffectLaws
 pub mod ReadyLaws
 pub mod DueLaws
 pub mod TurnLaws

@@ -18,7 +18,7 @@ use Rattle.oplog.specs.Places.{Held, InFile, placeOf}
 use Rattle.oplog.proofs.FieldLaws.{in-file-of, fields-at}
 use Rattle.order.specs.Levels.{advanced, advancedAt, nextAt, readyOps, ready}
 use Rattle.replay.specs.Tables.{HeldAt, later}
-use Rattle.replay.proofs.HeldLaws.{count-small}
+use Rattle.oplog.proofs.HeldLaws.{count-small}
 
 ---- the next op of a replica
 

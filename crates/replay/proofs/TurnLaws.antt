@@ -22,7 +22,8 @@ use Rattle.rules.proofs.ReplicaLaws.{map-replicas}
 use Rattle.rules.proofs.CausalLaws.{within-le}
 use Rattle.rules.proofs.StepLaws.{Full, full-run}
 use Rattle.vector.proofs.VectorLaws.{length-eight}
-use Rattle.replay.specs.Tables.{Bottom, Replayable, ReplayableAt, ReplayableIn, Sized, Top, tables}
+use Rattle.effect.specs.Effects.{Sized, tables}
+use Rattle.replay.specs.Tables.{Bottom, Replayable, ReplayableAt, ReplayableIn, Top}
 use Rattle.replay.proofs.ReadyLaws.{next-held}
 use Rattle.replay.proofs.DueLaws.{classes, dues, bounds, op-zero}
 

@@ -1,8 +1,8 @@
-use crate::effect::apply_op;
 use crate::ready::advance;
 use crate::ready::next_ops;
 use codec::kind_at;
 use codec::widen;
+use effect::apply_op;
 use oplog::place;
 use tree::SLOTS;
 use vector::within;
@@ -12,7 +12,8 @@ ghost use Rattle.rules.specs.File.{logOf};
 ghost use Rattle.rules.specs.Replay.{step};
 ghost use Rattle.rules.specs.Tree.{slots};
 ghost use Rattle.order.specs.Levels.{readyOp, levelKind, level, levels, nothing};
-ghost use Rattle.replay.specs.Tables.{tables, StructuralAt, ReplayableAt, ReplayableIn, Replayable, Top, Bottom, classOf, dueAt};
+ghost use Rattle.effect.specs.Effects.{tables};
+ghost use Rattle.replay.specs.Tables.{StructuralAt, ReplayableAt, ReplayableIn, Replayable, Top, Bottom, classOf, dueAt};
 
 // The class of a kind, in the order in which ops of one timestamp are judged: adds, removes,
 // upward moves, downward moves. Any other kind is in none of them.

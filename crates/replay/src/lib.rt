@@ -1,7 +1,6 @@
 // Replay (the document's judging) of the ops within a cut of a log, level by level, to the parent
 // table and the outcome table.
 mod cut;
-mod effect;
 mod level;
 mod ready;
 

@@ -2,7 +2,7 @@
 use Rattle.replay.proofs.TurnLaws.{levelling, Left, kindFrom, due-asks}
 use Prim.Native.Nat.{_-_}
 use Rattle.rules.specs.File.{logOf}
-use Rattle.replay.specs.Tables.{tables}
+use Rattle.effect.specs.Effects.{tables}
 use native.Mathlib.Omega.{arith}
 use Rattle.order.specs.Levels.{levelKind}
 use Rattle.replay.proofs.level.replay_class.Statement.{statement}

@@ -2,7 +2,7 @@
 use Rattle.replay.proofs.TurnLaws.{levelling, Left, levelFrom}
 use Prim.Native.Nat.{_-_}
 use Rattle.rules.specs.File.{logOf}
-use Rattle.replay.specs.Tables.{tables}
+use Rattle.effect.specs.Effects.{tables}
 use Rattle.order.specs.Levels.{level}
 use Rattle.replay.proofs.level.replay_level.Statement.{statement}
 use Rattle.replay.proofs.level.replay_level.Tie as tie

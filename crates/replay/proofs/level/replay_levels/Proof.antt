@@ -2,7 +2,7 @@
 use Rattle.replay.proofs.TurnLaws.{levelling, AtTime}
 use Prim.Native.Nat.{_+_, _-_}
 use Rattle.rules.specs.File.{logOf}
-use Rattle.replay.specs.Tables.{tables}
+use Rattle.effect.specs.Effects.{tables}
 use Rattle.rules.specs.Tree.{slots}
 use Rattle.order.specs.Levels.{levels, nothing}
 use Rattle.replay.proofs.level.replay_levels.Statement.{statement}

@@ -1,9 +1,9 @@
--- `replay::effect::hang` meets its contract.
-use Rattle.replay.proofs.EffectLaws.{effects, hang-add, hang-move}
+-- `effect::apply::hang` meets its contract.
+use Rattle.effect.proofs.EffectLaws.{effects, hang-add, hang-move}
 use mathlib.Core.Logic.{⊎-elim}
 use native.Mathlib.Omega.{arith}
-use Rattle.replay.proofs.effect.hang.Statement.{statement}
-use Rattle.replay.proofs.effect.hang.Tie as tie
+use Rattle.effect.proofs.apply.hang.Statement.{statement}
+use Rattle.effect.proofs.apply.hang.Tie as tie
 
 returns-3 : tie.Need-returns-3
 returns-3 c =

@@ -19,8 +19,8 @@ use Rattle.rules.proofs.SlotLaws.{slot-below}
 use Rattle.rules.proofs.KnownLaws.{names-add, names-node, known-reads}
 use Rattle.oplog.specs.Places.{placeOf}
 use Rattle.oplog.proofs.FieldLaws.{fields-at, small}
-use Rattle.replay.specs.Tables.{Applicable, Slotted, hungBy, moves, notedBy, outcomeBy, stampedAt, tables}
-use Rattle.replay.proofs.HeldLaws.{held-op}
+use Rattle.effect.specs.Effects.{Applicable, Slotted, hungBy, moves, notedBy, outcomeBy, stampedAt, tables}
+use Rattle.oplog.proofs.HeldLaws.{held-op}
 
 ---- by the kind byte
 

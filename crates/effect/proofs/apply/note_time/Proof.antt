@@ -1,7 +1,7 @@
--- `replay::effect::note_time` meets its contract.
-use Rattle.replay.proofs.EffectLaws.{effects}
-use Rattle.replay.proofs.effect.note_time.Statement.{statement}
-use Rattle.replay.proofs.effect.note_time.Tie as tie
+-- `effect::apply::note_time` meets its contract.
+use Rattle.effect.proofs.EffectLaws.{effects}
+use Rattle.effect.proofs.apply.note_time.Statement.{statement}
+use Rattle.effect.proofs.apply.note_time.Tie as tie
 
 pub note-time-spec : {M : Type 1} → statement M
 note-time-spec =

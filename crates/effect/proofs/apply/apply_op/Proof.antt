@@ -1,7 +1,7 @@
--- `replay::effect::apply_op` meets its contract.
-use Rattle.replay.proofs.EffectLaws.{effects}
-use Rattle.replay.proofs.effect.apply_op.Statement.{statement}
-use Rattle.replay.proofs.effect.apply_op.Tie as tie
+-- `effect::apply::apply_op` meets its contract.
+use Rattle.effect.proofs.EffectLaws.{effects}
+use Rattle.effect.proofs.apply.apply_op.Statement.{statement}
+use Rattle.effect.proofs.apply.apply_op.Tie as tie
 
 pub apply-op-spec : {M : Type 1} → statement M
 apply-op-spec =

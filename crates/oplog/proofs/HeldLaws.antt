@@ -1,4 +1,4 @@
--- What a structurally sound file says of its ops, and of the cuts that it holds.
+-- What a structurally sound file says of its ops, and of the vectors that it holds.
 use mathlib.Core.Path.{_≡_}
 use mathlib.Core.Bool.{true}
 use mathlib.Core.List.{List}
@@ -6,26 +6,16 @@ use Prim.Native.Nat.{ℕ, _≤_}
 use native.Mathlib.Omega.{arith}
 use native.Mathlib.Nat.{le-refl}
 use Rattle.rules.specs.Op.{countIn, Vector}
-use Rattle.rules.specs.File.{opAt, headerCounts, countsOf, logOf}
-use Rattle.rules.specs.Log.{covered, structural, closed}
+use Rattle.rules.specs.File.{opAt, headerCounts, logOf}
+use Rattle.rules.specs.Log.{structural, closed}
 use Rattle.rules.proofs.StructureLaws.{counts-closed, HeldOp, structural-good, laid-reads, good-ops, structural-laid}
 use Rattle.rules.proofs.FileLaws.{counts-at, counts-logOf}
-use Rattle.rules.proofs.CausalLaws.{le-within}
-use Rattle.order.proofs.LevelLaws.{Cut}
 use Rattle.oplog.specs.Places.{InFile, Held}
 use Rattle.oplog.proofs.FieldLaws.{counts-in}
 
 module _ (w : ℕ) (f : List ℕ) where
   pub count-small : (v : Vector) → Held w f v → (s : ℕ) → 1 ≤ s → s ≤ 8 → countIn v s ≤ 255
   count-small v h s l u = omega (arith, h .each s l u, laid-reads w f (h .is-laid) .counts s l u)
-
-  -- a cut as the laws of the order want it
-  pub cut-of : (cut : Vector) → Held w f cut → closed (logOf w f) cut ≡ true → Cut (logOf w f) cut
-  unfolding covered
-  cut-of cut h c = record {
-    is-covered = le-within cut (countsOf (logOf w f)) (λ s l u. omega (arith, h .each s l u, counts-in w f s l u));
-    is-closed = c;
-  }
 
   module _ (e : structural w f ≡ true) where
     pub held-op : (s q : ℕ) → InFile w f s q → HeldOp (logOf w f) s q (opAt (logOf w f) s q)

@@ -9,7 +9,7 @@ ghost use Prim.Native.Nat.{_<_};
 ghost use lib.ListN.{length};
 ghost use Rattle.rules.specs.File.{logOf, opAt};
 ghost use Rattle.rules.specs.Replay.{step};
-ghost use Rattle.replay.specs.Tables.{tables, stampedAt, Slotted, Applicable, outcomeBy, hungBy, notedBy};
+ghost use Rattle.effect.specs.Effects.{tables, stampedAt, Slotted, Applicable, outcomeBy, hungBy, notedBy};
 
 // The outcome of an op by its fields.
 fn outcome_of(
