@@ -1,5 +1,4 @@
--- The buffer after an accepted op, as bytes: a new table, the bodies before the place, the op, and the bodies after
--- it, moved up. Assumes nothing.
+-- The buffer after an accepted op, as bytes: a new header, the bodies before the place, the op, and the bodies after it, moved up.
 use mathlib.Core.Path.{_≡_, refl, ap}
 use mathlib.Core.List.{List, _∷_, _++_, append-assoc, []}
 use Prim.Native.Nat.{ℕ, zero, suc, _+_, _*_, _-_, _≤_, _<_}
