@@ -8,7 +8,7 @@ use lib.ListN.{length, take, drop}
 use lib.Seq.{take-at}
 use lib.Dec.{ltb, eqb}
 use borrow.Author.Needs.{needs}
-use borrow.Author.Tests.{leb-true, ltb-true, lt-leb, le-leb}
+use borrow.Author.Tests.{leb-true, ltb-true, le-leb}
 use Rattle.rules.specs.Answer.{Answer, refused, require}
 use Rattle.rules.specs.Bytes.{word}
 use Rattle.rules.specs.Issue.{Request, add, remove, move, Issued, issueAnswer, issueBuffer, issueOut, issued, opBytes, requestClear, requestKnown}

@@ -1,5 +1,5 @@
 -- The returns and turns of marking, as the code meets them.
-use Prim.Native.Nat.{_+_, _<_, _≤_, ℕ}
+use Prim.Native.Nat.{_<_, _≤_, ℕ}
 use borrow.Author.Needs.{needs}
 use borrow.Author.Tests.{eqb-false, leb-true, ne-eqb}
 use lib.Dec.{eqb, leb}

@@ -5,7 +5,7 @@ use mathlib.Core.List.{List}
 use Prim.Native.Nat.{ℕ}
 use borrow.Author.Needs.{needs}
 use Rattle.rules.specs.Answer.{refused, require}
-use Rattle.rules.specs.Deliver.{Result, deliver, deliverAnswer, deliverBuffer}
+use Rattle.rules.specs.Deliver.{deliver, deliverAnswer, deliverBuffer}
 use Rattle.rules.specs.File.{width}
 use Rattle.rules.specs.Sound.{sound}
 use Rattle.lists.proofs.BoolLaws.{tested}

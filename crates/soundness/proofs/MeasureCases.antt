@@ -5,8 +5,7 @@ use borrow.Author.Tests.{le-leb, lt-leb}
 use lib.ListN.{drop, length}
 use mathlib.Core.Bool.{false, true}
 use mathlib.Core.List.{_++_, List}
-use mathlib.Core.Path.{_∙_, _≡_, sym}
-use native.Mathlib.Omega.{arith}
+use mathlib.Core.Path.{_≡_}
 use Rattle.lists.proofs.BoolLaws.{tested}
 use Rattle.oplog.proofs.HeaderLaws.{end-is}
 use Rattle.rules.proofs.FileLaws.{counts-logOf, length-counts}

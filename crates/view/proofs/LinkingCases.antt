@@ -1,7 +1,7 @@
 -- The returns of linking a view, as the code meets them.
 use Prim.Native.Nat.{_-_, ℕ}
 use borrow.Author.Needs.{needs}
-use lib.ListN.{length, replicate, set}
+use lib.ListN.{replicate, set}
 use mathlib.Core.List.{List, foldl}
 use mathlib.Core.Path.{_∙_, _≡_}
 use Rattle.lists.specs.Lists.{downFrom, upFrom}
