@@ -46,9 +46,9 @@ extern "C" {
 
 /* The version of this header; outline_version() answers that of the library. */
 #define OUTLINE_VERSION_MAJOR 0
-#define OUTLINE_VERSION_MINOR 1
+#define OUTLINE_VERSION_MINOR 2
 #define OUTLINE_VERSION_PATCH 0
-#define OUTLINE_VERSION_TEXT "0.1.0"
+#define OUTLINE_VERSION_TEXT "0.2.0"
 #define OUTLINE_VERSION \
     (10000 * OUTLINE_VERSION_MAJOR + 100 * OUTLINE_VERSION_MINOR + OUTLINE_VERSION_PATCH)
 
@@ -63,6 +63,7 @@ extern "C" {
 #define OUTLINE_NO_ROOM 8    /* the buffer, or what is lent for an answer, is too short */
 #define OUTLINE_EXHAUSTED 9  /* the replica has issued its 255 ops */
 #define OUTLINE_CYCLE 10     /* the new parent lies below the node */
+#define OUTLINE_MARKED 11    /* the parent of new work, or the node of a move, is removed */
 
 #define OUTLINE_HAD_IT 128
 #define OUTLINE_DONE 129
@@ -142,7 +143,8 @@ size_t outline_deliver(uint8_t *buf, size_t buf_len, const uint8_t *op, size_t o
  *                first 14 bytes of `out` are that op, to be handed to others;
  *                outline_op_node() reads the new node's number from it
  *   1, 2, 3      unsound; `out` shorter than 14 bytes; no such replica
- *   9, 7, 8      exhausted; unknown parent; no room for 14 bytes more
+ *   9, 7, 11, 8  exhausted; unknown parent; the parent is removed; no room for
+ *                14 bytes more
  * in this order. Bytes of the buffer past `end`, and of `out` past 14, keep
  * their content. If refused, the buffer and `out` are unchanged.
  */
@@ -151,7 +153,8 @@ size_t outline_issue_add(uint8_t *buf, size_t buf_len, uint8_t replica, uint16_t
 
 /*
  * Issues a remove of a node of the log: it is marked as removed. Answers and
- * leaves behind the same as outline_issue_add; 7 is an unknown node.
+ * leaves behind the same as outline_issue_add; 7 is an unknown node. A node that
+ * is removed already may be removed again: there is no 11.
  */
 size_t outline_issue_remove(uint8_t *buf, size_t buf_len, uint8_t replica, uint16_t node,
                             uint8_t *out, size_t out_len);
@@ -161,7 +164,8 @@ size_t outline_issue_remove(uint8_t *buf, size_t buf_len, uint8_t replica, uint1
  * a node of the log. Answers and leaves behind the same as outline_issue_add,
  * and besides
  *   7            unknown node or parent, or the parent is the node
- *   10           the new parent lies below the node; tested after 7, before 8
+ *   11           node or parent is removed; tested after 7
+ *   10           the new parent lies below the node; tested after 11, before 8
  */
 size_t outline_issue_move(uint8_t *buf, size_t buf_len, uint8_t replica, uint16_t node,
                           uint16_t parent, uint8_t *out, size_t out_len);
@@ -236,6 +240,7 @@ static inline const char *outline_text(size_t answer) {
     case OUTLINE_NO_ROOM: return "the buffer, or what is lent for an answer, is too short";
     case OUTLINE_EXHAUSTED: return "the replica has issued its 255 ops";
     case OUTLINE_CYCLE: return "the new parent lies below the node";
+    case OUTLINE_MARKED: return "the node or the parent is removed";
     case OUTLINE_HAD_IT: return "the op was there already";
     case OUTLINE_DONE: return "done";
     default: return "no answer of this library";

@@ -40,16 +40,16 @@ static void versions(void) {
 }
 
 static void numbers(void) {
-    EXPECT(OUTLINE_UNSOUND == 1 && OUTLINE_CYCLE == 10);
+    EXPECT(OUTLINE_UNSOUND == 1 && OUTLINE_CYCLE == 10 && OUTLINE_MARKED == 11);
     EXPECT(OUTLINE_HAD_IT == 128 && OUTLINE_DONE == 129 && OUTLINE_VALUE == 256);
-    EXPECT(outline_refused(OUTLINE_UNSOUND) && outline_refused(OUTLINE_CYCLE));
+    EXPECT(outline_refused(OUTLINE_UNSOUND) && outline_refused(OUTLINE_MARKED));
     EXPECT(!outline_refused(OUTLINE_HAD_IT) && !outline_refused(OUTLINE_DONE));
     EXPECT(!outline_refused(OUTLINE_VALUE));
-    EXPECT(outline_value(OUTLINE_CYCLE) == 0 && outline_value(OUTLINE_DONE) == 0);
+    EXPECT(outline_value(OUTLINE_MARKED) == 0 && outline_value(OUTLINE_DONE) == 0);
     EXPECT(outline_value(VALUE(0)) == 0 && outline_value(VALUE(28592)) == 28592);
     const char *none = outline_text(0);
     for (size_t a = 0; a < 300; a++) {
-        bool named = (a >= 1 && a <= 10) || a == OUTLINE_HAD_IT || a == OUTLINE_DONE || a >= 256;
+        bool named = (a >= 1 && a <= 11) || a == OUTLINE_HAD_IT || a == OUTLINE_DONE || a >= 256;
         EXPECT(outline_text(a) != NULL && (strcmp(outline_text(a), none) != 0) == named);
         for (size_t b = 0; b < a && a <= OUTLINE_VALUE; b++)
             EXPECT(!named || strcmp(outline_text(a), outline_text(b)) != 0);
@@ -142,6 +142,28 @@ static void answers(void) {
     EXPECT(path[0] == 513 && path[1] == 258 && path[2] == 257 && path[3] == OUTLINE_ROOT);
     log_a[0] = 1;
     EXPECT(add(log_a, 1, 0) == OUTLINE_UNSOUND);
+}
+
+/* A removed node takes no new work at issue, and all that is delivered. */
+static void removed(void) {
+    uint8_t unmet[OUTLINE_OP];
+    outline_make(log_a, sizeof log_a);
+    outline_make(log_b, sizeof log_b);
+    add(log_a, 1, 0);
+    deliver(log_b, op);
+    add(log_a, 1, 257);
+    deliver(log_b, op);
+    EXPECT(add(log_b, 2, 257) == VALUE(74)); /* replica 2 has not met the removal */
+    memcpy(unmet, op, sizeof unmet);
+    EXPECT(outline_issue_remove(log_a, sizeof log_a, 1, 257, op, sizeof op) == VALUE(74));
+    EXPECT(add(log_a, 1, 257) == OUTLINE_MARKED);
+    EXPECT(move(log_a, 1, 257, 0) == OUTLINE_MARKED && move(log_a, 1, 258, 257) == OUTLINE_MARKED);
+    EXPECT(move(log_a, 1, 257, 258) == OUTLINE_MARKED); /* and below itself */
+    EXPECT(move(log_a, 1, 257, 259) == OUTLINE_UNKNOWN);
+    EXPECT(outline_issue_add(log_a, 74, 1, 257, op, sizeof op) == OUTLINE_MARKED);
+    EXPECT(add(log_a, 1, 258) == VALUE(88)); /* below a node that is below it */
+    EXPECT(outline_issue_remove(log_a, sizeof log_a, 3, 257, op, sizeof op) == VALUE(102));
+    EXPECT(deliver(log_a, unmet) == VALUE(116));
 }
 
 /* Two moves of one node, and two that close a circle: the outcomes of those that lost. */
@@ -263,6 +285,7 @@ int main(void) {
     slots();
     fields();
     answers();
+    removed();
     clashes();
     measures();
     nulls();

@@ -1,6 +1,6 @@
 //! Making, delivering, issuing and judging on lent bytes, and what a log comes to.
 
-use crate::log::{Log, HEADER_LEN};
+use crate::log::{Knowledge, Log, HEADER_LEN};
 use crate::op::{node_number, replica_index, Kind, Op, MAX_SEQUENCE, OP_LEN};
 use crate::tree::{Tree, SLOTS};
 use crate::view::put;
@@ -58,7 +58,7 @@ pub fn issue_move(
     answer(issue(buffer, replica, out, |_| (Kind::Down, node, parent)))
 }
 
-/// Tests 1, 2, 3, 9, 7, 10, 8; `draft` gives kind, node and parent.
+/// Tests 1, 2, 3, 9, 7, 11, 10, 8; `draft` gives kind, node and parent.
 fn issue(
     buffer: &mut [u8],
     replica: u8,
@@ -83,12 +83,26 @@ fn issue(
     };
     // The held counts are never early and always closed: only 7 can come.
     log.test_against(&op)?;
+    if names_marked_node(&log, &op) {
+        return Err(refusal::MARKED);
+    }
     if kind.is_move() {
         op.kind = move_kind(&log, node, parent)?;
     }
     let accepted = append(buffer, log, op)?;
     out.copy_from_slice(&op.bytes());
     Ok(accepted)
+}
+
+/// Test 11, in what the op's replica has met. What an add makes is new, and a
+/// node may be removed again.
+fn names_marked_node(log: &Log, op: &Op) -> bool {
+    let marked = |node| log.knowledge(&op.vector, node) == Knowledge::Marked;
+    match op.kind {
+        Kind::Add => marked(op.parent),
+        Kind::Remove => false,
+        Kind::Up | Kind::Down => marked(op.node) || marked(op.parent),
+    }
 }
 
 /// Test 10, then the kind by the depths in the present tree.

@@ -17,7 +17,7 @@ pub mod view;
 pub use calls::{
     deliver, file_end, held_counts, is_sound, issue_add, issue_move, issue_remove, judge, make,
 };
-pub use log::{Log, HEADER_LEN, MAX_FILE};
+pub use log::{Knowledge, Log, HEADER_LEN, MAX_FILE};
 pub use op::{Kind, Op, Vector, MAX_SEQUENCE, OP_LEN, REPLICAS};
 pub use tree::{slot_of, Tree, NO_PARENT, SLOTS};
 pub use view::{listing, listing_size, outline, path, View};
@@ -49,4 +49,5 @@ pub mod refusal {
     pub const ROOM: u8 = 8;
     pub const REPLICA_FULL: u8 = 9;
     pub const BELOW_ITSELF: u8 = 10;
+    pub const MARKED: u8 = 11;
 }

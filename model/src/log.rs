@@ -1,17 +1,40 @@
 //! The log: reading a buffer, soundness, and the tests of an op against it.
 
-use crate::op::{at_most, node_number, Kind, Op, Vector, MAX_SEQUENCE, OP_LEN, REPLICAS};
+use crate::op::{
+    at_most, node_number, replica_index, Kind, Op, Vector, MAX_SEQUENCE, OP_LEN, REPLICAS,
+};
 use crate::refusal;
+use std::collections::{BTreeMap, BTreeSet};
 
 /// Bytes of the header (the document's table of contents).
 pub const HEADER_LEN: usize = 32;
 /// Bytes of a file in which every replica is full.
 pub const MAX_FILE: usize = HEADER_LEN + OP_LEN * REPLICAS * MAX_SEQUENCE;
 
+/// What is known of a node in a vector.
+#[derive(Clone, Copy, PartialEq, Eq, Debug)]
+pub enum Knowledge {
+    /// Nothing: its add is not within the vector. The root has no add.
+    Unknown,
+    /// Its add is within the vector, and no remove of it is.
+    Unmarked,
+    /// Its add is within the vector, and so is a remove of it.
+    Marked,
+}
+
+impl Knowledge {
+    pub fn is_known(self) -> bool {
+        self != Knowledge::Unknown
+    }
+}
+
 /// All ops of a sound file (the document's collection).
 #[derive(Clone, PartialEq, Eq, Debug, Default)]
 pub struct Log {
     ops: [Vec<Op>; REPLICAS],
+    /// The removes of each node by place of the replica and sequence. Soundness
+    /// asks for every op, and is slow if each question goes through all ops.
+    removes: BTreeMap<u16, BTreeSet<(usize, usize)>>,
 }
 
 impl Log {
@@ -35,7 +58,7 @@ impl Log {
                 if op.index() != index || op.sequence() != sequence {
                     return None;
                 }
-                log.ops[index].push(op);
+                log.push(op);
                 start += OP_LEN;
             }
         }
@@ -78,6 +101,10 @@ impl Log {
 
     /// Puts an op behind those of its replica; its tests are the caller's.
     pub fn push(&mut self, op: Op) {
+        if op.kind == Kind::Remove {
+            let removes = self.removes.entry(op.node).or_default();
+            removes.insert((op.index(), op.sequence()));
+        }
         self.ops[op.index()].push(op);
     }
 
@@ -107,33 +134,35 @@ impl Log {
     }
 
     fn names_known_nodes(&self, op: &Op) -> bool {
-        let node_known = self.is_known(&op.vector, op.node);
-        let parent_known = op.parent == 0 || self.is_known(&op.vector, op.parent);
+        let known = |node| self.knowledge(&op.vector, node).is_known();
+        let parent_known = op.parent == 0 || known(op.parent);
         match op.kind {
             Kind::Add => {
                 let own = node_number(op.replica, op.sequence());
                 usize::from(op.node) == own && parent_known
             }
-            Kind::Remove => node_known,
-            Kind::Up | Kind::Down => node_known && parent_known && op.parent != op.node,
+            Kind::Remove => known(op.node),
+            Kind::Up | Kind::Down => known(op.node) && parent_known && op.parent != op.node,
         }
     }
 
-    /// Whether an op within the vector added this node; never so for the root.
-    fn is_known(&self, vector: &Vector, node: u16) -> bool {
+    /// What is known of a node in a vector; marked and unmarked nodes alike may
+    /// be named by an op that is delivered or held.
+    pub fn knowledge(&self, vector: &Vector, node: u16) -> Knowledge {
         let [replica, sequence] = node.to_be_bytes();
-        let Some(index) = crate::op::replica_index(replica) else {
-            return false;
-        };
-        sequence <= vector[index]
-            && self
-                .get(index, usize::from(sequence))
-                .is_some_and(|op| op.kind == Kind::Add)
-    }
-
-    /// Whether this number is an added node of the log.
-    pub fn has_node(&self, node: u16) -> bool {
-        self.is_known(&self.held(), node)
+        let add = replica_index(replica)
+            .filter(|&index| sequence <= vector[index])
+            .and_then(|index| self.get(index, usize::from(sequence)))
+            .filter(|op| op.kind == Kind::Add);
+        if add.is_none() {
+            return Knowledge::Unknown;
+        }
+        let mut removes = self.removes.get(&node).into_iter().flatten();
+        if removes.any(|&(index, sequence)| sequence <= usize::from(vector[index])) {
+            Knowledge::Marked
+        } else {
+            Knowledge::Unmarked
+        }
     }
 }
 

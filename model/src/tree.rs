@@ -18,8 +18,6 @@ pub const BELOW_NODE: u8 = 3;
 pub struct Tree {
     pub parents: Vec<u16>,
     pub outcomes: Vec<u8>,
-    /// Which nodes are marked.
-    pub marks: Vec<bool>,
     /// The timestamp of the last applied move of a node, 0 if none.
     moved_at: Vec<usize>,
 }
@@ -29,7 +27,6 @@ impl Tree {
         let mut tree = Tree {
             parents: vec![NO_PARENT; SLOTS],
             outcomes: vec![NO_OP; SLOTS],
-            marks: vec![false; SLOTS],
             moved_at: vec![0; SLOTS],
         };
         tree.parents[0] = 0;
@@ -43,7 +40,8 @@ impl Tree {
         let slot = slot_of(op.node);
         match op.kind {
             Kind::Add => self.parents[slot] = op.parent,
-            Kind::Remove => self.marks[slot] = true,
+            // The mark stays from here on: the log knows it by the op alone.
+            Kind::Remove => {}
             Kind::Up | Kind::Down => {
                 if self.moved_at[slot] == timestamp {
                     return RIVAL_FIRST;
@@ -75,10 +73,6 @@ impl Tree {
         (1..SLOTS)
             .filter(|&slot| self.parents[slot] != NO_PARENT)
             .map(node_at)
-    }
-
-    pub fn is_marked(&self, node: u16) -> bool {
-        self.marks[slot_of(node)]
     }
 }
 

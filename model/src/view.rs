@@ -2,7 +2,7 @@
 
 use crate::calls::{answer, open};
 use crate::tree::{slot_of, Tree, SLOTS};
-use crate::{refusal, Answer, Log};
+use crate::{refusal, Answer, Knowledge, Log};
 
 #[derive(Clone, Copy, PartialEq, Eq, Debug)]
 pub enum View {
@@ -19,7 +19,7 @@ pub fn path(file: &[u8], node: u16, out: &mut [u16]) -> Answer {
 
 fn try_path(file: &[u8], node: u16, out: &mut [u16]) -> Result<Answer, u8> {
     let log = open(file)?;
-    if node != 0 && !log.has_node(node) {
+    if node != 0 && !log.knowledge(&log.held(), node).is_known() {
         return Err(refusal::UNKNOWN);
     }
     let path: Vec<u16> = Tree::judge(&log).path(node).collect();
@@ -53,7 +53,8 @@ pub fn outline(input: &[u8]) -> Vec<u8> {
 
 fn lines(log: &Log, view: View) -> Vec<u8> {
     let tree = Tree::judge(log);
-    let shown = shown(&tree, view);
+    let marks = marks(log, &tree);
+    let shown = shown(&tree, &marks, view);
     let children = children(&tree);
     let mut text = Vec::new();
     // A stack instead of recursion: a tree may be 2,040 deep.
@@ -61,7 +62,7 @@ fn lines(log: &Log, view: View) -> Vec<u8> {
     while let Some((depth, node)) = waiting.pop() {
         // What hangs below a hidden node is hidden too, in both views.
         if shown[slot_of(node)] {
-            let mark = if tree.is_marked(node) { 'r' } else { 'k' };
+            let mark = if marks[slot_of(node)] { 'r' } else { 'k' };
             text.extend(format!("{depth} {node} {mark}\n").bytes());
             let below = children[slot_of(node)].iter().rev();
             waiting.extend(below.map(|&child| (depth + 1, child)));
@@ -79,20 +80,29 @@ fn children(tree: &Tree) -> Vec<Vec<u16>> {
     children
 }
 
+/// Which slots have a marked node.
+fn marks(log: &Log, tree: &Tree) -> Vec<bool> {
+    let mut marks = vec![false; SLOTS];
+    for node in tree.nodes() {
+        marks[slot_of(node)] = log.knowledge(&log.held(), node) == Knowledge::Marked;
+    }
+    marks
+}
+
 /// Which slots the view shows; the root always is.
-fn shown(tree: &Tree, view: View) -> Vec<bool> {
+fn shown(tree: &Tree, marks: &[bool], view: View) -> Vec<bool> {
     let mut shown = vec![false; SLOTS];
     shown[0] = true;
     for node in tree.nodes() {
         match view {
-            View::Keeping if !tree.is_marked(node) => {
+            View::Keeping if !marks[slot_of(node)] => {
                 for above in tree.path(node) {
                     shown[slot_of(above)] = true;
                 }
             }
             View::Keeping => {}
             View::Skipping => {
-                shown[slot_of(node)] = !tree.path(node).any(|above| tree.is_marked(above));
+                shown[slot_of(node)] = !tree.path(node).any(|above| marks[slot_of(above)]);
             }
         }
     }

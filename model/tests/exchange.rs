@@ -15,6 +15,19 @@ struct Side {
     held: Vec<Vec<u8>>,
     /// The replicas that issue here and nowhere else.
     replicas: Vec<u8>,
+    tally: Tally,
+}
+
+/// What the calls came to.
+#[derive(Clone, Copy, Default, Debug)]
+struct Tally {
+    adds: usize,
+    moves: usize,
+    removes: usize,
+    /// Issues refused with 11.
+    marked: usize,
+    /// Deliveries of adds and moves that name a node with a mark here.
+    unmet: usize,
 }
 
 impl Side {
@@ -23,6 +36,7 @@ impl Side {
             buffer: empty(length),
             held: vec![],
             replicas,
+            tally: Tally::default(),
         }
     }
 
@@ -33,12 +47,34 @@ impl Side {
 
     fn deliver(&mut self, op: &[u8]) {
         if let Accepted(_) = deliver_checked(&mut self.buffer, op) {
+            let named: &[[u8; 2]] = match op[0] {
+                1 => &[[op[4], op[5]]],
+                2 => &[],
+                _ => &[[op[2], op[3]], [op[4], op[5]]],
+            };
+            let marked = named
+                .iter()
+                .any(|&node| self.is_marked(u16::from_be_bytes(node)));
+            self.tally.unmet += usize::from(marked);
             self.held.push(op.to_vec());
         }
     }
 
+    /// Whether a remove of the node is held.
+    fn is_marked(&self, node: u16) -> bool {
+        let bytes = node.to_be_bytes();
+        self.held.iter().any(|op| op[0] == 2 && op[2..4] == bytes)
+    }
+
     fn issue(&mut self, replica: u8, issue: Issue) -> Option<Vec<u8>> {
         let (answer, op) = issue_checked(&mut self.buffer, replica, issue);
+        let tally = &mut self.tally;
+        match (answer, issue) {
+            (Accepted(_), Issue::Add(_)) => tally.adds += 1,
+            (Accepted(_), Issue::Move(..)) => tally.moves += 1,
+            (Accepted(_), Issue::Remove(_)) => tally.removes += 1,
+            (answer, _) => tally.marked += usize::from(answer == Refused(11)),
+        }
         matches!(answer, Accepted(_)).then(|| {
             self.held.push(op.clone());
             op
@@ -119,8 +155,8 @@ impl Meeting {
         if self.sides[at].count(replica) != issued {
             return;
         }
-        let node = some_node(rng, &self.sides[at].held);
-        let parent = some_node(rng, &self.sides[at].held);
+        let node = some_node(rng, &self.sides[at]);
+        let parent = some_node(rng, &self.sides[at]);
         let issue = match rng.below(8) {
             0..=2 => Issue::Add(parent),
             3 => Issue::Remove(node),
@@ -138,12 +174,17 @@ impl Meeting {
     }
 }
 
-fn some_node(rng: &mut Rng, held: &[Vec<u8>]) -> u16 {
-    if held.is_empty() || rng.one_in(10) {
+/// Mostly one that takes new work, now and then a marked one or the root.
+fn some_node(rng: &mut Rng, side: &Side) -> u16 {
+    let node = |op: &Vec<u8>| u16::from_be_bytes([op[2], op[3]]);
+    let mut nodes: Vec<u16> = side.held.iter().map(node).collect();
+    if !rng.one_in(6) {
+        nodes.retain(|&node| !side.is_marked(node));
+    }
+    if nodes.is_empty() || rng.one_in(10) {
         return 0;
     }
-    let op = &held[rng.below(held.len())];
-    u16::from_be_bytes([op[2], op[3]])
+    rng.pick(&nodes)
 }
 
 /// Ops by replica and sequence.
@@ -232,9 +273,17 @@ fn check_alike(buffers: &[Vec<u8>; 2], all: &[Vec<u8>]) {
 fn random_lists_then_rounds() {
     let mut met = 0;
     let mut skipped = 0;
+    let mut all = Tally::default();
     for seed in 0..300 {
         let rng = &mut Rng::new(800 + seed);
         let meeting = Meeting::random(rng);
+        for tally in meeting.sides.iter().map(|side| side.tally) {
+            all.adds += tally.adds;
+            all.moves += tally.moves;
+            all.removes += tally.removes;
+            all.marked += tally.marked;
+            all.unmet += tally.unmet;
+        }
         for i in 0..meeting.sides.len() {
             for j in 0..i {
                 let (a, b) = (&meeting.sides[i], &meeting.sides[j]);
@@ -249,6 +298,10 @@ fn random_lists_then_rounds() {
         }
     }
     assert!(met > 1000 && skipped < met, "{met} {skipped}");
+    // The lists do work, and meet marks at issue as well as past it.
+    assert!(all.adds > 1000 && all.moves > 1000, "{all:?}");
+    assert!(all.removes > 300 && all.marked > 300, "{all:?}");
+    assert!(all.unmet > 300, "{all:?}");
 }
 
 /// Parts of one large world, as two sides came to hold them.

@@ -182,6 +182,177 @@ fn judging_views_and_paths() {
     assert!(seen[2] > 300 && seen[3] > 300, "{seen:?}");
 }
 
+/// What is known of a node in a context, by all ops within it.
+fn knowledge(context: &[u8], node: u16, body: &dyn Fn(usize, usize) -> Body) -> Knowledge {
+    let count = |replica: usize| usize::from(context[replica - 1]);
+    let (replica, sequence) = (usize::from(node / 256), usize::from(node % 256));
+    let added = (1..=8).contains(&replica)
+        && sequence >= 1
+        && sequence <= count(replica)
+        && body(replica, sequence)[0] == 1;
+    let mut within =
+        (1..=8).flat_map(|replica| (1..=count(replica)).map(move |s| body(replica, s)));
+    if !added {
+        Knowledge::Unknown
+    } else if within.any(|body| body[0] == 2 && self::node(&body) == node) {
+        Knowledge::Marked
+    } else {
+        Knowledge::Unmarked
+    }
+}
+
+/// The document's tests of an issue from 9 on, and the op.
+fn issued(
+    bodies: &[Body],
+    tree: &Naive,
+    replica: u8,
+    issue: Issue,
+    room: usize,
+) -> Result<Body, u8> {
+    let count = |replica: u8| bodies.iter().filter(|body| body[1] == replica).count();
+    if count(replica) == 255 {
+        return Err(9);
+    }
+    let added = |node: u16| tree.parents.contains_key(&node);
+    let parent_known = |node: u16| node == 0 || added(node);
+    let known = match issue {
+        Issue::Add(parent) => parent_known(parent),
+        Issue::Remove(node) => added(node),
+        Issue::Move(node, parent) => added(node) && parent_known(parent) && node != parent,
+    };
+    if !known {
+        return Err(7);
+    }
+    // Marked in the present tree.
+    let marked = |node: u16| tree.marks.contains(&node);
+    match issue {
+        Issue::Add(parent) if marked(parent) => return Err(11),
+        Issue::Move(node, parent) if marked(node) || marked(parent) => return Err(11),
+        Issue::Move(node, parent) if tree.below(node).contains(&parent) => return Err(10),
+        _ => {}
+    }
+    if room < 14 {
+        return Err(8);
+    }
+    let depth = |node: u16| tree.path(node).len();
+    let (kind, node, parent) = match issue {
+        Issue::Add(parent) => (
+            1,
+            256 * u16::from(replica) + count(replica) as u16 + 1,
+            parent,
+        ),
+        Issue::Remove(node) => (2, node, 0),
+        Issue::Move(node, parent) if depth(node) > depth(parent) => (3, node, parent),
+        Issue::Move(node, parent) => (4, node, parent),
+    };
+    let mut body = vec![kind, replica];
+    body.extend(
+        [node, parent]
+            .iter()
+            .flat_map(|number| number.to_be_bytes()),
+    );
+    body.extend((1..=8).map(|replica| count(replica) as u8));
+    Ok(body)
+}
+
+/// One issue by the model and by the document; which number, or 0.
+fn compare_issue(ops: &[Op], tree: &Naive, replica: u8, issue: Issue, room: usize) -> usize {
+    let bodies: Vec<Body> = ops.iter().map(|op| op.bytes().to_vec()).collect();
+    let file = file_of(ops);
+    let mut buffer = in_buffer(&file, file.len() + room);
+    let (answer, op) = issue_checked(&mut buffer, replica, issue);
+    let expected = issued(&bodies, tree, replica, issue, room);
+    match (answer, expected) {
+        (Accepted(end), Ok(body)) => {
+            assert_eq!((end, op), (file.len() + 14, body));
+            0
+        }
+        (Refused(number), Err(expected)) => {
+            assert_eq!(number, expected, "{issue:?} by {replica}");
+            usize::from(number)
+        }
+        other => panic!("{issue:?} by {replica}: {other:?}"),
+    }
+}
+
+#[test]
+fn issuing() {
+    let rng = &mut Rng::new(72);
+    let mut full = adds(1, 255);
+    full.extend([remove(2, 257, &[255]), remove(3, 258, &[255])]);
+    let mut logs = small_logs();
+    logs.extend([unremoved(), full]);
+    for _ in 0..200 {
+        let style = rng.pick(&[
+            world::Style::mixed as fn(usize, usize) -> world::Style,
+            world::Style::moves,
+        ]);
+        let style = style(1 + rng.below(8), rng.below(50));
+        logs.push(world::World::random(rng, style).ops);
+    }
+    let mut seen = [0; 12];
+    for ops in logs {
+        let bodies: Vec<Body> = ops.iter().map(|op| op.bytes().to_vec()).collect();
+        let tree = Naive::judge(&bodies);
+        let mut numbers: Vec<u16> = vec![0, 0, 0, 1, 256, 511, 2304, 65535];
+        for op in &ops {
+            numbers.extend([op.node; 2]);
+        }
+        for _ in 0..150 {
+            let (node, parent) = (rng.pick(&numbers), rng.pick(&numbers));
+            let issue = rng.pick(&[
+                Issue::Add(parent),
+                Issue::Remove(node),
+                Issue::Move(node, parent),
+                Issue::Move(node, parent),
+            ]);
+            let replica = 1 + rng.below(8) as u8;
+            let room = rng.pick(&[0, 13, 14, 14, 14, 20]);
+            seen[compare_issue(&ops, &tree, replica, issue, room)] += 1;
+        }
+    }
+    // Enough of each, and more than a few of those that are rare by nature.
+    let enough = |number: usize, least: usize| assert!(seen[number] > least, "{seen:?}");
+    [0, 7, 8, 11]
+        .iter()
+        .for_each(|&number| enough(number, 1000));
+    enough(10, 300);
+    enough(9, 5);
+}
+
+/// Vectors of ops, joins of them, and any counts up to what is held.
+#[test]
+fn three_outcomes() {
+    let mut seen = [0; 3];
+    for seed in 0..150 {
+        let rng = &mut Rng::new(1100 + seed);
+        let style = world::Style::mixed(1 + rng.below(8), 5 + rng.below(60));
+        let ops = world::World::random(rng, style).ops;
+        let log = log_of(&ops);
+        let held = log.held();
+        let body = |replica: usize, sequence: usize| {
+            let op = log
+                .get(replica - 1, sequence)
+                .expect("an op within a vector");
+            op.bytes().to_vec()
+        };
+        for _ in 0..40 {
+            let vector = match rng.below(4) {
+                0 => held,
+                1 => rng.pick(&ops).vector,
+                2 => op::join(&rng.pick(&ops).vector, &rng.pick(&ops).vector),
+                _ => held.map(|count| rng.below(usize::from(count) + 1) as u8),
+            };
+            for node in ops.iter().map(|op| op.node).chain([0, 1, 256, 2304]) {
+                let expected = knowledge(&vector, node, &body);
+                assert_eq!(log.knowledge(&vector, node), expected);
+                seen[expected as usize] += 1;
+            }
+        }
+    }
+    assert!(seen.iter().all(|&count| count > 10_000), "{seen:?}");
+}
+
 /// Soundness as the document puts it, number by number.
 fn is_sound(file: &[u8]) -> bool {
     let number = |at: usize| usize::from(file[at]) * 256 + usize::from(file[at + 1]);
@@ -223,13 +394,7 @@ fn passes(this: &Body, counts: &[usize], body: &dyn Fn(usize, usize) -> Body) ->
             (6..14).all(|at| last[at] <= this[at])
         }
     });
-    let known = |node: u16| {
-        let (replica, sequence) = (usize::from(node / 256), usize::from(node % 256));
-        (1..=8).contains(&replica)
-            && sequence >= 1
-            && sequence <= count(replica)
-            && body(replica, sequence)[0] == 1
-    };
+    let known = |node: u16| knowledge(&this[6..], node, body) != Knowledge::Unknown;
     let parent_known = parent(this) == 0 || known(parent(this));
     let (replica, sequence) = own(this);
     closed

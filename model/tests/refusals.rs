@@ -352,14 +352,143 @@ fn number_9_before_7_10_8() {
 
 #[test]
 fn number_10_before_8() {
-    let file = file_of(&removals());
+    let file = file_of(&unremoved());
     for room in [0, 14] {
         let mut buffer = in_buffer(&file, file.len() + room);
-        for (node, parent) in [(260, 258), (260, 770), (258, 259), (259, 770)] {
+        for (node, parent) in [(260, 258), (260, 769), (258, 259), (259, 769)] {
             let issue = Issue::Move(node, parent);
             assert_eq!(issue_checked(&mut buffer, 4, issue).0, Refused(10));
         }
-        let answer = issue_checked(&mut buffer, 4, Issue::Move(770, 260)).0;
-        assert_eq!(answer, if room == 0 { Refused(8) } else { Accepted(186) });
+        let answer = issue_checked(&mut buffer, 4, Issue::Move(769, 260)).0;
+        assert_eq!(answer, if room == 0 { Refused(8) } else { Accepted(130) });
+    }
+}
+
+/// 257 > 258 > 259, 260 > 261 and 262, of which 257 and 261 are marked; any
+/// number, by any replica.
+#[test]
+fn number_11_in_its_case_and_no_other() {
+    let file = file_of(&marked());
+    let marks = [257, 261];
+    let known = 257..=262;
+    let below = [(257, 258), (257, 259), (258, 259), (260, 261)];
+    let numbers: Vec<u16> = (0..600)
+        .chain([768, 769, 1025, 2303, 2304, 65535])
+        .collect();
+    for replica in [1, 2, 4] {
+        // Without room: what is not refused before is 8.
+        let mut buffer = file.clone();
+        let mut check = |issue: Issue, expected: u8| {
+            let answer = issue_checked(&mut buffer, replica, issue).0;
+            assert_eq!(answer, Refused(expected), "{issue:?}");
+        };
+        for &parent in &numbers {
+            let expected = match parent {
+                0 => 8,
+                _ if marks.contains(&parent) => 11,
+                _ if known.contains(&parent) => 8,
+                _ => 7,
+            };
+            check(Issue::Add(parent), expected);
+            for node in [0, 256, 257, 258, 259, 260, 261, 262, 263, 513] {
+                let expected = match (node, parent) {
+                    _ if !known.contains(&node) || node == parent => 7,
+                    _ if parent != 0 && !known.contains(&parent) => 7,
+                    _ if marks.contains(&node) || marks.contains(&parent) => 11,
+                    _ if below.contains(&(node, parent)) => 10,
+                    _ => 8,
+                };
+                check(Issue::Move(node, parent), expected);
+            }
+        }
+        for &node in &numbers {
+            let expected = if known.contains(&node) { 8 } else { 7 };
+            check(Issue::Remove(node), expected);
+        }
+    }
+}
+
+#[test]
+fn number_11_before_10_and_8() {
+    let file = file_of(&marked());
+    for room in [0, 13, 14, 100] {
+        let mut buffer = in_buffer(&file, file.len() + room);
+        // Below itself with the node, the parent or both marked.
+        for (node, parent) in [(257, 258), (257, 259), (260, 261)] {
+            let issue = Issue::Move(node, parent);
+            assert_eq!(issue_checked(&mut buffer, 1, issue).0, Refused(11));
+        }
+        let issue = Issue::Move(258, 259);
+        assert_eq!(issue_checked(&mut buffer, 1, issue).0, Refused(10));
+        for issue in [Issue::Add(257), Issue::Move(262, 261)] {
+            assert_eq!(issue_checked(&mut buffer, 1, issue).0, Refused(11));
+            assert_eq!(issue_in(&mut buffer, 1, issue, 13).0, Refused(2));
+            assert_eq!(issue_checked(&mut buffer, 9, issue).0, Refused(3));
+        }
+    }
+    // Both are marked, and one lies below the other.
+    let mut ops = marked();
+    ops.push(remove(4, 259, &[6, 1, 2]));
+    let mut buffer = file_of(&ops);
+    for (node, parent) in [(257, 259), (258, 259), (259, 258), (259, 0)] {
+        let issue = Issue::Move(node, parent);
+        assert_eq!(issue_checked(&mut buffer, 4, issue).0, Refused(11));
+    }
+}
+
+#[test]
+fn number_7_before_11() {
+    let mut buffer = in_buffer(&file_of(&marked()), 300);
+    for other in [1, 256, 263, 513, 769, 2304, 65535] {
+        for issue in [Issue::Move(257, other), Issue::Move(other, 257)] {
+            assert_eq!(issue_checked(&mut buffer, 4, issue).0, Refused(7));
+        }
+    }
+    for (node, parent) in [(257, 257), (261, 261), (0, 257), (0, 0)] {
+        let issue = Issue::Move(node, parent);
+        assert_eq!(issue_checked(&mut buffer, 4, issue).0, Refused(7));
+    }
+}
+
+#[test]
+fn number_9_before_11() {
+    let mut ops = adds(1, 255);
+    ops.push(remove(2, 257, &[255]));
+    let file = file_of(&ops);
+    for room in [0, 14] {
+        let mut buffer = in_buffer(&file, file.len() + room);
+        for issue in [Issue::Add(257), Issue::Move(257, 0), Issue::Move(258, 257)] {
+            assert_eq!(issue_checked(&mut buffer, 1, issue).0, Refused(9));
+            assert_eq!(issue_checked(&mut buffer, 2, issue).0, Refused(11));
+            assert_eq!(issue_checked(&mut buffer, 8, issue).0, Refused(11));
+        }
+    }
+}
+
+/// Delivering, judging and the rest never answer 11, on any of these nodes.
+#[test]
+fn number_11_at_issue_alone() {
+    let file = file_of(&marked());
+    for node in 257..=262 {
+        for vector in [&[6][..], &[6, 1], &[6, 0, 1], &[6, 0, 2], &[6, 1, 2]] {
+            let parent = if node == 262 { 257 } else { 262 };
+            for op in [
+                add(4, node, vector),
+                remove(4, node, vector),
+                up(4, node, parent, vector),
+                down(4, node, parent, vector),
+                down(4, parent, node, vector),
+            ] {
+                let mut buffer = in_buffer(&file, file.len() + 14);
+                let answer = deliver_checked(&mut buffer, &op.bytes());
+                assert_eq!(answer, Accepted(file.len() + 14));
+                assert_eq!(judge_in(&buffer, 2041, 2041).0, Done);
+                assert!(matches!(path_in(&buffer, node, 9).0, Count(_)));
+                for view in VIEWS {
+                    assert!(matches!(listing_in(&buffer, view, 200).0, Count(_)));
+                }
+                assert_eq!(deliver_checked(&mut buffer, &op.bytes()), HadIt);
+            }
+        }
     }
 }

@@ -94,18 +94,18 @@ fn later_bodies_of_other_replicas_may_be_named() {
 
 #[test]
 fn kinds_at_issue() {
-    let base = in_buffer(&file_of(&removals()), 400);
+    let base = in_buffer(&file_of(&unremoved()), 400);
     let kind = |node, parent| {
         let (answer, op) = issue_checked(&mut base.clone(), 2, Issue::Move(node, parent));
-        assert_eq!(answer, Accepted(186));
+        assert_eq!(answer, Accepted(130));
         op[0]
     };
-    // 260 > 258 > 259 > 770, and 257 alone.
+    // 260 > 258 > 259 > 769, and 257 alone.
     assert_eq!(kind(257, 260), 4, "equal depth");
     assert_eq!(kind(258, 260), 3, "present parent");
     assert_eq!(kind(257, 0), 3, "root");
-    assert_eq!(kind(257, 770), 4);
-    assert_eq!(kind(770, 257), 3);
+    assert_eq!(kind(257, 769), 4);
+    assert_eq!(kind(769, 257), 3);
 }
 
 #[test]
@@ -136,6 +136,205 @@ fn both_views() {
     let kept = "0 0 k\n1 260 r\n2 258 k\n3 259 r\n4 770 k\n";
     assert_eq!(listed(&file, View::Keeping), kept);
     assert_eq!(listed(&file, View::Skipping), "0 0 k\n");
+}
+
+/// 257 > 258 > 259, 260 > 261 and 262, of which 257 and 261 are marked.
+fn marked_in_buffer() -> Vec<u8> {
+    in_buffer(&file_of(&marked()), 400)
+}
+
+fn answer_of(buffer: &[u8], replica: u8, issue: Issue) -> Answer {
+    issue_checked(&mut buffer.to_vec(), replica, issue).0
+}
+
+/// All of these are accepted on the buffer as it is.
+fn assert_accepted(buffer: &[u8], issues: &[Issue]) {
+    for &issue in issues {
+        let answer = answer_of(buffer, 4, issue);
+        assert!(matches!(answer, Accepted(_)), "{issue:?} {answer:?}");
+    }
+}
+
+#[test]
+fn only_the_node_and_its_immediate_parent_count() {
+    let buffer = marked_in_buffer();
+    // What hangs below a marked node takes work and may be moved away.
+    let below = [Issue::Add(258), Issue::Add(259), Issue::Move(262, 258)];
+    assert_accepted(&buffer, &below);
+    assert_accepted(&buffer, &[Issue::Move(258, 0), Issue::Move(259, 262)]);
+    assert_accepted(&buffer, &[Issue::Move(259, 258), Issue::Move(258, 260)]);
+    // What hangs above one takes work too.
+    assert_accepted(&buffer, &[Issue::Add(260), Issue::Move(260, 262)]);
+    // Back under the parent that it has, which is marked.
+    assert_eq!(answer_of(&buffer, 4, Issue::Move(258, 257)), Refused(11));
+}
+
+#[test]
+fn a_marked_node_takes_no_new_work() {
+    let buffer = marked_in_buffer();
+    for replica in 1..=8 {
+        for issue in [
+            Issue::Add(257),
+            Issue::Add(261),
+            Issue::Move(257, 0),
+            Issue::Move(257, 262),
+            Issue::Move(262, 257),
+            Issue::Move(257, 261),
+            Issue::Move(261, 257),
+        ] {
+            assert_eq!(answer_of(&buffer, replica, issue), Refused(11));
+        }
+    }
+}
+
+#[test]
+fn a_marked_node_may_be_removed_again() {
+    let mut buffer = marked_in_buffer();
+    // By who removed it, by another, and once more.
+    for (replica, node) in [(2, 257), (3, 257), (4, 257), (2, 261), (2, 261)] {
+        let answer = issue_checked(&mut buffer, replica, Issue::Remove(node)).0;
+        assert!(matches!(answer, Accepted(_)));
+    }
+    assert_eq!(answer_of(&buffer, 4, Issue::Add(257)), Refused(11));
+    let mut full = file_of(&marked());
+    let issue = Issue::Remove(257);
+    assert_eq!(issue_checked(&mut full, 4, issue).0, Refused(8));
+}
+
+#[test]
+fn a_mark_comes_before_a_circle() {
+    let buffer = marked_in_buffer();
+    for (node, parent, number) in [
+        (257, 258, 11),
+        (257, 259, 11),
+        (260, 261, 11),
+        (258, 259, 10),
+    ] {
+        let answer = answer_of(&buffer, 4, Issue::Move(node, parent));
+        assert_eq!(answer, Refused(number));
+    }
+}
+
+#[test]
+fn an_unknown_node_comes_before_a_mark() {
+    let buffer = marked_in_buffer();
+    for (node, parent) in [(257, 263), (263, 257), (257, 513), (257, 257), (0, 257)] {
+        let answer = answer_of(&buffer, 4, Issue::Move(node, parent));
+        assert_eq!(answer, Refused(7));
+    }
+}
+
+#[test]
+fn the_root_is_never_marked() {
+    let mut buffer = marked_in_buffer();
+    for node in 257..=262 {
+        issue_checked(&mut buffer, 1, Issue::Remove(node));
+    }
+    assert_eq!(answer_of(&buffer, 1, Issue::Remove(0)), Refused(7));
+    assert_accepted(&buffer, &[Issue::Add(0)]);
+    assert_eq!(answer_of(&buffer, 1, Issue::Move(262, 0)), Refused(11));
+    let (_, op) = issue_checked(&mut buffer, 1, Issue::Add(0));
+    let added = u16::from_be_bytes([op[2], op[3]]);
+    assert_accepted(&buffer, &[Issue::Add(added)]);
+}
+
+/// Of two replicas one removes a node and the other, not having met that, works
+/// on it. Both take the other's op, and then neither issues there.
+#[test]
+fn work_of_a_replica_that_has_not_met_the_removal_is_taken() {
+    let base = in_buffer(&file_of(&unmet()), 400);
+    for issue in [
+        Issue::Add(257),
+        Issue::Move(257, 262),
+        Issue::Move(262, 257),
+        Issue::Move(258, 0),
+        Issue::Remove(257),
+    ] {
+        let (mut one, mut two) = (base.clone(), base.clone());
+        let removal = issue_checked(&mut one, 2, Issue::Remove(257)).1;
+        let (answer, work) = issue_checked(&mut two, 3, issue);
+        assert_eq!(answer, Accepted(130));
+        assert_eq!(deliver_checked(&mut one, &work), Accepted(144));
+        assert_eq!(deliver_checked(&mut two, &removal), Accepted(144));
+        assert_eq!(one, two);
+        assert_eq!(outcome(&one, 3, 1), 1);
+        for replica in 1..=8 {
+            assert_eq!(answer_of(&one, replica, Issue::Add(257)), Refused(11));
+            assert_eq!(answer_of(&two, replica, Issue::Move(257, 0)), Refused(11));
+        }
+    }
+}
+
+/// What the marked node got from there is no marked node itself.
+#[test]
+fn a_child_added_past_a_removal_takes_work() {
+    let mut buffer = marked_in_buffer();
+    let child = add(4, 257, &[6]).bytes();
+    assert!(matches!(deliver_checked(&mut buffer, &child), Accepted(_)));
+    assert_accepted(&buffer, &[Issue::Add(1025), Issue::Move(1025, 262)]);
+    assert_eq!(answer_of(&buffer, 4, Issue::Move(1025, 257)), Refused(11));
+    let kept = "0 0 k\n1 257 r\n2 258 k\n3 259 k\n2 1025 k\n1 260 k\n1 262 k\n";
+    assert_eq!(listed(&buffer, View::Keeping), kept);
+    assert_eq!(listed(&buffer, View::Skipping), "0 0 k\n1 260 k\n1 262 k\n");
+}
+
+/// A move that the remover had not met takes the node elsewhere, with its mark.
+#[test]
+fn a_mark_stays_with_a_moved_node() {
+    let mut buffer = marked_in_buffer();
+    let away = down(4, 257, 262, &[6]).bytes();
+    assert!(matches!(deliver_checked(&mut buffer, &away), Accepted(_)));
+    assert_eq!(path_in(&buffer, 257, 9).1, [257, 262, 0]);
+    assert_eq!(answer_of(&buffer, 4, Issue::Move(257, 0)), Refused(11));
+    assert_eq!(answer_of(&buffer, 4, Issue::Add(257)), Refused(11));
+}
+
+/// Issuing alone asks for marks: an op that has met the removal is sound, and
+/// is taken.
+#[test]
+fn soundness_and_delivery_ask_no_mark() {
+    let mut buffer = marked_in_buffer();
+    for op in [
+        add(4, 257, &[6, 1, 2]),
+        up(4, 257, 0, &[6, 1, 2, 1]),
+        down(4, 262, 261, &[6, 1, 2, 2]),
+        down(5, 261, 257, &[6, 1, 2, 3]),
+    ] {
+        let answer = deliver_checked(&mut buffer, &op.bytes());
+        assert!(matches!(answer, Accepted(_)));
+    }
+    assert!(is_sound(&buffer));
+    assert!(is_sound(&file_of(&removals())));
+}
+
+#[test]
+fn three_outcomes_by_vector() {
+    use Knowledge::*;
+    let log = log_of(&marked());
+    let knowledge = |counts: &[u8], node| log.knowledge(&v(counts), node);
+    // 257 is added by 1:1 and removed by 2:1 and 3:2.
+    for (counts, expected) in [
+        (&[][..], Unknown),
+        (&[0, 1, 2], Unknown),
+        (&[1], Unmarked),
+        (&[6], Unmarked),
+        (&[6, 0, 1], Unmarked),
+        (&[6, 1], Marked),
+        (&[6, 0, 2], Marked),
+        (&[6, 1, 2], Marked),
+    ] {
+        assert_eq!(knowledge(counts, 257), expected, "{counts:?}");
+        assert_eq!(knowledge(counts, 257).is_known(), expected != Unknown);
+    }
+    // 261 is added by 1:5 and removed by 3:1.
+    assert_eq!(knowledge(&[4, 0, 1], 261), Unknown);
+    assert_eq!(knowledge(&[5, 1], 261), Unmarked);
+    assert_eq!(knowledge(&[6, 0, 1], 261), Marked);
+    // A node below a marked one, and numbers of no node.
+    assert_eq!(knowledge(&[6, 1, 2], 258), Unmarked);
+    for node in [0, 1, 256, 263, 513, 769, 770, 2304, 65535] {
+        assert_eq!(knowledge(&[6, 1, 2], node), Unknown);
+    }
 }
 
 #[test]

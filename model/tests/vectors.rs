@@ -88,7 +88,7 @@ fn sections_reach_every_answer() {
     deliver.extend(["h ", "a 32 ", "a 28592 "]);
     reaches("deliver", &deliver);
     reaches("judge", &["r 1 ", "r 2 ", "d "]);
-    let owned = refusals(&[1, 2, 3, 7, 8, 9, 10]);
+    let owned = refusals(&[1, 2, 3, 7, 8, 9, 10, 11]);
     let mut issue: Vec<&str> = owned.iter().map(String::as_str).collect();
     issue.push("a 28592 ");
     reaches("issue", &issue);

@@ -32,6 +32,8 @@ pub enum Refusal {
     Exhausted = 9,
     /// The new parent lies below the node.
     Cycle = 10,
+    /// The parent of new work, or the node of a move, is removed.
+    Marked = 11,
 }
 
 impl Refusal {
@@ -47,6 +49,7 @@ impl Refusal {
         Refusal::NoRoom,
         Refusal::Exhausted,
         Refusal::Cycle,
+        Refusal::Marked,
     ];
 
     /// The number by which the format's rules name it.
@@ -84,6 +87,7 @@ impl fmt::Display for Refusal {
             Refusal::NoRoom => "the lent memory is too short",
             Refusal::Exhausted => "the replica has issued its 255 ops",
             Refusal::Cycle => "the new parent lies below the node",
+            Refusal::Marked => "the node or the parent is removed",
         })
     }
 }

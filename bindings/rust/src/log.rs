@@ -93,13 +93,14 @@ impl Log {
     ///
     /// - [`Refusal::Exhausted`]: the replica has issued its 255 ops
     /// - [`Refusal::Unknown`]: the log has no such parent
+    /// - [`Refusal::Marked`]: the parent is removed
     pub fn add(&mut self, replica: Replica, parent: Node) -> Result<Op, Refusal> {
         let (replica, parent) = (replica.number(), parent.number());
         self.issue(|buf, out| plain::issue_add(buf, replica, parent, out))
     }
 
     /// Marks a node of the log as removed. It keeps its place, and what is
-    /// below it is not marked.
+    /// below it is not marked. A removed node may be removed again.
     ///
     /// # Errors
     ///
@@ -118,6 +119,7 @@ impl Log {
     /// - [`Refusal::Exhausted`]: the replica has issued its 255 ops
     /// - [`Refusal::Unknown`]: the log has no such node or parent, or the node
     ///   is the root, or the parent is the node
+    /// - [`Refusal::Marked`]: the node or the parent is removed
     /// - [`Refusal::Cycle`]: the parent lies below the node
     pub fn move_to(&mut self, replica: Replica, node: Node, parent: Node) -> Result<Op, Refusal> {
         let (replica, node, parent) = (replica.number(), node.number(), parent.number());

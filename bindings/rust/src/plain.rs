@@ -191,6 +191,7 @@ pub fn deliver(buf: &mut [u8], op: &[u8]) -> Result<Delivery, Refusal> {
 /// The first that applies, in this order: [`Unsound`](Refusal::Unsound),
 /// [`Length`](Refusal::Length), [`Malformed`](Refusal::Malformed),
 /// [`Exhausted`](Refusal::Exhausted), [`Unknown`](Refusal::Unknown),
+/// [`Marked`](Refusal::Marked) if the parent is removed,
 /// [`NoRoom`](Refusal::NoRoom).
 ///
 /// ```
@@ -219,7 +220,8 @@ pub fn issue_add(
 ///
 /// # Errors
 ///
-/// The same as [`issue_add`].
+/// The same as [`issue_add`] but for [`Marked`](Refusal::Marked): a removed node
+/// may be removed again.
 ///
 /// ```
 /// use outline::{plain, Refusal, View};
@@ -231,6 +233,7 @@ pub fn issue_add(
 /// let mut text = [0; 100];
 /// let length = plain::listing(&buf, View::Keeping, &mut text)?;
 /// assert_eq!(&text[..length], b"0 0 k\n");
+/// assert_eq!(plain::issue_add(&mut buf, 2, 257, &mut op), Err(Refusal::Marked));
 /// # Ok::<(), Refusal>(())
 /// ```
 #[inline]
@@ -249,8 +252,9 @@ pub fn issue_remove(
 /// # Errors
 ///
 /// The same as [`issue_add`]; [`Unknown`](Refusal::Unknown) also if the parent
-/// is the node, and after it [`Cycle`](Refusal::Cycle) if the parent lies below
-/// the node.
+/// is the node, and after it [`Marked`](Refusal::Marked) if the node or the
+/// parent is removed, and [`Cycle`](Refusal::Cycle) if the parent lies below the
+/// node.
 ///
 /// ```
 /// use outline::{plain, Refusal};

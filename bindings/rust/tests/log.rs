@@ -6,6 +6,29 @@ use common::{all, machines, node, replica, Rng};
 use outline::{plain, Delivery, Kind, Log, Node, Op, Refusal, Vector};
 
 #[test]
+fn removed_nodes_take_no_new_work() {
+    let (me, other) = (replica(1), replica(2));
+    let mut log = Log::new();
+    let a = log.add(me, Node::ROOT).unwrap().node();
+    let b = log.add(me, a).unwrap().node();
+    let mut unmet = log.clone();
+    let late = unmet.add(other, a).unwrap();
+    log.remove(me, a).unwrap();
+    let before = log.clone();
+    assert_eq!(log.add(me, a), Err(Refusal::Marked));
+    assert_eq!(log.move_to(me, a, Node::ROOT), Err(Refusal::Marked));
+    assert_eq!(log.move_to(me, b, a), Err(Refusal::Marked));
+    assert_eq!(log.move_to(me, a, b), Err(Refusal::Marked));
+    assert_eq!(log, before);
+    assert!(log.add(me, b).is_ok());
+    assert!(log.remove(other, a).is_ok());
+    assert_eq!(log.deliver(&late), Err(Refusal::Conflict));
+    let mut met = before.clone();
+    assert!(matches!(met.deliver(&late), Ok(Delivery::Accepted(_))));
+    assert_eq!(met.parent(late.node()), Some(a));
+}
+
+#[test]
 fn issuing() {
     let me = replica(1);
     let mut log = Log::new();

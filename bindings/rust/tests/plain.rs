@@ -89,6 +89,27 @@ fn issuing() {
 }
 
 #[test]
+fn removed_nodes_take_no_new_work() {
+    let mut buf = two_nodes();
+    let mut unmet = [0; 14];
+    let mut other = buf.clone();
+    assert_eq!(plain::issue_add(&mut other, 2, 257, &mut unmet), Ok(74));
+    let mut out = [7; 14];
+    assert_eq!(plain::issue_remove(&mut buf, 1, 257, &mut out), Ok(74));
+    let (before, mut out) = (buf.clone(), [7; 14]);
+    for (node, parent) in [(257, 0), (258, 257), (257, 258)] {
+        let refused = plain::issue_move(&mut buf, 1, node, parent, &mut out);
+        assert_eq!(refused, Err(Refusal::Marked));
+    }
+    let refused = plain::issue_move(&mut buf, 1, 257, 260, &mut out);
+    assert_eq!(refused, Err(Refusal::Unknown));
+    let refused = plain::issue_add(&mut buf[..74], 1, 257, &mut out);
+    assert_eq!(refused, Err(Refusal::Marked));
+    assert_eq!((&buf, out), (&before, [7; 14]));
+    assert_eq!(plain::deliver(&mut buf, &unmet), Ok(Delivery::Accepted(88)));
+}
+
+#[test]
 fn exhausted() {
     let mut buf = empty(plain::LARGEST);
     let mut op = [0; 14];

@@ -24,6 +24,8 @@ pub enum Refusal {
     Exhausted,
     // 10: the new parent lies below the node.
     Cycle,
+    // 11: the node or the parent of new work is marked.
+    Marked,
 }
 
 // What a call answers.

@@ -42,7 +42,7 @@ module _ (f b out : List ℕ) (s : ℕ) (q : Request) (n : ℕ) (ok : issueAnswe
   again =
       let a = allowed width f (length out) s q n ok in
       let space = le-leb width (length out) (a .space) in
-      rw (is-sound, one-log, space, a .is-replica, lt-ltb _ 255 (a .count), a .names, a .clear, le-leb _ _ fits)
+      rw (is-sound, one-log, space, a .is-replica, lt-ltb _ 255 (a .count), a .names, a .is-unmarked, a .clear, le-leb _ _ fits)
 
   pub issue-adds : Adds b (issued (logOf width f) s q) (issue out s q)
   unfolding answer bufferAfter issueBuffer

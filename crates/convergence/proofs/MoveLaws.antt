@@ -10,7 +10,7 @@ use mathlib.Core.Path.{refl, _≡_, _∙_}
 use native.Mathlib.Omega.{arith}
 use Rattle.rules.proofs.CircleLaws.{second-blocked, first-below, second-free, cut-off, reached}
 use Rattle.convergence.specs.Clash.{Move, nextSlot, request, circle, hang}
-use Rattle.rules.proofs.KnownLaws.{Named, named-valid, parent-reads, known-reads}
+use Rattle.rules.proofs.KnownLaws.{Known, Named, named-valid, parent-reads, known-reads}
 use Rattle.order.proofs.GrowLaws.{Tree}
 use Rattle.order.proofs.RunLaws.{replay-run}
 use Rattle.rules.proofs.IssueLaws.{counts-eight, bytes-parent, bytes-vector, bytes-node, Allowed}
@@ -21,7 +21,6 @@ use Rattle.rules.proofs.TreeLaws.{still-reaches, free-avoids}
 use Rattle.rules.specs.Issue.{issued, opBytes, requestKnown, requestClear}
 use Rattle.rules.specs.Tree.{moveKind, depth, slot, slots, atOrBelow, slotOf}
 use Rattle.rules.specs.File.{Log, countsOf, logOf}
-use Rattle.rules.specs.Log.{known}
 use Rattle.rules.specs.Op.{Op, countIn, isMove, nodeOf, parentOf, seqOf, kindOf, ownCount, replicaOf, vectorOf, isReplica}
 use Rattle.rules.specs.Replay.{outcomeSlot, parentsOf, replay}
 
@@ -38,7 +37,7 @@ pub record Asked (log : Log) (x : Move) : Type 0 where
   pub low : 1 ≤ x .replica
   pub high : x .replica ≤ 8
   pub count : countIn (countsOf log) (x .replica) < 255
-  pub node-known : known log (countsOf log) (x .node) ≡ true
+  pub node-known : Known log (countsOf log) (x .node)
   pub parent-named : Named log (countsOf log) (x .parent)
   pub clear : atOrBelow (parentsOf log) (x .parent) (x .node) ≡ false
 

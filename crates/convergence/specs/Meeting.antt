@@ -13,12 +13,13 @@ use Rattle.rules.specs.Bytes.{wordAt, word}
 use Rattle.lists.specs.Lists.{all, upFrom, downFrom, sum, concat, greatest, same, any, filter, isIn}
 use Rattle.rules.specs.Deliver.{makeAnswer, deliverBuffer, makeBuffer, deliverAnswer, heldAnswer, admitAnswer, isHeld}
 use Rattle.rules.specs.Examples.{p1, adds, p1File, vector}
-use Rattle.rules.specs.Issue.{opBytes, add, move, requestKnown, issued, issueAnswer, requestClear, issueBuffer, issueOut}
+use Rattle.rules.specs.Issue.{opBytes, add, move, requestKnown, requestUnmarked, issued, issueAnswer, requestClear, issueBuffer, issueOut}
 use Rattle.rules.specs.Tree.{moveKind, climb, path, atOrBelow, slot, slotOf, depth, parentIn}
 use Rattle.rules.specs.File.{emptyLog, opsOf, opAt, countsOf, append, countAt, startAt, headerCounts, startOf, endOf, fileEnd, chunks, chunksOf, logOf, headerEntry, headerOf, fileOf, within, appended, width}
-use Rattle.rules.specs.Log.{covered, closedAt, closed, nodeWithin, known, knownParent, namesKnown, soundOp, soundOps, soundLog, soundHeader, laid, structural}
+use Rattle.rules.specs.Log.{covered, closedAt, closed, knownParent, namesKnown, soundOp, soundOps, soundLog, soundHeader, laid, structural}
 use Rattle.rules.specs.Op.{Op, replicas, isReplica, countIn, kindOf, replicaOf, nodeOf, parentOf, vectorOf, ownCount, seqOf, nodeNumber, isAdd, isRemove, isMove, wellFormed}
-use Rattle.rules.specs.Replay.{ofTime, timestampIn, stamped, parentsOf, ofReplica, byTime, ofKind, start, outcomeSlot, outcomeOf, opsWithin, stamp, ordered, outcomesOf, replay, timestamp, step}
+use Rattle.rules.specs.Replay.{ofTime, timestampIn, stamped, parentsOf, ofReplica, byTime, ofKind, start, outcomeSlot, outcomeOf, opsWithin, removedIn, stamp, ordered, outcomesOf, replay, timestamp, step}
+use Rattle.rules.specs.Marks.{isKnown, isMarked, knowledge, marked, nodeWithin}
 use Rattle.rules.specs.Sound.{sound}
 
 -- P1's ops: replica 1 issues the first three, and replica 2, which has the first two, issues the last
@@ -86,11 +87,12 @@ pub met : Met
 unfolding p1 p1File require wordAt word upFrom downFrom sum greatest same concat all any filter isIn replicas isReplica countIn kindOf
     replicaOf nodeOf parentOf vectorOf ownCount seqOf nodeNumber isAdd isRemove isMove wellFormed emptyLog opsOf opAt countsOf append
     countAt startAt headerCounts startOf endOf fileEnd chunks chunksOf logOf headerEntry headerOf fileOf within covered closedAt closed
-    nodeWithin known knownParent namesKnown soundOp soundOps soundLog soundHeader laid structural sound makeAnswer isHeld heldAnswer
-    admitAnswer deliverAnswer slot slotOf parentIn climb path depth atOrBelow opsWithin timestampIn timestamp stamp stamped ofReplica ofKind
-    ofTime byTime ordered start outcomeSlot outcomeOf step replay parentsOf outcomesOf opBytes moveKind issued requestKnown requestClear
-    issueAnswer makeBuffer deliverBuffer appended issueBuffer issueOut answer bufferAfter heldThen perform run has opNumbered inOrder
-    arrange other isSide onlyIn missing answerTo offered after answers acceptances acceptedBy expected everything
+    isKnown isMarked nodeWithin marked knowledge knownParent namesKnown soundOp soundOps soundLog soundHeader laid structural sound
+    makeAnswer isHeld heldAnswer admitAnswer deliverAnswer slot slotOf parentIn climb path depth atOrBelow opsWithin timestampIn timestamp
+    stamp stamped ofReplica ofKind ofTime byTime ordered start outcomeSlot outcomeOf step replay parentsOf outcomesOf opBytes moveKind
+    issued requestKnown requestUnmarked requestClear issueAnswer makeBuffer deliverBuffer appended issueBuffer issueOut answer bufferAfter
+    heldThen perform run has opNumbered inOrder arrange other isSide onlyIn missing answerTo offered after answers acceptances acceptedBy
+    expected everything removedIn
 met = record {
   held-left = refl;
   held-right = refl;
@@ -138,11 +140,11 @@ last-first false false c d = refl
 
 -- each way of arriving comes to the same file
 arrived : (h : List ℕ) → h ≡ p1File → BothAdded shared h a₃ b₁
-unfolding p1 p1File require wordAt word upFrom sum same concat all any replicas isReplica countIn kindOf replicaOf nodeOf parentOf vectorOf
-    ownCount seqOf nodeNumber isAdd isRemove wellFormed emptyLog opsOf opAt countsOf append countAt startAt headerCounts startOf endOf
-    fileEnd chunks chunksOf logOf headerEntry headerOf fileOf within covered closedAt closed nodeWithin known knownParent namesKnown soundOp
-    soundOps soundLog soundHeader laid structural sound makeAnswer isHeld heldAnswer admitAnswer deliverAnswer opBytes makeBuffer
-    deliverBuffer appended answer bufferAfter heldThen perform run has
+unfolding p1 p1File require wordAt word upFrom sum same concat all any replicas isReplica countIn kindOf replicaOf nodeOf parentOf
+    vectorOf ownCount seqOf nodeNumber isAdd isRemove wellFormed emptyLog opsOf opAt countsOf append countAt startAt headerCounts startOf
+    endOf fileEnd chunks chunksOf logOf headerEntry headerOf fileOf within covered closedAt closed isKnown nodeWithin marked
+    knowledge knownParent namesKnown soundOp soundOps soundLog soundHeader laid structural sound makeAnswer isHeld heldAnswer admitAnswer
+    deliverAnswer opBytes makeBuffer deliverBuffer appended answer bufferAfter heldThen perform run has removedIn opsWithin filter isIn
 arrived h e = rw e (record {
   is-sound = refl;
   ops = λ z. last-first (same z a₁) (same z a₂) (same z a₃) (same z b₁);
@@ -152,10 +154,11 @@ pub clashed : Clashed
 unfolding p1 p1File require wordAt word upFrom downFrom sum greatest same concat all any filter isIn replicas isReplica countIn kindOf
     replicaOf nodeOf parentOf vectorOf ownCount seqOf nodeNumber isAdd isRemove isMove wellFormed emptyLog opsOf opAt countsOf append
     countAt startAt headerCounts startOf endOf fileEnd chunks chunksOf logOf headerEntry headerOf fileOf within covered closedAt closed
-    nodeWithin known knownParent namesKnown soundOp soundOps soundLog soundHeader laid structural sound makeAnswer isHeld heldAnswer
-    admitAnswer deliverAnswer slot slotOf parentIn climb path depth atOrBelow opsWithin timestampIn timestamp stamp stamped ofReplica ofKind
-    ofTime byTime ordered start outcomeSlot outcomeOf step replay parentsOf outcomesOf opBytes moveKind issued requestKnown requestClear
-    issueAnswer makeBuffer deliverBuffer appended issueBuffer issueOut answer bufferAfter heldThen perform run circle beats
+    isKnown isMarked nodeWithin marked knowledge knownParent namesKnown soundOp soundOps soundLog soundHeader laid structural sound
+    makeAnswer isHeld heldAnswer admitAnswer deliverAnswer slot slotOf parentIn climb path depth atOrBelow opsWithin timestampIn timestamp
+    stamp stamped ofReplica ofKind ofTime byTime ordered start outcomeSlot outcomeOf step replay parentsOf outcomesOf opBytes moveKind
+    issued requestKnown requestUnmarked requestClear issueAnswer makeBuffer deliverBuffer appended issueBuffer issueOut answer bufferAfter
+    heldThen perform run circle beats removedIn
 clashed = record {
   both-issued = record {
     one-log = refl;

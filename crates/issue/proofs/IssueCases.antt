@@ -2,19 +2,20 @@
 use mathlib.Core.Path.{_≡_, refl, sym, _∙_, ap}
 use mathlib.Core.Bool.{Bool, true, false, cond, not, and-eq-true-iff}
 use mathlib.Core.List.{List, _++_}
-use Prim.Native.Nat.{ℕ, _+_, _≤_, _<_, _/_}
+use Prim.Native.Nat.{ℕ, _+_, _≤_, _<_}
 use native.Mathlib.Omega.{arith}
-use lib.ListN.{length, take, drop}
+use lib.ListN.{length, take, drop, replicate}
 use lib.Seq.{take-at}
 use lib.Dec.{ltb, eqb}
 use borrow.Author.Needs.{needs}
 use borrow.Author.Tests.{leb-true, ltb-true, le-leb}
 use Rattle.rules.specs.Answer.{Answer, refused, require}
 use Rattle.rules.specs.Bytes.{word}
-use Rattle.rules.specs.Issue.{Request, add, remove, move, Issued, issueAnswer, issueBuffer, issueOut, issued, opBytes, requestClear, requestKnown}
-use Rattle.rules.specs.Tree.{moveKind, atOrBelow, depth}
+use Rattle.rules.specs.Issue.{Request, add, remove, move, Issued, issueAnswer, issueBuffer, issueOut, issued, opBytes, requestClear, requestKnown, requestUnmarked}
+use Rattle.rules.specs.Tree.{moveKind, atOrBelow, depth, slots}
 use Rattle.rules.specs.File.{Log, width, appended, countsOf, headerCounts, logOf}
-use Rattle.rules.specs.Log.{known, knownParent, nodeWithin}
+use Rattle.rules.specs.Log.{knownParent}
+use Rattle.rules.specs.Marks.{isKnown, isMarked, knowledge}
 use Rattle.rules.specs.Op.{Vector, countIn, isReplica, nodeNumber, replicaOf}
 use Rattle.rules.specs.Replay.{parentsOf}
 use Rattle.rules.specs.Sound.{sound}
@@ -24,7 +25,7 @@ use Rattle.rules.proofs.SoundLaws.{sound-structural}
 use Rattle.codec.specs.Asked.{isAccepted}
 use Rattle.codec.specs.Answers.{numberOf}
 use Rattle.codec.specs.declared.answer.Refusal.{Refusal}
-use Rattle.codec.specs.declared.answer.Refusal.the-variants.{Unknown, Exhausted, Cycle}
+use Rattle.codec.specs.declared.answer.Refusal.the-variants.{Unknown, Exhausted, Cycle, Marked}
 use Rattle.codec.proofs.AnswerLaws.{if-accepted, if-not-accepted}
 use Rattle.tree.specs.Climb.{moveOrCycle}
 use Rattle.delivery.specs.Adding.{lastTest, Acceptable}
@@ -34,9 +35,14 @@ use Rattle.issue.specs.declared.request.Drafted.{Drafted}
 use Rattle.issue.specs.declared.request.Drafted.the-variants.{Op, Refused}
 use Rattle.issue.specs.declared.request.Request.the-variants.{Add, Remove, Move}
 use Rattle.soundness.proofs.SoundCases.{tallied-held, tallied}
+use Rattle.marks.specs.Marking.{Markable, noMarks}
+use Rattle.marks.specs.Knowing.{knowledgeOf}
 use Rattle.delivery.proofs.AddCases.{has-room}
 use Rattle.rules.specs.Issue as rules
 use Rattle.issue.specs.declared.request.Request as code
+use Rattle.marks.specs.declared.knowing.Knowledge as code-marks
+use Rattle.marks.specs.declared.knowing.Knowledge.the-variants as marks
+use Rattle.rules.proofs.KnownLaws.{Known, known-reads}
 
 -- what a call hands back
 abbrev handed : Answer → (buffer out : List ℕ) → Issued
@@ -50,7 +56,7 @@ module _ (log : Log) (q : code.Request) (r : Bool) where
     unfolding requestKnown
     add-known p e h = rw (e, ← is) h
 
-    pub remove-known : (n : ℕ) → q ≡ Remove n → r ≡ known log v n → r ≡ requestKnown log (requestOf q)
+    pub remove-known : (n : ℕ) → q ≡ Remove n → r ≡ isKnown (knowledge log v n) → r ≡ requestKnown log (requestOf q)
     unfolding requestKnown
     remove-known n e h = rw (e, ← is) h
 
@@ -58,11 +64,11 @@ module _ (log : Log) (q : code.Request) (r : Bool) where
   move-known n p e h = rw e h
 
 module _ (log : Log) (v : Vector) (is : v ≡ countsOf log) (n p : ℕ) where
-  pub node-unknown : known log v n ≡ false → false ≡ requestKnown log (move n p)
+  pub node-unknown : isKnown (knowledge log v n) ≡ false → false ≡ requestKnown log (move n p)
   unfolding requestKnown
   node-unknown e = rw (← is, e)
 
-  module _ (a : known log v n ≡ true) where
+  module _ (a : Known log v n) where
     pub parent-unknown : knownParent log v p ≡ false → false ≡ requestKnown log (move n p)
     unfolding requestKnown
     parent-unknown e = rw (← is, a, e)
@@ -71,15 +77,62 @@ module _ (log : Log) (v : Vector) (is : v ≡ countsOf log) (n p : ℕ) where
     unfolding requestKnown
     both-known e = rw (← is, a, e)
 
+---- number 11
+
+-- a table without marks, to be filled
+pub no-marks : (f : List ℕ) → sound width f ≡ true → Markable f (replicate slots 0)
+unfolding noMarks
+no-marks f a = record { is-sound = a; unmarked = refl }
+
+-- k is what the held counts know of a node
+module _ (log : Log) (v : Vector) (n : ℕ) (k : code-marks.Knowledge) (is : knowledgeOf k ≡ knowledge log v n) where
+  pub work-unknown : k ≡ marks.Unknown → true ≡ not (isMarked (knowledge log v n))
+  unfolding isMarked
+  work-unknown e = rw (← is, e)
+
+  pub work-unmarked : k ≡ marks.KnownUnmarked → true ≡ not (isMarked (knowledge log v n))
+  unfolding isMarked
+  work-unmarked e = rw (← is, e)
+
+  pub work-marked : k ≡ marks.KnownMarked → false ≡ not (isMarked (knowledge log v n))
+  unfolding isMarked
+  work-marked e = rw (← is, e)
+
+module _ (log : Log) (v : Vector) (is : v ≡ countsOf log) (n p : ℕ) where
+  pub add-works : (r : Bool) → r ≡ not (isMarked (knowledge log v p)) → r ≡ requestUnmarked log (add p)
+  unfolding requestUnmarked
+  add-works r e = rw (← is) e
+
+  pub node-marked : not (isMarked (knowledge log v n)) ≡ false → false ≡ requestUnmarked log (move n p)
+  unfolding requestUnmarked
+  node-marked e = rw (← is, e)
+
+  pub move-works : not (isMarked (knowledge log v n)) ≡ true → (r : Bool) → r ≡ not (isMarked (knowledge log v p))
+      → r ≡ requestUnmarked log (move n p)
+  unfolding requestUnmarked
+  move-works e r h = rw (← is, e) h
+
+module _ (log : Log) (q : code.Request) where
+  pub remove-unmarked : (n : ℕ) → q ≡ Remove n → true ≡ requestUnmarked log (requestOf q)
+  unfolding requestUnmarked
+  remove-unmarked n e = rw e
+
+  module _ (r : Bool) where
+    pub add-unmarked : (p : ℕ) → q ≡ Add p → r ≡ requestUnmarked log (add p) → r ≡ requestUnmarked log (requestOf q)
+    add-unmarked p e h = rw e h
+
+    pub move-unmarked : (n p : ℕ) → q ≡ Move n p → r ≡ requestUnmarked log (move n p) → r ≡ requestUnmarked log (requestOf q)
+    move-unmarked n p e h = rw e h
+
 ---- number 10, and the op
 
 -- a known node is no more than 2,303
 pub known-small : (log : Log) (n p : ℕ) → requestKnown log (move n p) ≡ true → n < 65535
-unfolding requestKnown known nodeWithin isReplica
+unfolding requestKnown
 known-small log n p e =
     let h = simp and-eq-true-iff at e in
-    let b : n / 256 ≤ 8 = leb-true _ _ (h .0 .0 .0 .0 .0 .1) in
-    omega arith
+    let w = known-reads log (countsOf log) n (h .0 .0) .0 in
+    omega (arith, w .high)
 
 -- b tells whether a move closes a circle, and m is its kind
 kind-by : (b : Bool) → let m : ℕ = cond b 3 4 in m ≡ 0 → ⊥
@@ -144,11 +197,16 @@ module _ (f : List ℕ) (s : ℕ) (q : Request) (v : Vector) (is : v ≡ headerC
     pub known-request : sound width f ≡ true → isReplica s ≡ true → requestKnown (logOf width f) q ≡ true → KnownRequest f v s q
     known-request b r e = record { tallied = tallied f b v is; is-replica = r; names = e }
 
-    pub drafts :
-        requestKnown (logOf width f) q ≡ true → (r : Drafted) → r ≡ clearedOp (logOf width f) s q →
-        r ≡ drafted (logOf width f) s q
-    unfolding drafted
-    drafts e r m = rw (counts-logOf width f, ← is, a, e) m
+    module _ (e : requestKnown (logOf width f) q ≡ true) where
+      pub marked : requestUnmarked (logOf width f) q ≡ false → Refused Marked ≡ drafted (logOf width f) s q
+      unfolding drafted
+      marked u = rw (counts-logOf width f, ← is, a, e, u)
+
+      pub drafts :
+          requestUnmarked (logOf width f) q ≡ true → (r : Drafted) → r ≡ clearedOp (logOf width f) s q →
+          r ≡ drafted (logOf width f) s q
+      unfolding drafted
+      drafts u r m = rw (counts-logOf width f, ← is, a, e, u) m
 
 ---- the op that is put out
 
@@ -228,7 +286,8 @@ module _ (f : List ℕ) (s : ℕ) where
   answer-by room l q =
       rw (l .issuer .is-sound, le-leb width room (l .space), l .issuer .is-replica)
       (step (ltb (countIn (countsOf (logOf width f)) s) 255) Exhausted _ _
-      (step (requestKnown (logOf width f) q) Unknown _ _ (cleared-by q)))
+      (step (requestKnown (logOf width f) q) Unknown _ _
+      (step (requestUnmarked (logOf width f) q) Marked _ _ (cleared-by q))))
 
 -- tests that end in an op
 passes : (b : Bool) (why : Refusal) (y : Drafted) (d : Draft) → cond (not b) (Refused why) y ≡ Op d → (b ≡ true) × (y ≡ Op d)
@@ -259,7 +318,8 @@ module _ (f out : List ℕ) (s : ℕ) (q : Request) (l : Lent f (length out) s) 
     unfolding drafted
     opened =
         let a = passes (ltb (countIn (countsOf (logOf width f)) s) 255) Exhausted _ d (sym is ∙ e) in
-        (record { lent = l; left = a .0 }, passes (requestKnown (logOf width f) q) Unknown _ d (a .1) .1)
+        let b = passes (requestKnown (logOf width f) q) Unknown _ d (a .1) in
+        (record { lent = l; left = a .0 }, passes (requestUnmarked (logOf width f) q) Marked _ d (b .1) .1)
 
     pub ready : Ready f (length out) s
     ready = opened .0
@@ -271,12 +331,16 @@ module _ (f out : List ℕ) (s : ℕ) (q : Request) (l : Lent f (length out) s) 
 ---- what the code of issuing needs: search issuing
 pub ruleset requests = (add-known, remove-known, move-known, node-unknown, parent-unknown, both-known, known-small)
 
+pub ruleset works = (work-unknown, work-unmarked, work-marked, add-works, node-marked, move-works)
+
+pub ruleset unmarking = (no-marks, works, add-unmarked, remove-unmarked, move-unmarked)
+
 pub ruleset moves = (move-cycle, move-op, move-now, cleared-move, move-names)
 
-pub ruleset drafting = (moves, add-op, remove-op, exhausted, unknown, known-request, drafts)
+pub ruleset drafting = (moves, add-op, remove-op, exhausted, unknown, known-request, marked, drafts)
 
 pub ruleset putting = (acceptable, all-added, put-kept, writable, put-added)
 
 pub ruleset issues = (issue-refused, ready, issue-put)
 
-pub ruleset issuing = (needs, tested, sound-structural, tallied, tallied-held, requests, drafting, putting, issues)
+pub ruleset issuing = (needs, tested, sound-structural, tallied, tallied-held, requests, unmarking, drafting, putting, issues)

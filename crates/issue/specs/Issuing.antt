@@ -6,13 +6,13 @@ use mathlib.Core.List.{List, _++_}
 use lib.ListN.{length, drop}
 use lib.Dec.{ltb}
 use Rattle.rules.specs.Answer.{ifAccepted}
-use Rattle.rules.specs.Issue.{Request, add, remove, move, Issued, opBytes, requestKnown}
+use Rattle.rules.specs.Issue.{Request, add, remove, move, Issued, opBytes, requestKnown, requestUnmarked}
 use Rattle.rules.specs.Tree.{moveKind, atOrBelow, slots}
 use Rattle.rules.specs.File.{Log, width, appended, countsOf, fileEnd, logOf}
 use Rattle.rules.specs.Op.{Op, Vector, countIn, isReplica, nodeNumber}
 use Rattle.rules.specs.Replay.{parentsOf}
 use Rattle.rules.specs.Sound.{sound}
-use Rattle.codec.specs.declared.answer.Refusal.the-variants.{Unknown, Exhausted, Cycle}
+use Rattle.codec.specs.declared.answer.Refusal.the-variants.{Unknown, Exhausted, Cycle, Marked}
 use Rattle.delivery.specs.Adding.{lastTest}
 use Rattle.soundness.specs.Asked.{Tallied}
 use Rattle.issue.specs.declared.request.Draft.{Draft}
@@ -42,11 +42,12 @@ clearedOp log s (add p) = drafts.Op (record { kind = 1; node = nodeNumber s (cou
 clearedOp log s (remove n) = drafts.Op (record { kind = 2; node = n; parent = 0 })
 clearedOp log s (move n p) = movedIn (parentsOf log) n p
 
--- the tests 9, 7 and 10, or the op
+-- the tests 9, 7, 11 and 10, or the op
 unfoldable pub drafted : Log → (s : ℕ) → Request → Drafted
 drafted log s q =
     cond (not (ltb (countIn (countsOf log) s) 255)) (drafts.Refused Exhausted)
-    (cond (not (requestKnown log q)) (drafts.Refused Unknown) (clearedOp log s q))
+    (cond (not (requestKnown log q)) (drafts.Refused Unknown)
+    (cond (not (requestUnmarked log q)) (drafts.Refused Marked) (clearedOp log s q)))
 
 -- the buffer with an op added, and the op in the first bytes of what is lent for it
 abbrev pub withOp : (f out : List ℕ) → Op → List ℕ × List ℕ

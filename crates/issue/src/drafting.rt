@@ -1,3 +1,5 @@
+use crate::naming::knows;
+use crate::naming::unmarked;
 use crate::request::Draft;
 use crate::request::Drafted;
 use crate::request::Request;
@@ -6,19 +8,15 @@ use codec::widen;
 use oplog::counts_of;
 use replay::replay_all;
 use soundness::WIDTH;
-use structure::known_in;
-use structure::known_parent;
 use tree::SLOTS;
 use tree::move_kind;
 ghost use mathlib.Core.Path.{_≡_};
 ghost use mathlib.Core.Bool.{true};
 ghost use Prim.Native.Nat.{_+_};
 ghost use lib.Dec.{ltb};
-ghost use Rattle.rules.specs.Issue.{move, requestKnown};
 ghost use Rattle.rules.specs.File.{width, logOf};
 ghost use Rattle.rules.specs.Op.{isReplica, countIn, nodeNumber};
 ghost use Rattle.rules.specs.Replay.{parentsOf};
-ghost use Rattle.soundness.specs.Asked.{Tallied};
 ghost use Rattle.issue.specs.Issuing.{requestOf, movedIn, clearedOp, drafted, Issuer, KnownRequest, Movable, InTree};
 
 // Number 9: whether a replica has an op left to issue.
@@ -36,32 +34,6 @@ fn next_node(counts: [u8; 8], replica: u8) -> u16
 {
     let s = widen(replica);
     (256 * s + widen(counts[s - 1]) + 1) as u16
-}
-
-// Number 7 of a move: node and parent are known, and are not the same.
-fn knows_move(file: &[u8], counts: [u8; 8], node: u16, parent: u16) -> bool
-    requires { ⌜ Tallied (now file) counts ⌝ }
-    ensures { λ r. ⌜ r ≡ requestKnown (logOf width (now (file .entry))) (move node parent) ⌝ }
-{
-    if !known_in(file, counts, node, WIDTH) {
-        return false;
-    }
-    if !known_parent(file, counts, parent, WIDTH) {
-        return false;
-    }
-    parent != node
-}
-
-// Number 7: whether what a request names is known.
-fn knows(file: &[u8], counts: [u8; 8], request: Request) -> bool
-    requires { ⌜ Tallied (now file) counts ⌝ }
-    ensures { λ r. ⌜ r ≡ requestKnown (logOf width (now (file .entry))) (requestOf request) ⌝ }
-{
-    match request {
-        Request::Add(parent) => known_parent(file, counts, parent, WIDTH),
-        Request::Remove(node) => known_in(file, counts, node, WIDTH),
-        Request::Move(node, parent) => knows_move(file, counts, node, parent),
-    }
 }
 
 // Number 10 of a move in a tree, or the op to issue.
@@ -110,7 +82,7 @@ fn draft_known(file: &[u8], counts: [u8; 8], replica: u8, request: Request) -> D
     }
 }
 
-// The tests 9, 7 and 10 of a request, and the op to issue.
+// The tests 9, 7, 11 and 10 of a request, and the op to issue.
 pub(crate) fn draft(file: &[u8], replica: u8, request: Request) -> Drafted
     requires { ⌜ Issuer (now file) replica ⌝ }
     ensures { λ r. ⌜ r ≡ drafted (logOf width (now (file .entry))) replica (requestOf request) ⌝ }
@@ -121,6 +93,9 @@ pub(crate) fn draft(file: &[u8], replica: u8, request: Request) -> Drafted
     }
     if !knows(file, counts, request) {
         return Drafted::Refused(Refusal::Unknown);
+    }
+    if !unmarked(file, counts, request) {
+        return Drafted::Refused(Refusal::Marked);
     }
     draft_known(file, counts, replica, request)
 }

@@ -1,5 +1,6 @@
 // The steps of issuing an op at a sound log: a request is drafted as an op, which is put out and added.
 mod drafting;
+mod naming;
 mod putting;
 mod request;
 

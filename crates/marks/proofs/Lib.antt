@@ -1,2 +1,3 @@
 pub mod MarkingCases
 pub mod MarkLaws
+pub mod KnowingCases

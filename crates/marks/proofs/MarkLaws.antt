@@ -10,13 +10,12 @@ use mathlib.Core.Logic.{inr}
 use mathlib.Core.Path.{refl, sym, _∙_, _≡_}
 use native.Mathlib.Decide.{ℕ-discrete}
 use native.Mathlib.Omega.{arith}
-use Rattle.rules.proofs.KnownLaws.{named-valid}
+use Rattle.rules.proofs.KnownLaws.{Known, named-valid}
 use Rattle.lists.proofs.BoolLaws.{and-left, and-right}
 use Rattle.rules.proofs.StructureLaws.{GoodLog}
 use Rattle.rules.proofs.SlotLaws.{Valid, slot-below, slot-injective}
-use Rattle.lists.specs.Lists.{all, any, filter, isIn}
+use Rattle.lists.specs.Lists.{all, any, concat, filter, isIn}
 use Rattle.rules.specs.File.{Log, countsOf}
-use Rattle.rules.specs.Log.{known}
 use Rattle.rules.specs.Op.{Op, isRemove, nodeOf}
 use Rattle.rules.specs.Replay.{opsWithin, removedIn}
 use Rattle.rules.specs.Tree.{slotOf, slots}
@@ -34,6 +33,14 @@ mark-size t r = go (isRemove r)
     go true = length-set t _ _
     go false = refl
 
+marks-size : (rs : List Op) (t : List ℕ) → length (foldl mark t rs) ≡ length t
+marks-size [] t = refl
+marks-size (r ∷ rs) t = marks-size rs (mark t r) ∙ mark-size t r
+
+pub marks-long : (log : Log) → length (marksOf log) ≡ slots
+unfolding marksOf noMarks
+marks-long log = marks-size (concat log) (replicate slots 0) ∙ length-replicate {A = ℕ} slots 0
+
 -- whether a table has a mark for a node
 abbrev markIn : List ℕ → ℕ → Bool
 markIn t n = not (eqb (getD t (slotOf n) 0) 0)
@@ -42,7 +49,7 @@ module _ (log : Log) (good : GoodLog log) where
   mark-one : (t : List ℕ) (r : Op) (n : ℕ) → length t ≡ slots → Valid n → removesKnown log r ≡ true → isRemove r ≡ true
       → markIn (set t (slotIn (nodeOf r)) 1) n ≡ (markIn t n || eqb n (nodeOf r))
   mark-one t r n size v f e =
-      let w : known log (countsOf log) (nodeOf r) ≡ true = rw e at f in
+      let w : Known log (countsOf log) (nodeOf r) = rw e at f in
       let vr : Valid (nodeOf r) = named-valid log (countsOf log) (nodeOf r) (inr w) in
       rw (slot-in-valid (nodeOf r) vr) (elim (ℕ-discrete n (nodeOf r)) [
         | yes q ↦ rw (

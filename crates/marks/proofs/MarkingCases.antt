@@ -3,24 +3,24 @@ use Prim.Native.Nat.{_<_, _≤_, ℕ}
 use borrow.Author.Needs.{needs}
 use borrow.Author.Tests.{eqb-false, leb-true, ne-eqb}
 use lib.Dec.{eqb, leb}
-use lib.ListN.{drop, length, set}
+use lib.ListN.{drop, length, length-replicate, set}
 use mathlib.Core.Bool.{Bool, cond, false, true}
 use mathlib.Core.List.{List, _∷_, foldl}
 use mathlib.Core.Path.{ap, refl, sym, _∙_, _≡_}
 use native.Mathlib.Omega.{arith}
 use Rattle.lists.proofs.BoolLaws.{tested}
-use Rattle.lists.specs.Lists.{concat}
 use Rattle.rules.specs.File.{countAt, logOf, opAt, width}
 use Rattle.rules.specs.Op.{Op, isRemove, kindOf, nodeOf}
 use Rattle.rules.specs.Log.{laid}
 use Rattle.rules.proofs.FileLaws.{length-logOf}
 use Rattle.rules.proofs.StructureLaws.{laid-reads}
+use Rattle.rules.specs.Tree.{slots}
+use Rattle.soundness.proofs.SoundCases.{laid-of}
 use Rattle.oplog.specs.Places.{nextMarker, placeOf}
 use Rattle.oplog.specs.declared.marker.Marker.{Marker}
 use Rattle.oplog.proofs.FieldLaws.{fields-at}
 use Rattle.oplog.proofs.MarkerLaws.{Onward, Walk, left, left-end, left-next, left-ops, onward, togo}
-use Rattle.marks.specs.Marking.{Markable, MarkableAt, MarkableFrom}
-use Rattle.marks.specs.Marking.{mark, markAt}
+use Rattle.marks.specs.Marking.{MarkTable, Markable, MarkableAt, MarkableFrom, mark, markAt, marksOf, noMarks}
 use Rattle.tree.specs.Slots.{slotIn}
 
 ---- an op, which lies at a place
@@ -79,21 +79,25 @@ module _ (f : List ℕ) (m : Marker) (t : List ℕ) (a : MarkableFrom f m t) whe
 
 ---- all ops; a marker on its way, with the ops before it done
 
-pub record Marking (f t₀ t : List ℕ) (m : Marker) : Type 0 where
-  pub table : Markable f t
+pub record Marking (f t : List ℕ) (m : Marker) : Type 0 where
+  pub table : MarkTable f t
   pub at : Walk m
-  pub rest : let log = logOf width f in
-      foldl mark t₀ (concat log) ≡ foldl mark t (left log (opAt log) (m .replica) (m .sequence))
+  pub rest : let log = logOf width f in marksOf log ≡ foldl mark t (left log (opAt log) (m .replica) (m .sequence))
 
-pub marking-starts : (f t : List ℕ) → Markable f t → (m : Marker) → m .replica ≡ 1 → m .sequence ≡ 1 → Marking f t t m
+pub unmarked-size : (f t : List ℕ) → Markable f t → length t ≡ slots
+unfolding noMarks
+unmarked-size f t a = ap length (a .unmarked) ∙ length-replicate {A = ℕ} slots 0
+
+pub marking-starts : (f t : List ℕ) → Markable f t → (m : Marker) → m .replica ≡ 1 → m .sequence ≡ 1 → Marking f t m
+unfolding marksOf
 marking-starts f t a m er eq = record {
-  table = a;
+  table = record { is-laid = laid-of f (a .is-sound); marks-size = unmarked-size f t a };
   at = record { first = omega arith; last = omega arith; low = omega arith; high = omega arith };
-  rest = rw (er, eq) (ap (foldl mark t) (left-ops (logOf width f) (length-logOf width f)));
+  rest = rw (er, eq, a .unmarked) (ap (foldl mark noMarks) (left-ops (logOf width f) (length-logOf width f)));
 }
 
-module _ (f t₀ t : List ℕ) (m : Marker) (r : Marking f t₀ t m) where
-  pub marking-ends : 8 < m .replica → t ≡ foldl mark t₀ (concat (logOf width f))
+module _ (f t : List ℕ) (m : Marker) (r : Marking f t m) where
+  pub marking-ends : 8 < m .replica → t ≡ marksOf (logOf width f)
   marking-ends h = sym (r .rest ∙ ap (foldl mark t) (left-end _ _ (m .replica) _ h))
 
   module _ (u : m .replica ≤ 8) where
@@ -107,7 +111,7 @@ module _ (f t₀ t : List ℕ) (m : Marker) (r : Marking f t₀ t m) where
       pub marking-less : togo m′ < togo m
       marking-less = going .less
 
-      pub marking-on : (t′ : List ℕ) → length t′ ≡ length t → t′ ≡ markAt f t (m .replica) (m .sequence) → Marking f t₀ t′ m′
+      pub marking-on : (t′ : List ℕ) → length t′ ≡ length t → t′ ≡ markAt f t (m .replica) (m .sequence) → Marking f t′ m′
       unfolding markAt
       marking-on t′ l e = record {
         table = record { is-laid = r .table .is-laid; marks-size = l ∙ r .table .marks-size };

@@ -9,6 +9,7 @@ use Rattle.lists.specs.Lists.{concat}
 use Rattle.rules.specs.Op.{Op, nodeOf, isRemove}
 use Rattle.rules.specs.File.{Log, countAt, logOf, opAt, width}
 use Rattle.rules.specs.Log.{laid}
+use Rattle.rules.specs.Sound.{sound}
 use Rattle.rules.specs.Tree.{slots}
 use Rattle.oplog.specs.Places.{InFile}
 use Rattle.oplog.specs.declared.marker.Marker.{Marker}
@@ -30,8 +31,13 @@ marksOf log = foldl mark noMarks (concat log)
 
 ---- what the steps ask
 
--- a laid-out file, and a table for marks
+-- a sound buffer, and a table without marks
 pub record Markable (f marks : List ℕ) : Type 0 where
+  pub is-sound : sound width f ≡ true
+  pub unmarked : marks ≡ noMarks
+
+-- a laid-out file, and a table of marks
+pub record MarkTable (f marks : List ℕ) : Type 0 where
   pub is-laid : laid width f ≡ true
   pub marks-size : length marks ≡ slots
 
@@ -41,7 +47,7 @@ pub record MarkableAt (f : List ℕ) (s q : ℕ) (marks : List ℕ) : Type 0 whe
 
 -- and a marker on its way
 pub record MarkableFrom (f : List ℕ) (m : Marker) (marks : List ℕ) : Type 0 where
-  pub table : Markable f marks
+  pub table : MarkTable f marks
   pub low : 1 ≤ m .replica
   pub high : m .replica ≤ 8
   pub first : 1 ≤ m .sequence

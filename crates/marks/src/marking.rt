@@ -5,11 +5,9 @@ use oplog::place;
 use soundness::WIDTH;
 use tree::slot_in;
 ghost use mathlib.Core.Path.{_≡_};
-ghost use mathlib.Core.List.{foldl};
-ghost use Rattle.lists.specs.Lists.{concat};
 ghost use Rattle.rules.specs.File.{width, logOf, opAt};
 ghost use Rattle.marks.specs.Marking.{Markable, MarkableAt, MarkableFrom};
-ghost use Rattle.marks.specs.Marking.{mark, markAt};
+ghost use Rattle.marks.specs.Marking.{mark, markAt, marksOf};
 
 // The effect of an op on the marks: a remove marks its node.
 fn mark_op(file: &[u8], s: usize, q: usize, marks: &mut [u8])
@@ -44,10 +42,10 @@ fn mark_held(file: &[u8], m: Marker, marks: &mut [u8])
     mark_op(file, m.replica, m.sequence, marks);
 }
 
-// Marks every node that an op of the file removes, by a marker through the file.
+// Marks every node that an op of a sound log removes, by a marker through the file.
 pub fn mark_ops(file: &[u8], marks: &mut [u8])
     requires { ⌜ Markable (now file) (now marks) ⌝ }
-    ensures { λ _. ⌜ now (marks .exit) ≡ foldl mark (now (marks .entry)) (concat (logOf width (now (file .entry)))) ⌝ }
+    ensures { λ _. ⌜ now (marks .exit) ≡ marksOf (logOf width (now (file .entry))) ⌝ }
 {
     let mut m = Marker::first();
     while m.replica <= 8 {

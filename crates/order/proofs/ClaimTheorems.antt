@@ -1,5 +1,5 @@
 -- The claims, proved.
-use Rattle.order.specs.Claims.{BoundsFree, Decimals, Listings, OneFile, Ordered, PartsAlike}
+use Rattle.order.specs.Claims.{BoundsFree, Decimals, Listings, NoNewWork, OneFile, Ordered, PartsAlike}
 use Rattle.order.proofs.LevelLaws.{Cut, equation}
 use Rattle.rules.specs.File.{Log, countsOf, logOf}
 use Rattle.rules.proofs.ExtendLaws.{alike-more, replay-alike}
@@ -12,6 +12,9 @@ use Rattle.order.proofs.OnceLaws.{ordered-once}
 use Rattle.rules.proofs.KnownLaws.{parent-reads}
 use Rattle.order.proofs.FuelLaws.{path-fuel, preorder-fuel}
 use Rattle.rules.specs.Tree.{slots}
+use Rattle.order.proofs.WorkLaws.{issued-unmarked, marked-line}
+use Rattle.rules.proofs.IssueLaws.{allowed}
+use Rattle.rules.proofs.SoundLaws.{sound-good}
 
 pub one-file : OneFile
 one-file w f bytes s =
@@ -44,7 +47,7 @@ pub listings : Listings
 listings w f s =
     let log : Log = logOf w f in
     let good = structural-good w f s in
-    record { once = preorder-once log good slots; every = preorder-is log good; size = listing-size log good }
+    record { once = preorder-once log good slots; every = preorder-is log good; size = listing-size log good; marks = λ n. marked-line log good n }
 
 pub decimals : Decimals
 decimals n small = record {
@@ -53,3 +56,8 @@ decimals n small = record {
   first = λ l. decimal-first n l small;
   unbounded = λ k l. decimal-any k n l small;
 }
+
+pub no-new-work : NoNewWork
+no-new-work w f room s q end e r =
+    let a = allowed w f room s q end e in
+    issued-unmarked (logOf w f) (sound-good w f (a .is-sound)) s q (a .count) (a .is-unmarked) r

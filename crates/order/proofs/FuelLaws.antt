@@ -8,7 +8,6 @@ use borrow.Author.Tests.{eqb-true}
 use lib.Dec.{eqb}
 use mathlib.Core.Logic.{inr}
 use Rattle.rules.specs.File.{Log, countsOf}
-use Rattle.rules.specs.Log.{known}
 use Rattle.rules.specs.Tree.{climb, parentIn, path, slots}
 use Rattle.lists.specs.Lists.{isIn, concat}
 use Rattle.rules.specs.Listing.{children, preorder}
@@ -17,7 +16,7 @@ use Rattle.rules.specs.Views.{nodes}
 use Rattle.rules.proofs.ClimbLaws.{up, Depth, climb-enough, depth-child, depth-unique}
 use Rattle.rules.proofs.StructureLaws.{GoodLog, counts-covered, counts-closed}
 use Rattle.order.proofs.LevelLaws.{Cut}
-use Rattle.rules.proofs.KnownLaws.{Named, known-reads}
+use Rattle.rules.proofs.KnownLaws.{Known, Named, known-reads}
 use Rattle.order.proofs.RunLaws.{replay-reaches}
 use Rattle.order.proofs.NodeLaws.{added-is}
 use Rattle.lists.proofs.MemberLaws.{isIn-filter, map-isIn}
@@ -41,7 +40,7 @@ module _ (log : Log) (good : GoodLog log) where
   unfolding path
   path-fuel n w k h = let (j, b, d) = has-depth n w in climb-enough parents j k slots n d (omega arith) (omega arith)
 
-  pub child-named : (n m : ℕ) → isIn m (children log parents n) ≡ true → (known log (countsOf log) m ≡ true) × (parentIn parents m ≡ n)
+  pub child-named : (n m : ℕ) → isIn m (children log parents n) ≡ true → (Known log (countsOf log) m) × (parentIn parents m ≡ n)
   unfolding children nodes
   child-named n m e =
       let (a, b) = isIn-filter (λ m. eqb (parentIn parents m) n) (addedIn log (countsOf log)) m e in

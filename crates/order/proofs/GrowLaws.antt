@@ -1,5 +1,5 @@
 -- The tree grows as a tree: every op of a replay finds its node and its parent hung, and every added node has a way to the root.
-use Rattle.rules.proofs.KnownLaws.{kinds, Named, known-later, known-of, known-reads, named-later, named-valid, names-add, names-move, names-node}
+use Rattle.rules.proofs.KnownLaws.{Known, kinds, Named, known-later, known-of, known-reads, named-later, named-valid, names-add, names-move, names-node}
 use mathlib.Core.Path.{_≡_, refl, sym, ap, _∙_}
 use mathlib.Core.Logic.{inl, inr, ⊎-elim}
 use mathlib.Core.Bool.{true, false, _||_}
@@ -14,7 +14,6 @@ use lib.Dec.{eqb}
 use lib.Seq.{getD-set-other}
 use Rattle.rules.specs.Op.{Op, Vector, countIn, kindOf, replicaOf, nodeOf, parentOf, vectorOf, seqOf, nodeNumber, isAdd, isMove}
 use Rattle.rules.specs.File.{Log, opAt, countsOf}
-use Rattle.rules.specs.Log.{known}
 use Rattle.rules.specs.Tree.{slotOf, atOrBelow, noParent, slots}
 use Rattle.rules.specs.Replay.{Stamped, State, step}
 use Rattle.rules.proofs.CausalLaws.{Le}
@@ -42,7 +41,7 @@ pub record Tree (log : Log) (D : Vector) (st : State) : Type 0 where
   pub bare : (i : ℕ) → 0 < i → i < slots → ((m : ℕ) → Named log D m → slotOf m ≡ i → ⊥) → getD (st .parents) i 0 ≡ noParent
 
 -- a vector that knows the same nodes
-pub tree-same : (log : Log) (D E : Vector) (st : State) → Le D E → ((m : ℕ) → known log E m ≡ true → known log D m ≡ true) → Tree log D st
+pub tree-same : (log : Log) (D E : Vector) (st : State) → Le D E → ((m : ℕ) → Known log E m → Known log D m) → Tree log D st
     → Tree log E st
 tree-same log D E st le back x = record {
   size = x .size;
@@ -89,7 +88,7 @@ module _ (log : Log) (good : GoodLog log) where
       -- an add: E counts it besides
       module _ (E : Vector) (more : Le D E) (here : countIn D s < q) (there : countIn E s ≡ q) (same : (z : ℕ) → 1 ≤ z → z ≤ 8 → (z ≡ s → ⊥)
           → countIn E z ≡ countIn D z) where
-        back : (m : ℕ) → known log E m ≡ true → (m ≡ nodeNumber s q → ⊥) → q ≡ countIn D s + 1 → known log D m ≡ true
+        back : (m : ℕ) → Known log E m → (m ≡ nodeNumber s q → ⊥) → q ≡ countIn D s + 1 → Known log D m
         unfolding nodeNumber
         back m e ne step1 =
             let (h, a) = known-reads log E m e in
@@ -201,7 +200,7 @@ module _ (log : Log) (good : GoodLog log) where
         bare = λ i p b none. rw e (hung-bare (st .parents) (nodeOf r) (parentOf r) i (none _ node-named) ∙ tree .bare i p b none);
       }
         where
-          node-known : known log D (nodeOf r) ≡ true
+          node-known : Known log D (nodeOf r)
           node-known = known-later log (vectorOf r) D le _ (names-node log r (held .names) k1)
 
           node-named : Named log D (nodeOf r)

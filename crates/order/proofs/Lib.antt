@@ -15,5 +15,6 @@ pub mod PlacingLaws
 pub mod DecimalLaws
 pub mod ClaimTheorems
 pub mod RemoveLaws
+pub mod WorkLaws
 pub mod ViewLaws
 pub mod TreePathLaws

@@ -13,13 +13,13 @@ use native.Mathlib.Omega.{arith}
 use Rattle.lists.specs.Lists.{upFrom, concat, filter, any, isIn}
 use Rattle.rules.specs.Op.{Op, Vector, replicas, countIn, nodeOf, nodeNumber, isAdd}
 use Rattle.rules.specs.File.{Log, opsOf, opAt, countsOf}
-use Rattle.rules.specs.Log.{known}
+use Rattle.rules.specs.Marks.{isKnown, knowledge}
 use Rattle.rules.specs.Replay.{opsWithin, addedIn}
 use Rattle.lists.proofs.FilterLaws.{filter-append}
 use Rattle.rules.proofs.StructureLaws.{count-held, held-in, GoodLog, good-ops}
 use Rattle.lists.proofs.BoolLaws.{never, or-cases, both-ways}
 use Rattle.order.proofs.LevelLaws.{Cut}
-use Rattle.rules.proofs.KnownLaws.{known-reads, names-add, known-of}
+use Rattle.rules.proofs.KnownLaws.{Known, known-reads, names-add, known-of}
 use Rattle.lists.proofs.MemberLaws.{isIn-cases, isIn-left, isIn-right}
 
 ---- the added nodes
@@ -75,7 +75,7 @@ module _ (p : Op → Bool) (g : Op → ℕ) where
       ])
 
 module _ (log : Log) (good : GoodLog log) (cut : Vector) (is : Cut log cut) where
-  pub known-added : (m : ℕ) → known log cut m ≡ true → isIn m (addedIn log cut) ≡ true
+  pub known-added : (m : ℕ) → Known log cut m → isIn m (addedIn log cut) ≡ true
   unfolding addedIn opsWithin replicas opAt isAdd nodeNumber
   known-added m e =
       let (h, a) = known-reads log cut m e in
@@ -93,7 +93,7 @@ module _ (log : Log) (good : GoodLog log) (cut : Vector) (is : Cut log cut) wher
       (in-take isAdd nodeOf (countIn cut (m / 256)) (m % 256 - 1) (opsOf log (m / 256)) (omega (arith, h .first, h .last))
       (omega (arith, h .first, count-held log (m / 256))) a))
 
-  added-known : (m : ℕ) → isIn m (addedIn log cut) ≡ true → known log cut m ≡ true
+  added-known : (m : ℕ) → isIn m (addedIn log cut) ≡ true → Known log cut m
   unfolding addedIn opsWithin replicas opAt isAdd nodeNumber
   added-known m e =
       let (s, l, u, h) = parts-in isAdd nodeOf (λ r. take (countIn cut r) (opsOf log r)) 8 1 m e in
@@ -112,6 +112,6 @@ module _ (log : Log) (good : GoodLog log) (cut : Vector) (is : Cut log cut) wher
       (rw (q₁, q₂) k)
 
   -- the added nodes of a cut are those that it knows
-  pub added-is : (m : ℕ) → isIn m (addedIn log cut) ≡ known log cut m
+  pub added-is : (m : ℕ) → isIn m (addedIn log cut) ≡ isKnown (knowledge log cut m)
   added-is m =
-      both-ways (isIn m (addedIn log cut)) (known log cut m) (added-known m) (known-added m)
+      both-ways (isIn m (addedIn log cut)) (isKnown (knowledge log cut m)) (added-known m) (known-added m)

@@ -11,7 +11,7 @@ use borrow.Author.Tests.{eq-eqb}
 use lib.ListN.{length}
 use Rattle.lists.specs.Lists.{concat, filter, any, isIn}
 use Rattle.rules.specs.File.{Log, countsOf, logOf}
-use Rattle.rules.specs.Log.{known, knownParent}
+use Rattle.rules.specs.Log.{knownParent}
 use Rattle.rules.specs.Sound.{sound}
 use Rattle.rules.specs.Tree.{parentIn, slots, depth}
 use Rattle.rules.specs.Replay.{parentsOf, addedIn}
@@ -25,7 +25,7 @@ use Rattle.rules.proofs.ClimbLaws.{up, up-last, Depth, depth-unique, depth-chil
 use Rattle.rules.proofs.SoundLaws.{sound-good}
 use Rattle.rules.proofs.DecimalLaws.{line-short}
 use Rattle.order.proofs.LevelLaws.{Cut}
-use Rattle.rules.proofs.KnownLaws.{Named, known-reads, named-valid, parent-reads}
+use Rattle.rules.proofs.KnownLaws.{Known, Named, known-reads, named-valid, parent-reads}
 use Rattle.order.proofs.RunLaws.{replay-reaches}
 use Rattle.order.proofs.NodeLaws.{added-is}
 use Rattle.order.proofs.DepthLaws.{depth-added}
@@ -114,11 +114,11 @@ module _ (log : Log) (good : GoodLog log) where
 
   ---- every node stands in it
 
-  child-of : (c n : ℕ) → known log (countsOf log) c ≡ true → parentIn parents c ≡ n → isIn c (children log parents n) ≡ true
+  child-of : (c n : ℕ) → Known log (countsOf log) c → parentIn parents c ≡ n → isIn c (children log parents n) ≡ true
   unfolding children nodes
   child-of c n w e = filter-isIn _ (addedIn log (countsOf log)) c (added-is log good (countsOf log) whole c ∙ w) (eq-eqb _ _ e)
 
-  has : (m j : ℕ) → ((i : ℕ) → i < j → known log (countsOf log) (up parents i m) ≡ true) → (i k : ℕ) → i ≤ j → i < k
+  has : (m j : ℕ) → ((i : ℕ) → i < j → Known log (countsOf log) (up parents i m)) → (i k : ℕ) → i ≤ j → i < k
       → isIn m (preorder k log parents (up parents i m)) ≡ true
   unfolding preorder up
   has m j on i zero h l = absurd (omega arith)
@@ -135,7 +135,7 @@ module _ (log : Log) (good : GoodLog log) where
       let (j, b, r, first) = replay-reaches log good (countsOf log) whole m w in
       rw (r .root) at (has m j (λ i h. not-root (up parents i m) (r .on i (omega arith)) (first i h)) j slots (omega arith) (omega arith))
     where
-      not-root : (n : ℕ) → Named log (countsOf log) n → (n ≡ 0 → ⊥) → known log (countsOf log) n ≡ true
+      not-root : (n : ℕ) → Named log (countsOf log) n → (n ≡ 0 → ⊥) → Known log (countsOf log) n
       not-root n (inl z) nz = absurd (nz z)
       not-root n (inr v) nz = v
 

@@ -11,7 +11,7 @@ use native.Mathlib.Nat.{le-of-suc-le-suc, not-suc-le-zero}
 use native.Mathlib.Omega.{arith}
 use Rattle.rules.proofs.ClimbLaws.{Depth, climb-enough, depth-unique, Reaches, up, up-add}
 use Rattle.order.proofs.FuelLaws.{has-depth}
-use Rattle.rules.proofs.KnownLaws.{Named, known-reads}
+use Rattle.rules.proofs.KnownLaws.{Known, Named, known-reads}
 use Rattle.order.proofs.RunLaws.{replay-reaches}
 use Rattle.order.proofs.LevelLaws.{Cut}
 use Rattle.order.proofs.NodeLaws.{added-is}
@@ -21,7 +21,7 @@ use Rattle.rules.proofs.StructureLaws.{GoodLog, counts-closed, counts-covered}
 use Rattle.lists.specs.Lists.{any, isIn}
 use Rattle.rules.specs.Listing.{children}
 use Rattle.rules.specs.File.{Log, countsOf}
-use Rattle.rules.specs.Log.{known}
+use Rattle.rules.specs.Marks.{isKnown, knowledge}
 use Rattle.rules.specs.Replay.{parentsOf}
 use Rattle.rules.specs.Tree.{climb, parentIn, path, slots}
 use Rattle.rules.specs.Views.{nodes}
@@ -118,10 +118,10 @@ module _ (log : Log) (good : GoodLog log) where
       go zero z on = absurd (nz z)
       go (suc j) z on = on 1 (omega arith)
 
-  pub known-nonzero : (n : ℕ) → known log (countsOf log) n ≡ true → n ≡ 0 → ⊥
+  pub known-nonzero : (n : ℕ) → Known log (countsOf log) n → n ≡ 0 → ⊥
   known-nonzero n e z = let h = known-reads log (countsOf log) n e .0 in omega (arith, h .low)
 
-  pub nodes-known : (n : ℕ) → isIn n (nodes log) ≡ known log (countsOf log) n
+  pub nodes-known : (n : ℕ) → isIn n (nodes log) ≡ isKnown (knowledge log (countsOf log) n)
   unfolding nodes
   nodes-known n = added-is log good (countsOf log) whole n
 
@@ -156,5 +156,5 @@ module _ (log : Log) (good : GoodLog log) where
   pub children-under : (n : ℕ) → Each (Under n) (children log P n)
   unfolding children
   children-under n = each-passing (λ m. eqb (parentIn P m) n) (Under n) (nodes log) (λ c i e.
-      let k : known log (countsOf log) c ≡ true = sym (nodes-known c) ∙ i in
+      let k : Known log (countsOf log) c = sym (nodes-known c) ∙ i in
       record { node = inr k; parent = eqb-true _ _ e; below-root = known-nonzero c k })

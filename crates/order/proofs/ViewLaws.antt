@@ -6,12 +6,11 @@ use mathlib.Core.Bool.{_&&_, Bool, not, or-true, true}
 use mathlib.Core.List.{List}
 use mathlib.Core.Logic.{inl, inr}
 use mathlib.Core.Path.{refl, sym, _∙_, _≡_}
-use Rattle.rules.proofs.KnownLaws.{Named}
+use Rattle.rules.proofs.KnownLaws.{Known, Named}
 use Rattle.lists.proofs.BoolLaws.{and-both, and-left, and-right, and-swap}
 use Rattle.rules.proofs.StructureLaws.{GoodLog}
 use Rattle.lists.specs.Lists.{all, isIn}
 use Rattle.rules.specs.File.{Log, countsOf}
-use Rattle.rules.specs.Log.{known}
 use Rattle.rules.specs.Replay.{parentsOf}
 use Rattle.rules.specs.Tree.{atOrBelow, path}
 use Rattle.rules.specs.Views.{View, keeping, nodes, shown, skipping}
@@ -50,7 +49,7 @@ module _ (log : Log) (good : GoodLog log) where
   unfolding shown atOrBelow
   keeping-child n c u e =
       rw (any-more (unmarkedBelow c) (unmarkedBelow n) (nodes log) (λ m i h.
-      let k : known log (countsOf log) m ≡ true = sym (nodes-known log good m) ∙ i in
+      let k : Known log (countsOf log) m = sym (nodes-known log good m) ∙ i in
       and-both (rw (u .parent) at (path-closed log good m c (inr k) (and-left (isIn c (path P m)) _ h) (u .below-root)))
       (and-right (isIn c (path P m)) _ h))
       (rw (ne-eqb c 0 (u .below-root)) at e)) (or-true (eqb n 0))

@@ -1,19 +1,22 @@
 -- What holds of every structurally sound file beside the tree theorem: the definitions mean what they say.
 use Prim.Native.Nat.{ℕ, _+_, _*_, _-_, _≤_, _<_}
 use mathlib.Core.Path.{_≡_}
-use mathlib.Core.Bool.{Bool, true, cond}
+use mathlib.Core.Bool.{Bool, true, false, cond}
 use mathlib.Core.List.{List, [], _∷_, map, foldl}
 use lib.ListN.{length, take, getD}
 use lib.Dec.{eqb}
 use Rattle.lists.specs.Lists.{greatest, filter, isIn}
 use Rattle.rules.specs.Bytes.{byte}
-use Rattle.rules.specs.Op.{Vector, replicas, countIn, vectorOf}
+use Rattle.rules.specs.Op.{Op, Vector, replicas, countIn, nodeOf, parentOf, vectorOf, isRemove}
 use Rattle.rules.specs.File.{Log, opAt, countsOf, Extends, fileEnd, logOf, fileOf}
 use Rattle.rules.specs.Log.{covered, closed, knownParent, structural}
-use Rattle.rules.specs.Tree.{slots, climb, path}
+use Rattle.rules.specs.Tree.{slots, climb, path, depth}
+use Rattle.rules.specs.Marks.{marked, isMarked, knowledge}
+use Rattle.rules.specs.Answer.{accepted}
+use Rattle.rules.specs.Issue.{Request, issued, issueAnswer}
 use Rattle.rules.specs.Replay.{opsWithin, timestamp, Stamped, stamped, ordered, replay, parentsOf}
 use Rattle.rules.specs.Views.{View}
-use Rattle.rules.specs.Listing.{preorder, digits, decimal, listingOf}
+use Rattle.rules.specs.Listing.{preorder, digits, decimal, lineOf, line, listingOf}
 
 -- a file of bytes is, to its end, the file of its log: a log has one file
 abbrev pub OneFile : Type 0
@@ -61,11 +64,13 @@ abbrev pub Distinct : List ℕ → Type 0
 Distinct [] = Unit {0}
 Distinct (x ∷ xs) = (isIn x xs ≡ true → ⊥) × Distinct xs
 
--- the listing's order has the root and every added node, and each of them once; a listing has at most 12 bytes for each of 2,041 nodes
+-- the listing's order has the root and every added node, and each of them once; a listing has at most 12 bytes for each of 2,041 nodes; a
+-- line prints `r` for what is known and marked in the held counts, and for nothing else
 pub record Listed (log : Log) : Type 0 where
   pub once : Distinct (preorder slots log (parentsOf log) 0)
   pub every : (n : ℕ) → isIn n (preorder slots log (parentsOf log) 0) ≡ knownParent log (countsOf log) n
   pub size : (view : View) → length (listingOf view log) ≤ 24492
+  pub marks : (n : ℕ) → line log (parentsOf log) n ≡ lineOf (depth (parentsOf log) n) n (isMarked (knowledge log (countsOf log) n))
 
 abbrev pub Listings : Type 0
 Listings = (w : ℕ) (f : List ℕ) → structural w f ≡ true → Listed (logOf w f)
@@ -83,3 +88,15 @@ pub record InDecimal (n : ℕ) : Type 0 where
 
 abbrev pub Decimals : Type 0
 Decimals = (n : ℕ) → n < 100000 → InDecimal n
+
+---- removed articles take no new work
+
+-- neither the node nor the parent of an add or a move that is issued is marked in the present tree
+pub record WorkUnmarked (log : Log) (op : Op) : Type 0 where
+  pub node : marked log (countsOf log) (nodeOf op) ≡ false
+  pub parent : marked log (countsOf log) (parentOf op) ≡ false
+
+abbrev pub NoNewWork : Type 0
+NoNewWork =
+    (w : ℕ) (f : List ℕ) (room s : ℕ) (q : Request) (end : ℕ) → issueAnswer w f room s q ≡ accepted end
+    → isRemove (issued (logOf w f) s q) ≡ false → WorkUnmarked (logOf w f) (issued (logOf w f) s q)

@@ -20,6 +20,7 @@ fn refusal_number(why: Refusal) -> usize
         Refusal::NoRoom => 8,
         Refusal::Exhausted => 9,
         Refusal::Cycle => 10,
+        Refusal::Marked => 11,
     }
 }
 

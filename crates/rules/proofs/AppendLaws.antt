@@ -13,12 +13,14 @@ use lib.Dec.{leb, eqb}
 use Rattle.lists.specs.Lists.{sum}
 use Rattle.rules.specs.Op.{Op, Vector, isReplica, countIn, replicaOf, nodeOf, parentOf, vectorOf, seqOf, ownCount, wellFormed, isAdd}
 use Rattle.rules.specs.File.{Log, opsOf, opAt, countsOf, append, Extends, within}
-use Rattle.rules.specs.Log.{covered, closedAt, closed, nodeWithin, known, knownParent, namesKnown, soundOp, soundOps}
+use Rattle.rules.specs.Log.{covered, closedAt, closed, knownParent, namesKnown, soundOp, soundOps}
+use Rattle.rules.specs.Marks.{isKnown, knowledge, nodeWithin}
 use Rattle.rules.specs.Deliver.{isHeld}
 use Rattle.lists.proofs.BoolLaws.{and-left, and-right, and-both, and-under, or-under}
 use Rattle.rules.proofs.ReplicaLaws.{all-replicas, replica-passes, all-alike}
 use Rattle.rules.proofs.FileLaws.{WideLog, wide-set, wide-last, wide-at}
 use Rattle.rules.proofs.StructureLaws.{count-held, held-in, GoodLog}
+use Rattle.rules.proofs.KnownLaws.{known-is}
 
 ---- a log that holds all of another
 
@@ -35,13 +37,13 @@ module _ (log more : Log) (v : Vector) (x : SameWithin log more v) where
       let p : 1 ≤ countIn v s = omega (arith, eqb-false (countIn v s) 0 z) in
       ap (λ r. within (vectorOf r) v) (x s (countIn v s) l u p (le-refl _))))
 
-  known-more : (n : ℕ) → known more v n ≡ known log v n
-  unfolding known nodeWithin isReplica
+  known-more : (n : ℕ) → isKnown (knowledge more v n) ≡ isKnown (knowledge log v n)
+  unfolding nodeWithin isReplica
   known-more n =
-      and-under (nodeWithin v n) _ _ (λ g.
+      rw (known-is more v n, known-is log v n) (and-under (nodeWithin v n) _ _ (λ g.
       let h = simp and-eq-true-iff at g in
       ap isAdd (x (n / 256) (n % 256) (leb-true _ _ (h .0 .0 .0)) (leb-true _ _ (h .0 .0 .1)) (leb-true _ _ (h .0 .1))
-      (leb-true _ _ (h .1))))
+      (leb-true _ _ (h .1)))))
 
 pub names-more : (log more : Log) (r : Op) → SameWithin log more (vectorOf r) → namesKnown more r ≡ namesKnown log r
 unfolding namesKnown knownParent

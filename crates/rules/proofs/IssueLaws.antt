@@ -12,17 +12,18 @@ use lib.Dec.{leb, ltb, eqb}
 use Rattle.rules.specs.Bytes.{wordAt, word}
 use Rattle.rules.specs.Op.{Op, Vector, isReplica, countIn, kindOf, replicaOf, nodeOf, parentOf, vectorOf, ownCount, seqOf, nodeNumber, isAdd, isRemove, wellFormed}
 use Rattle.rules.specs.File.{Log, countsOf, fileEnd, logOf, width}
-use Rattle.rules.specs.Log.{known, knownParent, namesKnown}
+use Rattle.rules.specs.Log.{knownParent, namesKnown}
 use Rattle.rules.specs.Deliver.{isHeld}
 use Rattle.rules.specs.Tree.{depth, moveKind}
 use Rattle.rules.specs.Replay.{parentsOf}
-use Rattle.rules.specs.Issue.{Request, add, remove, move, opBytes, issued, requestKnown, issueAnswer, requestClear}
+use Rattle.rules.specs.Issue.{Request, add, remove, move, opBytes, issued, requestKnown, requestUnmarked, issueAnswer, requestClear}
 use Rattle.rules.specs.Sound.{sound}
 use Rattle.rules.specs.Answer.{accepted}
 use Rattle.lists.proofs.BoolLaws.{and-both}
 use Rattle.rules.proofs.DeliverLaws.{required, Admitted, accepted-same}
 use Rattle.rules.proofs.StructureLaws.{GoodLog, counts-covered, counts-closed}
 use Rattle.rules.proofs.AppendLaws.{Admits}
+use Rattle.rules.proofs.KnownLaws.{Known}
 use Rattle.rules.proofs.SoundLaws.{sound-good}
 
 ---- the fields of an op's bytes
@@ -87,18 +88,18 @@ module _ (log : Log) (g : GoodLog log) where
         rw (bytes-vector 1 s n p counts counts-eight, bytes-parent 1 s n p counts, bytes-node 1 s n p counts)
         (and-both h (eq-eqb _ _ e))
 
-    names-remove : known log counts n ≡ true → namesKnown log (opBytes 2 s n p counts) ≡ true
+    names-remove : Known log counts n → namesKnown log (opBytes 2 s n p counts) ≡ true
     unfolding namesKnown isAdd isRemove kindOf opBytes
     names-remove h = rw (bytes-vector 2 s n p counts counts-eight, bytes-node 2 s n p counts) (and-both h refl)
 
-    names-move : (k : ℕ) → eqb k 1 ≡ false → eqb k 2 ≡ false → known log counts n ≡ true → knownParent log counts p ≡ true
+    names-move : (k : ℕ) → eqb k 1 ≡ false → eqb k 2 ≡ false → Known log counts n → knownParent log counts p ≡ true
         → not (eqb p n) ≡ true → namesKnown log (opBytes k s n p counts) ≡ true
     unfolding namesKnown isAdd isRemove kindOf opBytes
     names-move k a b h i j =
         rw (bytes-vector k s n p counts counts-eight, bytes-parent k s n p counts, bytes-node k s n p counts, a, b)
         (and-both h (and-both i j))
 
-    move-names : known log counts n ≡ true → knownParent log counts p ≡ true → not (eqb p n) ≡ true → (b : Bool)
+    move-names : Known log counts n → knownParent log counts p ≡ true → not (eqb p n) ≡ true → (b : Bool)
         → namesKnown log (opBytes (cond b 3 4) s n p counts) ≡ true
     move-names h i j true = names-move 3 refl refl h i j
     move-names h i j false = names-move 4 refl refl h i j
@@ -135,6 +136,7 @@ pub record Allowed (w : ℕ) (f : List ℕ) (room s : ℕ) (q : Request) (n : �
   pub is-replica : isReplica s ≡ true
   pub count : countIn (countsOf (logOf w f)) s < 255
   pub names : requestKnown (logOf w f) q ≡ true
+  pub is-unmarked : requestUnmarked (logOf w f) q ≡ true
   pub clear : requestClear (logOf w f) q ≡ true
   pub room-left : fileEnd w f + w ≤ length f
   pub end : fileEnd w f + w ≡ n
@@ -147,7 +149,8 @@ allowed w f room s q n e =
     let c = required _ _ _ n (b .1) in
     let d = required _ _ _ n (c .1) in
     let k = required _ _ _ n (d .1) in
-    let o = required _ _ _ n (k .1) in
+    let m = required _ _ _ n (k .1) in
+    let o = required _ _ _ n (m .1) in
     let l = required _ _ _ n (o .1) in
     record {
       is-sound = a .0;
@@ -155,6 +158,7 @@ allowed w f room s q n e =
       is-replica = c .0;
       count = ltb-true _ _ (d .0);
       names = k .0;
+      is-unmarked = m .0;
       clear = o .0;
       room-left = leb-true _ _ (l .0);
       end = accepted-same _ n (l .1);

@@ -9,19 +9,19 @@ use Rattle.rules.specs.Answer.{Answer, refused, hadIt, done, accepted, r
 use Rattle.rules.specs.Bytes.{wordAt, word}
 use Rattle.lists.specs.Lists.{upFrom, downFrom, sum, greatest, same, concat, all, any, filter, isIn}
 use Rattle.rules.specs.Deliver.{makeAnswer, isHeld, heldAnswer, admitAnswer, deliverAnswer}
-use Rattle.rules.specs.Issue.{Request, add, remove, move, opBytes, issued, requestKnown, requestClear, issueAnswer, issueOut}
+use Rattle.rules.specs.Issue.{Request, add, remove, move, opBytes, issued, requestKnown, requestUnmarked, requestClear, issueAnswer, issueOut}
 use Rattle.rules.specs.Tree.{moveKind, slots, slot, slotOf, parentIn, climb, path, depth, atOrBelow}
 use Rattle.rules.specs.Judge.{judgeAnswer}
 use Rattle.rules.specs.Listing.{children, preorder, digits, decimal, lineOf, line, listingIn, listingOf, listingAnswer, listing, listingSize, refusedLine, outline}
 use Rattle.rules.specs.File.{Log, emptyLog, opsOf, opAt, countsOf, append, countAt, startAt, headerCounts, startOf, endOf, fileEnd, chunks, chunksOf, logOf, headerEntry, headerOf, fileOf, within, width}
-use Rattle.rules.specs.Log.{covered, closedAt, closed, nodeWithin, known, knownParent, namesKnown, soundOp, soundOps, soundLog, soundHeader, laid, structural}
+use Rattle.rules.specs.Log.{covered, closedAt, closed, knownParent, namesKnown, soundOp, soundOps, soundLog, soundHeader, laid, structural}
 use Rattle.rules.specs.Measure.{endAnswer, countsAnswer, countsCall}
 use Rattle.rules.specs.Op.{Op, Vector, replicas, isReplica, countIn, kindOf, replicaOf, nodeOf, parentOf, vectorOf, ownCount, seqOf, nodeNumber, isAdd, isRemove, isMove, wellFormed}
 use Rattle.rules.specs.Path.{pathOf, pathAnswer, pathCall}
 use Rattle.rules.specs.Replay.{opsWithin, addedIn, removedIn, timestampIn, timestamp, stamp, stamped, ofReplica, ofKind, ofTime, byTime, ordered, start, outcomeSlot, outcomeOf, step, replay, parentsOf, outcomesOf}
 use Rattle.rules.specs.Sound.{sound}
 use Rattle.rules.specs.Views.{View, keeping, skipping, nodes, shown}
-use Rattle.rules.specs.Marks.{marked}
+use Rattle.rules.specs.Marks.{Knowledge, unknown, knownUnmarked, knownMarked, isKnown, isMarked, marked, nodeWithin, knowledge}
 
 -- what a function says of each op of a log, replica by replica
 unfoldable pub ofOps : (ℕ → ℕ → ℕ) → Log → List (List ℕ)
@@ -43,6 +43,8 @@ pub data Row : Type 0 where
   -- the outcomes of all ops; their timestamps
   outcomes : Log → List (List ℕ) → Row
   times : Log → List (List ℕ) → Row
+  -- what a vector knows of a node
+  knows : Log → Vector → (node : ℕ) → Knowledge → Row
   -- the path of a node, put into lent entries, is answered, and they hold
   paths : (file : List ℕ) (node : ℕ) (out : List ℕ) → Answer → (after : List ℕ) → Row
   -- the listing of a view, put into lent bytes, is answered, and they hold
@@ -64,6 +66,7 @@ Holds (judges f p o a) = judgeAnswer width f (replicate p 9) (replicate o 9) ≡
 Holds (puts log s q r) = issued log s q ≡ r
 Holds (outcomes log os) = ofOps (λ s q. getD (outcomesOf log) (slot s q) 0) log ≡ os
 Holds (times log ts) = ofOps (λ s q. timestamp log (opAt log s q)) log ≡ ts
+Holds (knows log v n k) = knowledge log v n ≡ k
 Holds (paths f n out a after) = pathCall width f n out ≡ record { answer = a; out = after }
 Holds (lists f view out a after) = listing width f view out ≡ record { answer = a; out = after }
 Holds (sizes f view a) = listingSize width f view ≡ a
@@ -185,6 +188,13 @@ pruned = three []
 unfoldable pub prunedFile : List ℕ
 prunedFile = fileBy (three (entryOf 0 116) (entryOf 5 32) (entryOf 1 102) (entryOf 0 116)) pruned
 
+unfoldable pub prunedBuffer : List ℕ
+prunedBuffer = prunedFile ++ replicate width 0
+
+-- the same, and replica 3 adds below 257, though it has met the removal
+unfoldable pub reworked : Log
+reworked = append pruned (adds 3 1 257 (vector 5 1 0))
+
 -- "0 0 k", "1 257 r", "2 258 k", "1 513 k"
 abbrev pub prunedText : List ℕ
 prunedText =
@@ -264,6 +274,39 @@ table =
     ∷ lists prunedFile keeping (replicate 29 9) (refused 8) (replicate 29 9)
     ∷ lists prunedFile skipping (replicate 15 9) (accepted 14) (48 ∷ 32 ∷ 48 ∷ 32 ∷ 107 ∷ 10 ∷ 49 ∷ 32 ∷ 53 ∷ 49 ∷ 51 ∷ 32 ∷ 107 ∷ 10 ∷ 9 ∷ [])
     ∷ prints prunedFile prunedText
+    -- three outcomes, each asked in a vector: of 257, which is removed; of 259, removed later; of 258, whose parent alone is removed; of 513; of a
+    -- remove's number, and of the root
+    ∷ knows pruned (vector 0 0 0) 257 unknown
+    ∷ knows pruned (vector 3 0 0) 257 knownUnmarked
+    ∷ knows pruned (vector 4 0 0) 257 knownMarked
+    ∷ knows pruned (vector 4 0 0) 259 knownUnmarked
+    ∷ knows pruned (vector 5 0 0) 259 knownMarked
+    ∷ knows pruned (vector 5 1 0) 258 knownUnmarked
+    ∷ knows pruned (vector 5 0 0) 513 unknown
+    ∷ knows pruned (vector 5 1 0) 260 unknown
+    ∷ knows pruned (vector 5 1 0) 0 unknown
+    -- removed articles take no new work: the parent of an add, node and parent of a move
+    ∷ issues prunedBuffer 1 (add 257) (refused 11)
+    ∷ issues prunedBuffer 2 (move 257 513) (refused 11)
+    ∷ issues prunedBuffer 2 (move 513 257) (refused 11)
+    -- only the parent itself counts, and a remove stays allowed
+    ∷ issues prunedBuffer 1 (add 258) (accepted 130)
+    ∷ issues prunedBuffer 2 (move 513 258) (accepted 130)
+    ∷ issues prunedBuffer 2 (move 258 513) (accepted 130)
+    ∷ issues prunedBuffer 2 (remove 257) (accepted 130)
+    -- 11 comes after 7, and before 10 and 8
+    ∷ issues prunedBuffer 1 (move 257 260) (refused 7)
+    ∷ issues prunedBuffer 1 (move 257 257) (refused 7)
+    ∷ issues prunedBuffer 1 (move 257 258) (refused 11)
+    ∷ issues p1Buffer 1 (move 258 257) (refused 10)
+    ∷ issues prunedFile 1 (add 257) (refused 11)
+    ∷ issues prunedFile 1 (add 258) (refused 8)
+    -- delivering and soundness take marked nodes, of a replica that has met the removal too
+    ∷ delivers prunedBuffer (adds 3 1 257 (vector 3 0 0)) (accepted 130)
+    ∷ delivers prunedBuffer (adds 3 1 257 (vector 5 1 0)) (accepted 130)
+    ∷ delivers prunedBuffer (opBytes 4 3 257 513 (vector 5 1 0)) (accepted 130)
+    ∷ delivers prunedBuffer (opBytes 2 3 257 0 (vector 5 1 0)) (accepted 130)
+    ∷ laidOut reworked (fileBy (three (entryOf 0 130) (entryOf 5 32) (entryOf 1 102) (entryOf 1 116)) reworked)
     -- paths, of removed nodes too
     ∷ paths prunedFile 258 (replicate 4 9) (accepted 3) (258 ∷ 257 ∷ 0 ∷ 9 ∷ [])
     ∷ paths prunedFile 259 (replicate 2 9) (accepted 2) (259 ∷ 0 ∷ [])
@@ -293,13 +336,13 @@ _&_ a b = (a, b)
 
 -- every row of the table holds
 pub table-holds : AllHold table
-unfolding ofOps table p1 p1File p1Buffer emptyFile p10 p11 p11All p12 p12All rivals rivals2 rivals3 chain pruned prunedFile require wordAt
+unfolding ofOps table p1 p1File p1Buffer emptyFile p10 p11 p11All p12 p12All rivals rivals2 rivals3 chain pruned prunedFile prunedBuffer reworked require wordAt
     word upFrom downFrom sum greatest same concat all any filter isIn replicas isReplica countIn kindOf replicaOf nodeOf parentOf
     vectorOf ownCount seqOf nodeNumber isAdd isRemove isMove wellFormed emptyLog opsOf opAt countsOf append countAt startAt headerCounts
-    startOf endOf fileEnd chunks chunksOf logOf headerEntry headerOf fileOf within covered closedAt closed nodeWithin known knownParent
+    startOf endOf fileEnd chunks chunksOf logOf headerEntry headerOf fileOf within covered closedAt closed isKnown isMarked nodeWithin knowledge knownParent
     namesKnown soundOp soundOps soundLog soundHeader laid structural sound makeAnswer isHeld heldAnswer admitAnswer deliverAnswer slot
     slotOf parentIn climb path depth atOrBelow opsWithin addedIn removedIn timestampIn timestamp stamp stamped ofReplica ofKind ofTime
-    byTime ordered start outcomeSlot outcomeOf step replay parentsOf outcomesOf opBytes moveKind issued requestKnown requestClear
+    byTime ordered start outcomeSlot outcomeOf step replay parentsOf outcomesOf opBytes moveKind issued requestKnown requestUnmarked requestClear
     issueAnswer issueOut nodes marked shown children preorder digits decimal lineOf line listingIn listingOf listingAnswer listing
     listingSize refusedLine outline judgeAnswer pathOf pathAnswer pathCall endAnswer countsAnswer countsCall
 table-holds =
@@ -307,7 +350,9 @@ table-holds =
     & refl & refl & refl & refl & refl & refl & refl & refl & refl & refl & refl & refl & refl & refl & refl & refl
     & (refl, refl) & refl & refl & refl & refl & (refl, refl) & refl & refl & refl & refl & refl & (refl, refl) & refl
     & refl & refl & refl & refl & refl & refl & (refl, refl) & refl & refl & refl & refl & refl & refl & refl & refl
-    & refl & refl & refl & refl & refl & refl & refl & refl & refl & refl & refl & refl & refl & refl & tt
+    & refl & refl & refl & refl & refl & refl & refl & refl & refl & refl & refl & refl & refl & refl & refl & refl
+    & refl & refl & refl & refl & refl & refl & refl & (refl, refl) & refl & refl & refl & refl & refl & refl & refl
+    & refl & refl & refl & refl & refl & refl & refl & refl & refl & refl & tt
 
 -- what holds of all rows holds of each
 each : (xs : List Row) (d : Row) → AllHold xs → (k : ℕ) → k < length xs → Holds (getD xs k d)

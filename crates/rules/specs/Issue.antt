@@ -1,4 +1,4 @@
--- Issuing an op at a replica. Tests 1, 2, 3, 9, 7, 10, 8.
+-- Issuing an op at a replica. Tests 1, 2, 3, 9, 7, 11, 10, 8.
 use Prim.Native.Nat.{ℕ, _+_}
 use mathlib.Core.Bool.{Bool, true, cond, _&&_, not}
 use mathlib.Core.List.{List, _∷_, _++_}
@@ -8,9 +8,10 @@ use Rattle.rules.specs.Answer.{Answer, accepted, require, ifAccepted}
 use Rattle.rules.specs.Bytes.{word}
 use Rattle.rules.specs.Op.{Op, Vector, isReplica, countIn, nodeNumber}
 use Rattle.rules.specs.File.{Log, countsOf, fileEnd, logOf, appended}
-use Rattle.rules.specs.Log.{known, knownParent}
+use Rattle.rules.specs.Log.{knownParent}
+use Rattle.rules.specs.Marks.{isKnown, isMarked, knowledge}
 use Rattle.rules.specs.Sound.{sound}
-use Rattle.rules.specs.Tree.{depth, atOrBelow, moveKind}
+use Rattle.rules.specs.Tree.{atOrBelow, moveKind}
 use Rattle.rules.specs.Replay.{parentsOf}
 
 -- what a caller asks for
@@ -32,8 +33,15 @@ issued log s (move n p) = opBytes (moveKind (parentsOf log) n p) s n p (countsOf
 -- number 7: what the request names is known in the held counts
 unfoldable pub requestKnown : Log → Request → Bool
 requestKnown log (add p) = knownParent log (countsOf log) p
-requestKnown log (remove n) = known log (countsOf log) n
-requestKnown log (move n p) = known log (countsOf log) n && knownParent log (countsOf log) p && not (eqb p n)
+requestKnown log (remove n) = isKnown (knowledge log (countsOf log) n)
+requestKnown log (move n p) = isKnown (knowledge log (countsOf log) n) && knownParent log (countsOf log) p && not (eqb p n)
+
+-- number 11: "an add or move whose node or parent is marked in the present tree"; an add's node is new, and "removing a marked node stays
+-- allowed"
+unfoldable pub requestUnmarked : Log → Request → Bool
+requestUnmarked log (add p) = not (isMarked (knowledge log (countsOf log) p))
+requestUnmarked log (remove n) = true
+requestUnmarked log (move n p) = not (isMarked (knowledge log (countsOf log) n)) && not (isMarked (knowledge log (countsOf log) p))
 
 -- number 10: "move issued to a parent below the node in the present tree"
 unfoldable pub requestClear : Log → Request → Bool
@@ -55,8 +63,9 @@ issueAnswer w f room s q =
     (require (isReplica s) 3
     (require (ltb (countIn (countsOf (logOf w f)) s) 255) 9
     (require (requestKnown (logOf w f) q) 7
+    (require (requestUnmarked (logOf w f) q) 11
     (require (requestClear (logOf w f) q) 10
-    (require (leb (fileEnd w f + w) (length f)) 8 (accepted (fileEnd w f + w))))))))
+    (require (leb (fileEnd w f + w) (length f)) 8 (accepted (fileEnd w f + w)))))))))
 
 -- "the record is added"
 unfoldable pub issueBuffer : ℕ → (buffer : List ℕ) (room replica : ℕ) → Request → List ℕ

@@ -1,12 +1,13 @@
 -- The tests of an op against a log (numbers 5, 6 and 7), and structural soundness.
 use Rattle.rules.specs.File.{headerCounts, startOf, countsOf, startAt, opAt, within, fileEnd, logOf, opsOf, countAt, Log}
-use Prim.Native.Nat.{ℕ, suc, _/_, _%_}
+use Prim.Native.Nat.{ℕ, suc}
 use mathlib.Core.Bool.{Bool, true, cond, _&&_, _||_, not}
 use mathlib.Core.List.{List, [], _∷_}
 use lib.ListN.{length}
 use lib.Dec.{leb, eqb}
 use Rattle.lists.specs.Lists.{all}
-use Rattle.rules.specs.Op.{Op, Vector, replicas, isReplica, countIn, replicaOf, nodeOf, parentOf, vectorOf, seqOf, nodeNumber, isAdd, isRemove, wellFormed}
+use Rattle.rules.specs.Op.{Op, Vector, replicas, countIn, replicaOf, nodeOf, parentOf, vectorOf, seqOf, nodeNumber, isAdd, isRemove, wellFormed}
+use Rattle.rules.specs.Marks.{isKnown, knowledge}
 
 ---- the tests of an op against a log
 
@@ -21,24 +22,16 @@ closedAt log v s = eqb (countIn v s) 0 || within (vectorOf (opAt log s (countIn 
 unfoldable pub closed : Log → Vector → Bool
 closed log v = all (closedAt log v) replicas
 
--- the op of a node's replica and sequence is within the vector
-unfoldable pub nodeWithin : Vector → ℕ → Bool
-nodeWithin v n = isReplica (n / 256) && leb 1 (n % 256) && leb (n % 256) (countIn v (n / 256))
-
--- known: that op is within the vector and is an add
-unfoldable pub known : Log → Vector → ℕ → Bool
-known log v n = nodeWithin v n && isAdd (opAt log (n / 256) (n % 256))
-
 -- "the root is known as parent only"
 unfoldable pub knownParent : Log → Vector → ℕ → Bool
-knownParent log v n = eqb n 0 || known log v n
+knownParent log v n = eqb n 0 || isKnown (knowledge log v n)
 
 -- number 7: of an add the parent is known and the node has its number; of a remove the node is known; of a move node
 -- and parent are known, and the parent is not the node
 unfoldable pub namesKnown : Log → Op → Bool
 namesKnown log r =
     cond (isAdd r) (knownParent log (vectorOf r) (parentOf r) && eqb (nodeOf r) (nodeNumber (replicaOf r) (seqOf r)))
-    (known log (vectorOf r) (nodeOf r)
+    (isKnown (knowledge log (vectorOf r) (nodeOf r))
     && (isRemove r || knownParent log (vectorOf r) (parentOf r) && not (eqb (parentOf r) (nodeOf r))))
 
 ---- structural soundness: the layout, and tests 3, 5, 6 and 7 on every body

@@ -12,7 +12,8 @@ use borrow.Author.Needs.{needs}
 use borrow.Author.Tests.{leb-true, le-leb, lt-leb, lt-ltb, le-ltb, eq-eqb, ne-eqb}
 use Rattle.lists.proofs.BoolLaws.{and-true, and-false, and-left, and-right, and-regroup, tested}
 use Rattle.rules.specs.File.{Log, headerCounts, logOf, opAt, within}
-use Rattle.rules.specs.Log.{closed, closedAt, known, knownParent, laid, soundHeader, soundLog, soundOp, structural, nodeWithin, namesKnown, covered}
+use Rattle.rules.specs.Log.{closed, closedAt, knownParent, laid, soundHeader, soundLog, soundOp, structural, namesKnown, covered}
+use Rattle.rules.specs.Marks.{isKnown, knowledge, nodeWithin}
 use Rattle.rules.specs.Op.{Op, Vector, replicaOf, countIn, seqOf, isReplica, ownCount, isAdd, vectorOf, wellFormed, isRemove, kindOf, nodeNumber, parentOf, nodeOf}
 use Rattle.rules.proofs.FileLaws.{counts-logOf}
 use Rattle.rules.proofs.ReplicaLaws.{passFrom, pass-all, pass-turn, pass-end}
@@ -23,6 +24,7 @@ use Rattle.structure.specs.Tests.{LaidOut, OpHere, namesBy, moveNames, p
 use Rattle.oplog.proofs.FieldLaws.{SameFields, counts-in, held-of, fields-at, small, in-file-of, op-fits}
 use Rattle.structure.proofs.RiseLaws.{before-few, closed-risen, closed-since-none, alone-passes}
 use Rattle.oplog.proofs.HeaderLaws.{laid-fits, laid-header, laid-long, laid-short, laid-wrong}
+use Rattle.rules.proofs.KnownLaws.{Known, known-is}
 
 ---- known nodes: s and q are the replica and the sequence of node n
 
@@ -57,31 +59,30 @@ module _ (v : Vector) (n s q : ℕ) (is : s ≡ n / 256) (iq : q ≡ n % 256) wh
         let uq : q ≤ countIn v s = rw (iq, is) (leb-true (n % 256) (countIn v (n / 256)) (h .1)) in
         in-file-of w f v c s q l u lq uq
 
-    pub known-kind : (at : ℕ) → at ≡ placeOf w f s q → (k : ℕ) → k ≡ kindOf (drop at f) → eqb k 1 ≡ known (logOf w f) v n
-    unfolding known isAdd
-    known-kind at p k i = rw (e, ← is, ← iq, fields-at w f s q node-there at p .kind, i)
+    pub known-kind : (at : ℕ) → at ≡ placeOf w f s q → (k : ℕ) → k ≡ kindOf (drop at f) → eqb k 1 ≡ isKnown (knowledge (logOf w f) v n)
+    unfolding isAdd
+    known-kind at p k i = rw (known-is (logOf w f) v n, e, ← is, ← iq, fields-at w f s q node-there at p .kind, i)
 
 module _ (log : Log) (v : Vector) (n : ℕ) where
-  pub known-without : nodeWithin v n ≡ false → false ≡ known log v n
-  unfolding known
-  known-without e = rw e
+  pub known-without : nodeWithin v n ≡ false → false ≡ isKnown (knowledge log v n)
+  known-without e = rw (known-is log v n, e)
 
   pub parent-root : n ≡ 0 → true ≡ knownParent log v n
   unfolding knownParent
   parent-root e = rw (eq-eqb n 0 e)
 
-  pub parent-node : (n ≡ 0 → ⊥) → (b : Bool) → b ≡ known log v n → b ≡ knownParent log v n
+  pub parent-node : (n ≡ 0 → ⊥) → (b : Bool) → b ≡ isKnown (knowledge log v n) → b ≡ knownParent log v n
   unfolding knownParent
   parent-node e b h = rw (ne-eqb n 0 e) h
 
 ---- what an op names (number 7)
 
 module _ (log : Log) (v : Vector) (node parent : ℕ) where
-  pub move-node : known log v node ≡ false → false ≡ moveNames log v node parent
+  pub move-node : isKnown (knowledge log v node) ≡ false → false ≡ moveNames log v node parent
   unfolding moveNames
   move-node e = rw e
 
-  module _ (e : known log v node ≡ true) where
+  module _ (e : Known log v node) where
     pub move-parent : knownParent log v parent ≡ false → false ≡ moveNames log v node parent
     unfolding moveNames
     move-parent h = rw (e, h)
@@ -100,7 +101,7 @@ module _ (log : Log) (v : Vector) (node parent : ℕ) where
     add-node e h = rw (e, h)
 
     module _ (b : Bool) where
-      pub remove-names : kind ≡ 2 → b ≡ known log v node → b ≡ namesBy log v kind node parent own
+      pub remove-names : kind ≡ 2 → b ≡ isKnown (knowledge log v node) → b ≡ namesBy log v kind node parent own
       unfolding namesBy
       remove-names e h = h ∙ sym (rw e (and-true _))
 

@@ -8,7 +8,8 @@ use lib.ListN.{replicate}
 use Rattle.lists.specs.Lists.{all}
 use Rattle.rules.specs.Op.{Vector, countIn, replicas, vectorOf}
 use Rattle.rules.specs.File.{Log, countAt, headerCounts, logOf, opAt, within}
-use Rattle.rules.specs.Log.{laid, known, knownParent, covered, closedAt, closed, soundOp}
+use Rattle.rules.specs.Log.{laid, knownParent, covered, closedAt, closed, soundOp}
+use Rattle.rules.specs.Marks.{isKnown, knowledge}
 use Rattle.codec.specs.Asked.{kindFits}
 use Rattle.vector.specs.Packed.{isStep}
 use Rattle.oplog.specs.Places.{InFile, nextMarker, nextPlace}
@@ -25,11 +26,11 @@ pub record LaidOut (w : ℕ) (f : List ℕ) (counts : Vector) : Type 0 where
 unfoldable pub namesBy : Log → Vector → ℕ → ℕ → ℕ → ℕ → Bool
 namesBy log v kind node parent own =
     cond (eqb kind 1) (knownParent log v parent && eqb node own)
-    (known log v node && (eqb kind 2 || knownParent log v parent && not (eqb parent node)))
+    (isKnown (knowledge log v node) && (eqb kind 2 || knownParent log v parent && not (eqb parent node)))
 
 -- number 7 of a move: node and parent are known, and the parent is not the node
 unfoldable pub moveNames : Log → Vector → ℕ → ℕ → Bool
-moveNames log v node parent = known log v node && (knownParent log v parent && not (eqb parent node))
+moveNames log v node parent = isKnown (knowledge log v node) && (knownParent log v parent && not (eqb parent node))
 
 -- the tests 3 and 7 of an op
 unfoldable pub passesBy : Log → Vector → ℕ → ℕ → ℕ → ℕ → Bool

@@ -5,7 +5,8 @@ use codec::widen16;
 use oplog::place;
 ghost use mathlib.Core.Path.{_≡_};
 ghost use Rattle.rules.specs.File.{logOf};
-ghost use Rattle.rules.specs.Log.{nodeWithin, known, knownParent};
+ghost use Rattle.rules.specs.Log.{knownParent};
+ghost use Rattle.rules.specs.Marks.{isKnown, nodeWithin, knowledge};
 ghost use Rattle.oplog.specs.Places.{Held};
 ghost use Rattle.structure.specs.Tests.{moveNames, namesBy};
 
@@ -27,10 +28,10 @@ fn node_within(v: [u8; 8], n: u16) -> bool
     q <= widen(v[s - 1])
 }
 
-// Whether an add within the vector made the node.
+// Whether an add within the vector made the node: marked or not, so one look-up tells.
 pub fn known_in(file: &[u8], v: [u8; 8], n: u16, width: usize) -> bool
     requires { ⌜ Held width (now file) v ⌝ }
-    ensures { λ r. ⌜ r ≡ known (logOf width (now (file .entry))) v n ⌝ }
+    ensures { λ r. ⌜ r ≡ isKnown (knowledge (logOf width (now (file .entry))) v n) ⌝ }
 {
     if !node_within(v, n) {
         return false;

@@ -11,7 +11,7 @@ use mathlib.Core.Logic.{inl, inr, _⊎_}
 use mathlib.Core.Path.{ap, refl, sym, _∙_, _≡_}
 use native.Mathlib.Nat.{add-zero, le-of-suc-le-suc, not-suc-le-zero}
 use native.Mathlib.Omega.{arith}
-use Rattle.rules.proofs.KnownLaws.{Named, known-of, known-reads, named-valid, names-add}
+use Rattle.rules.proofs.KnownLaws.{Known, Named, known-of, known-reads, named-valid, names-add}
 use Rattle.order.proofs.NodeLaws.{added-is}
 use Rattle.order.proofs.TreeTheorem.{is-tree}
 use Rattle.tree.proofs.ClimbLaws.{parent-read}
@@ -21,7 +21,7 @@ use Rattle.rules.proofs.SlotLaws.{Valid}
 use Rattle.lists.specs.Lists.{concat, filter, upFrom}
 use Rattle.rules.specs.Listing.{children}
 use Rattle.rules.specs.File.{Log, countsOf, opAt, opsOf}
-use Rattle.rules.specs.Log.{known}
+use Rattle.rules.specs.Marks.{isKnown, knowledge}
 use Rattle.rules.specs.Op.{Op, countIn, isAdd, nodeNumber, nodeOf, replicas}
 use Rattle.rules.specs.Replay.{addedIn, opsWithin, parentsOf}
 use Rattle.rules.specs.Tree.{noParent, parentIn, slots}
@@ -58,7 +58,7 @@ valid-parent n (inr v) q = omega arith
 
 module _ (log : Log) (good : GoodLog log) where
   abbrev held : ℕ → Bool
-  held k = known log (countsOf log) (slotNode k)
+  held k = isKnown (knowledge log (countsOf log) (slotNode k))
 
   module _ (s i : ℕ) (l : 1 ≤ s) (u : s ≤ 8) (b : i < 255) where
     high : slotNode (255 * (s - 1) + 1 + i) / 256 ≡ s
@@ -124,7 +124,7 @@ module _ (log : Log) (good : GoodLog log) where
   pub unheld-parent : (k : ℕ) → 0 < k → k < slots → held k ≡ false → getD (parentsOf log) k 0 ≡ noParent
   unfolding parentsOf
   unheld-parent k l u h = is-tree log good (countsOf log) (whole log good) .bare k l u (λ n e q.
-      let w : known log (countsOf log) n ≡ true = sym (added-is log good (countsOf log) (whole log good) n) ∙ e in
+      let w : Known log (countsOf log) n = sym (added-is log good (countsOf log) (whole log good) n) ∙ e in
       let m : slotNode k ≡ n = rw (← q) (node-slot n (named-valid log (countsOf log) n (inr w))) in
       never (sym (rw m at h) ∙ w))
 

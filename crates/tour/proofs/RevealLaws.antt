@@ -19,11 +19,10 @@ use Rattle.rules.proofs.StructureLaws.{GoodLog}
 use Rattle.rules.proofs.SlotLaws.{Valid, slot-below, slot-injective, slot-root}
 use Rattle.lists.specs.Lists.{any, isIn, upFrom}
 use Rattle.rules.specs.File.{Log, countsOf}
-use Rattle.rules.specs.Log.{known}
 use Rattle.rules.specs.Replay.{parentsOf}
 use Rattle.rules.specs.Tree.{atOrBelow, climb, noParent, parentIn, path, slotOf, slots}
 use Rattle.rules.specs.Views.{keeping, shown}
-use Rattle.rules.specs.Marks.{marked}
+use Rattle.rules.specs.Marks.{isKnown, knowledge, marked}
 use Rattle.marks.proofs.MarkLaws.{marks-say}
 use Rattle.tour.proofs.NodesLaws.{held-parent, nodes-slots, unheld-parent, valid-parent}
 use Rattle.lists.proofs.FilterLaws.{any-map-filter}
@@ -147,7 +146,7 @@ module _ (log : Log) (good : GoodLog log) where
   marks = marksOf log
 
   abbrev held : ℕ → Bool
-  held k = known log (countsOf log) (slotNode k)
+  held k = isKnown (knowledge log (countsOf log) (slotNode k))
 
   abbrev unmarked : ℕ → Bool
   unmarked k = held k && eqb (getD marks k 0) 0

@@ -24,6 +24,7 @@ fn refused(why: Refusal) {
         Refusal::NoRoom => text(b"8"),
         Refusal::Exhausted => text(b"9"),
         Refusal::Cycle => text(b"10"),
+        Refusal::Marked => text(b"11"),
     }
 }
 

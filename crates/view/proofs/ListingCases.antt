@@ -9,9 +9,8 @@ use mathlib.Core.Path.{ap, refl, sym, _∙_, _≡_}
 use native.Mathlib.Omega.{arith}
 use Rattle.lists.proofs.BoolLaws.{tested}
 use Rattle.rules.proofs.SoundLaws.{sound-good, sound-structural}
-use Rattle.soundness.proofs.SoundCases.{laid-of}
 use Rattle.rules.specs.Answer.{accepted, refused, require}
-use Rattle.lists.specs.Lists.{concat, downFrom}
+use Rattle.lists.specs.Lists.{downFrom}
 use Rattle.rules.specs.Listing.{listing, listingAnswer, listingOf}
 use Rattle.rules.specs.File.{logOf, width}
 use Rattle.rules.specs.Path.{Written}
@@ -23,11 +22,10 @@ use Rattle.view.proofs.ListingLaws.{listing-is}
 use Rattle.view.proofs.PutCases.{put-all, put-short}
 use Rattle.view.specs.Answers.{putAnswer, putIn}
 use Rattle.view.specs.Asked.{Arrangeable, Arranged, Orderable, Printable}
-use Rattle.marks.specs.Marking.{Markable}
 use Rattle.tour.specs.Asked.{Tourable}
 use Rattle.tour.specs.Tables.{hiddenOf, linkSlot, links, linksOf, noLinks, orderBy, tourOf}
 use Rattle.view.specs.Tables.{linesOf, orderOf, putFront}
-use Rattle.marks.specs.Marking.{mark, marksOf, noMarks}
+use Rattle.marks.specs.Marking.{Markable, marksOf, noMarks}
 
 ---- the nodes that a view shows
 
@@ -61,21 +59,16 @@ module _ (f m o : List ℕ) (a : Arrangeable f m o) where
   no-marks-size = rw (a .unmarked) (length-replicate {A = ℕ} slots 0)
 
   pub marks-ask : Markable f m
-  marks-ask = record { is-laid = laid-of f (a .is-sound); marks-size = no-marks-size }
+  marks-ask = record { is-sound = a .is-sound; unmarked = a .unmarked }
 
   -- m′ are the marks
   module _ (m′ : List ℕ) where
     pub order-asks : (p : List ℕ) → length p ≡ slots → length m′ ≡ length m → Orderable p m′ o
     order-asks p lp lm = record { parents-size = lp; marks-size = lm ∙ no-marks-size; order-size = a .order-size }
 
-    module _ (em : m′ ≡ foldl mark m (concat (logOf width f))) where
-      pub marks-made : m′ ≡ marksOf (logOf width f)
-      unfolding marksOf
-      marks-made = em ∙ rw (a .unmarked)
-
-      pub order-of : (p : List ℕ) → p ≡ parentsOf (logOf width f) → (v : View) (t : List ℕ) → t ≡ orderBy p m′ v
-          → t ≡ orderBy (parentsOf (logOf width f)) (marksOf (logOf width f)) v
-      order-of p ep v t e = e ∙ rw (ep, marks-made)
+    pub order-of : m′ ≡ marksOf (logOf width f) → (p : List ℕ) → p ≡ parentsOf (logOf width f)
+        → (v : View) (t : List ℕ) → t ≡ orderBy p m′ v → t ≡ orderBy (parentsOf (logOf width f)) (marksOf (logOf width f)) v
+    order-of em p ep v t e = e ∙ rw (ep, em)
 
 ---- the lines of arranged nodes
 
@@ -113,6 +106,6 @@ module _ (f out : List ℕ) (view : View) where
         e ∙ rw (m, o, listing-is (logOf width f) (sound-good width f a) view) (sym listing-put)
 
 ---- what the code of listings needs: search listings
-pub ruleset arranging = (links-ask, order-few, order-made, fresh-asks, marks-ask, order-asks, marks-made, order-of)
+pub ruleset arranging = (links-ask, order-few, order-made, fresh-asks, marks-ask, order-asks, order-of)
 
 pub ruleset listings = (needs, tested, sound-structural, arranging, lines-short, lines-ask, lines-put, listing-unsound, listing-now)

@@ -6,12 +6,11 @@ use mathlib.Core.Bool.{_&&_, false, not, or-true, true}
 use mathlib.Core.List.{List, []}
 use mathlib.Core.Logic.{inl, inr}
 use mathlib.Core.Path.{refl, sym, _∙_, _≡_}
-use Rattle.rules.proofs.KnownLaws.{Named, parent-reads}
+use Rattle.rules.proofs.KnownLaws.{Known, Named, parent-reads}
 use Rattle.lists.proofs.BoolLaws.{and-left, and-right}
 use Rattle.rules.proofs.StructureLaws.{GoodLog, structural-good}
 use Rattle.lists.specs.Lists.{any, isIn}
 use Rattle.rules.specs.File.{Log, countsOf, logOf}
-use Rattle.rules.specs.Log.{known}
 use Rattle.rules.specs.Replay.{parentsOf, removedIn}
 use Rattle.rules.specs.Tree.{atOrBelow, parentIn, path}
 use Rattle.rules.specs.Views.{View, keeping, nodes, shown, skipping}
@@ -26,10 +25,10 @@ module _ (log : Log) (good : GoodLog log) where
   abbrev P : List ℕ
   P = parentsOf log
 
-  hangs : (n : ℕ) → known log (countsOf log) n ≡ true → Under log good (parentIn P n) n
+  hangs : (n : ℕ) → Known log (countsOf log) n → Under log good (parentIn P n) n
   hangs n k = record { node = inr k; parent = refl; below-root = known-nonzero log good n k }
 
-  parent-shown : (view : View) (n : ℕ) → known log (countsOf log) n ≡ true → shown view log P n ≡ true
+  parent-shown : (view : View) (n : ℕ) → Known log (countsOf log) n → shown view log P n ≡ true
       → shown view log P (parentIn P n) ≡ true
   parent-shown keeping n k s = keeping-child log good (parentIn P n) n (hangs n k) s
   parent-shown skipping n k s =
@@ -37,7 +36,7 @@ module _ (log : Log) (good : GoodLog log) where
       (sym (skipping-child log good (parentIn P n) n (named-parent log good n (inr k) (known-nonzero log good n k)) (hangs n k)) ∙ s)
 
   -- an unmarked node is shown by the keeping view
-  unmarked-kept : (n : ℕ) → known log (countsOf log) n ≡ true → marked log (countsOf log) n ≡ false → shown keeping log P n ≡ true
+  unmarked-kept : (n : ℕ) → Known log (countsOf log) n → marked log (countsOf log) n ≡ false → shown keeping log P n ≡ true
   unfolding shown atOrBelow isIn any
   unmarked-kept n k t =
       rw (any-in (λ m. isIn n (path P m) && not (marked log (countsOf log) m)) (nodes log) n (nodes-known log good n ∙ k)

@@ -5,7 +5,8 @@ use mathlib.Core.Bool.{true}
 use mathlib.Core.List.{List, []}
 use lib.ListN.{length}
 use Rattle.rules.specs.File.{Log, width, countsOf, logOf}
-use Rattle.rules.specs.Log.{known, knownParent, structural}
+use Rattle.rules.specs.Log.{knownParent, structural}
+use Rattle.rules.specs.Marks.{isKnown, knowledge}
 use Rattle.rules.specs.Replay.{parentsOf, removedIn}
 use Rattle.rules.specs.Tree.{parentIn}
 use Rattle.rules.specs.Views.{View, keeping, skipping, shown}
@@ -19,7 +20,7 @@ Shows view log n = shown view log (parentsOf log) n ≡ true
 abbrev pub ParentsShown : Type 0
 ParentsShown =
     (w : ℕ) (f : List ℕ) → structural w f ≡ true
-    → (view : View) (n : ℕ) → known (logOf w f) (countsOf (logOf w f)) n ≡ true
+    → (view : View) (n : ℕ) → isKnown (knowledge (logOf w f) (countsOf (logOf w f)) n) ≡ true
     → Shows view (logOf w f) n → Shows view (logOf w f) (parentIn (parentsOf (logOf w f)) n)
 
 -- without removals both views show every node

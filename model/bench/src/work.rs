@@ -6,7 +6,7 @@ use outline_bench::careful;
 use outline_model::cases::examples;
 use outline_model::cases::world::{Style, World};
 use outline_model::rng::Rng;
-use outline_model::{Answer, Log, Op, Tree, View, MAX_FILE, OP_LEN, REPLICAS, SLOTS};
+use outline_model::{Answer, Knowledge, Log, Op, Tree, View, MAX_FILE, OP_LEN, REPLICAS, SLOTS};
 use std::hint::black_box;
 
 pub const SIZES: [usize; 4] = [0, 100, 1000, 2040];
@@ -283,14 +283,17 @@ fn last(ops: &[Op]) -> usize {
         .expect("some op is the last")
 }
 
-/// The deepest node, and one to move it under; the root where there is none.
+/// The deepest node that takes new work, and one to move it under; the root
+/// where there is none.
 fn names(log: &Log) -> (u16, u16) {
     let tree = Tree::judge(log);
-    let Some(node) = tree.nodes().max_by_key(|&node| tree.depth(node)) else {
+    let unmarked = |&node: &u16| log.knowledge(&log.held(), node) == Knowledge::Unmarked;
+    let nodes: Vec<u16> = tree.nodes().filter(unmarked).collect();
+    let Some(&node) = nodes.iter().max_by_key(|&&node| tree.depth(node)) else {
         return (0, 0);
     };
-    let free = |&other: &u16| tree.path(other).all(|above| above != node);
-    let parent = tree.nodes().find(free).unwrap_or(0);
+    let free = |&&other: &&u16| tree.path(other).all(|above| above != node);
+    let parent = nodes.iter().find(free).copied().unwrap_or(0);
     (node, parent)
 }
 

@@ -130,6 +130,38 @@ fn full_logs() {
     }
 }
 
+/// Issues with marked, unmarked and unknown nodes in every place.
+#[test]
+fn marked_nodes() {
+    let mut buffer = examples::file_of(&examples::marked());
+    let room = [7u8; 14];
+    for more in [13, 1] {
+        buffer.resize(buffer.len() + more, 9);
+        for node in [0, 257, 258, 259, 260, 261, 262, 263, 513] {
+            both(
+                &buffer,
+                &room,
+                |b, o| careful::issue_add(b, 4, node, o),
+                |b, o| outline_model::issue_add(b, 4, node, o),
+            );
+            both(
+                &buffer,
+                &room,
+                |b, o| careful::issue_remove(b, 4, node, o),
+                |b, o| outline_model::issue_remove(b, 4, node, o),
+            );
+            for parent in [0, 257, 258, 259, 260, 261, 262, 263, 513] {
+                both(
+                    &buffer,
+                    &room,
+                    |b, o| careful::issue_move(b, 4, node, parent, o),
+                    |b, o| outline_model::issue_move(b, 4, node, parent, o),
+                );
+            }
+        }
+    }
+}
+
 /// An exchange takes one pass, and leaves the same file.
 #[test]
 fn exchanges() {

@@ -54,7 +54,7 @@ fn number(word: &str) -> Result<u64, String> {
 /// How often each call gave each answer: refusals by number, had it, done, a value.
 #[derive(Default)]
 struct Tally {
-    counts: [[u64; 14]; NAMES.len()],
+    counts: [[u64; 15]; NAMES.len()],
     full: u64,
 }
 
@@ -62,9 +62,9 @@ impl Tally {
     fn add(&mut self, call: &Call, outcome: Outcome) {
         let column = match outcome {
             Outcome::Refused(number) => usize::from(number),
-            Outcome::HadIt => 11,
-            Outcome::Done => 12,
-            Outcome::Value(_) => 13,
+            Outcome::HadIt => 12,
+            Outcome::Done => 13,
+            Outcome::Value(_) => 14,
         };
         self.counts[call.index()][column] += 1;
     }
@@ -75,7 +75,7 @@ impl Tally {
 
     fn print(&self) {
         print!("{:<14}", "call");
-        for column in 1..=10 {
+        for column in 1..=11 {
             print!("{:>8}", format!("ref {column}"));
         }
         println!("{:>8}{:>8}{:>8}", "had it", "done", "value");

@@ -1,7 +1,7 @@
 //! Making and delivering.
 
 use super::damage;
-use super::examples::{add, adds, down, file_of, mutual, p1, remove, small_logs, up};
+use super::examples::{add, adds, down, file_of, marked, mutual, p1, remove, small_logs, up};
 use super::world::{full, Style, World};
 use super::Script;
 use crate::log::{HEADER_LEN, MAX_FILE};
@@ -14,6 +14,7 @@ pub fn write(script: &mut Script) {
     shelf(script);
     sequence_edge(script);
     edges(script);
+    marked_nodes(script);
     damaged_files(script);
     exchanges(script);
     long_exchange(script);
@@ -131,6 +132,36 @@ fn edges(script: &mut Script) {
     }
     script.load_in(&file_of(&mutual()), 100);
     script.deliver(&good.bytes());
+}
+
+/// Marked nodes are taken, whether the op's replica has met the removal or not.
+fn marked_nodes(script: &mut Script) {
+    let file = file_of(&marked());
+    for vector in [
+        &[6][..],
+        &[6, 1],
+        &[6, 0, 1],
+        &[6, 0, 2],
+        &[6, 1, 2],
+        // A node that is not known; not closed; early.
+        &[4],
+        &[5, 1],
+        &[6, 2],
+    ] {
+        for node in [257, 258, 261] {
+            let ops = [
+                add(4, node, vector),
+                remove(4, node, vector),
+                up(4, node, 0, vector),
+                down(4, node, 259, vector),
+                up(4, 262, node, vector),
+            ];
+            for op in ops {
+                script.load_in(&file, file.len() + 2 * OP_LEN);
+                script.deliver(&op.bytes());
+            }
+        }
+    }
 }
 
 fn damaged_files(script: &mut Script) {

@@ -140,7 +140,8 @@ pub fn chain_not_count() -> Vec<Op> {
     ops
 }
 
-/// A removed node with a kept one below, and one removed below a kept one.
+/// A removed node with a kept one below, and one removed below a kept one. The
+/// add under 259 has met its removal: it is taken, though none can issue it.
 pub fn removals() -> Vec<Op> {
     vec![
         add(1, 0, &[]),
@@ -154,6 +155,42 @@ pub fn removals() -> Vec<Op> {
         remove(1, 260, &[5]),
         up(8, 258, 260, &[4]),
     ]
+}
+
+/// The tree of `removals`, with nothing removed: 260 > 258 > 259 > 769, and 257.
+pub fn unremoved() -> Vec<Op> {
+    vec![
+        add(1, 0, &[]),
+        add(1, 257, &[1]),
+        add(1, 258, &[2]),
+        add(1, 0, &[3]),
+        add(3, 259, &[4]),
+        up(8, 258, 260, &[4]),
+    ]
+}
+
+/// What replicas have that met no removal: 257 > 258 > 259, 260 > 261, and 262.
+pub fn unmet() -> Vec<Op> {
+    vec![
+        add(1, 0, &[]),
+        add(1, 257, &[1]),
+        add(1, 258, &[2]),
+        add(1, 0, &[3]),
+        add(1, 260, &[4]),
+        add(1, 0, &[5]),
+    ]
+}
+
+/// The same with 257 and 261 marked: one above unmarked nodes, removed by two
+/// replicas, and one below an unmarked node.
+pub fn marked() -> Vec<Op> {
+    let mut ops = unmet();
+    ops.extend([
+        remove(2, 257, &[6]),
+        remove(3, 261, &[6]),
+        remove(3, 257, &[6, 0, 1]),
+    ]);
+    ops
 }
 
 /// Two ops that count each other: never sound, and a check must still end.
@@ -206,5 +243,6 @@ pub fn small_logs() -> Vec<Vec<Op>> {
         rivals_with_different_vectors(),
         chain_not_count(),
         removals(),
+        marked(),
     ]
 }

@@ -1,14 +1,16 @@
 //! Issuing.
 
 use super::damage;
-use super::examples::{adds, file_of, mutual, p1, removals, small_logs};
+use super::examples::{
+    add, adds, file_of, log_of, marked, mutual, p1, removals, remove, small_logs, unmet, unremoved,
+};
 use super::world::{full, Style, World};
 use super::Script;
 use crate::log::{HEADER_LEN, MAX_FILE};
 use crate::op::{Op, OP_LEN};
 use crate::rng::Rng;
 use crate::script::Case;
-use crate::{deliver, issue_add, issue_move, issue_remove, make, Log};
+use crate::{deliver, issue_add, issue_move, issue_remove, make, Knowledge, Log, View};
 
 const ROOM: u8 = 14;
 const NUMBERS: [u16; 17] = [
@@ -20,6 +22,10 @@ pub fn write(script: &mut Script) {
     order_of_tests(script);
     names(script);
     sequence_edge(script);
+    marked_names(script);
+    marked_work(script);
+    a_removal_comes(script);
+    marked_in_full_logs(script);
     damaged_files(script);
     exchanges(script);
     whole_exchanges(script);
@@ -63,8 +69,8 @@ fn edges(script: &mut Script) {
 
 /// Calls with several causes at once: the first in order is answered.
 fn order_of_tests(script: &mut Script) {
-    let sound = [file_of(&p1()), file_of(&adds(1, 255)), file_of(&removals())];
-    for file in sound {
+    for ops in [p1(), adds(1, 255), removals(), unremoved(), marked()] {
+        let file = file_of(&ops);
         for damaged in [false, true] {
             for room in [0, 14] {
                 script.load_in(
@@ -76,6 +82,7 @@ fn order_of_tests(script: &mut Script) {
                     script.extend(each(replica, 4000, 257, 14));
                     script.push(Case::Move(replica, 258, 258, 14));
                     script.push(Case::Move(replica, 258, 257, 14));
+                    script.push(Case::Move(replica, 257, 258, 14));
                 }
             }
         }
@@ -84,18 +91,32 @@ fn order_of_tests(script: &mut Script) {
 
 /// Every pair of node and parent, known or not, in three trees.
 fn names(script: &mut Script) {
-    for ops in [p1(), removals()] {
-        let file = file_of(&ops);
-        for node in NUMBERS {
-            script.load_in(&file, file.len() + OP_LEN);
-            script.push(Case::Remove(3, node, ROOM));
-            script.load_in(&file, file.len() + OP_LEN);
-            script.push(Case::Add(3, node, ROOM));
-            for parent in NUMBERS {
-                script.load_in(&file, file.len() + OP_LEN);
-                script.push(Case::Move(3, node, parent, ROOM));
-            }
+    for ops in [p1(), unremoved(), removals()] {
+        each_at(script, &file_of(&ops), OP_LEN, pairs(3, &NUMBERS));
+    }
+}
+
+/// Every call of a replica with these numbers.
+fn pairs(replica: u8, numbers: &[u16]) -> Vec<Case> {
+    let mut cases = vec![];
+    for &node in numbers {
+        cases.push(Case::Remove(replica, node, ROOM));
+        cases.push(Case::Add(replica, node, ROOM));
+        let moves = numbers.iter();
+        cases.extend(moves.map(|&parent| Case::Move(replica, node, parent, ROOM)));
+    }
+    cases
+}
+
+/// Each call on the same file, with so much room behind it.
+fn each_at(script: &mut Script, file: &[u8], room: usize, cases: Vec<Case>) {
+    let mut changed = true;
+    for case in cases {
+        if changed {
+            script.load_in(file, file.len() + room);
         }
+        // A refused call leaves the file as it was.
+        changed = script.push(case).starts_with('a');
     }
 }
 
@@ -110,6 +131,125 @@ fn sequence_edge(script: &mut Script) {
         }
         script.push(Case::Remove(replica, 0, ROOM));
         script.push(Case::Remove(5, 256 * u16::from(replica) + 255, ROOM));
+    }
+}
+
+/// Marked nodes, unmarked ones above and below them, and what is no node, as
+/// node and as parent; without room, what is accepted else is 8.
+fn marked_names(script: &mut Script) {
+    let file = file_of(&marked());
+    let numbers = [0, 257, 258, 259, 260, 261, 262, 263, 513, 2304];
+    // 2 has removed a node, 4 has issued nothing.
+    for replica in [2, 4] {
+        each_at(script, &file, OP_LEN - 1, pairs(replica, &numbers));
+    }
+    each_at(script, &file, OP_LEN, pairs(4, &numbers[..7]));
+}
+
+/// What replica 4 can issue before it meets the removals is delivered where they
+/// are held; after it meets them it can issue the same no more.
+fn marked_work(script: &mut Script) {
+    let before = file_of(&unmet());
+    let after = file_of(&marked());
+    let numbers = [0, 257, 258, 259, 260, 261, 262];
+    for case in pairs(4, &numbers) {
+        script.load_in(&before, after.len() + 2 * OP_LEN);
+        if !script.push(case.clone()).starts_with('a') {
+            continue;
+        }
+        let issued = ops(script.buffer()).into_iter().find(|op| op.replica == 4);
+        for removal in &marked()[unmet().len()..] {
+            script.deliver(&removal.bytes());
+        }
+        script.push(case.clone());
+        if !names_mark(&case) {
+            continue;
+        }
+        script.load_in(&after, after.len() + 2 * OP_LEN);
+        script.push(case);
+        if let Some(op) = issued {
+            script.deliver(&op.bytes());
+        }
+        look(script);
+    }
+}
+
+/// Whether an add or move names a marked node of `marked`.
+fn names_mark(case: &Case) -> bool {
+    let marked = |node: &u16| [257, 261].contains(node);
+    match case {
+        Case::Add(_, parent, _) => marked(parent),
+        Case::Move(_, node, parent, _) => marked(node) || marked(parent),
+        _ => false,
+    }
+}
+
+/// Judging and both views.
+fn look(script: &mut Script) {
+    script.push(Case::Judge(2041, 2041));
+    script.push(Case::Listing(View::Keeping, 200));
+    script.push(Case::Listing(View::Skipping, 200));
+}
+
+/// Work on a node and below it, before and after its removal is met.
+fn a_removal_comes(script: &mut Script) {
+    for remover in [1, 2, 4, 8] {
+        script.load_in(&file_of(&unmet()), 600);
+        let mut there = script.buffer().to_vec();
+        // 4 adds 1025 to the node that the remover, not having met it, removes.
+        script.push(Case::Add(4, 257, ROOM));
+        if remover == 4 {
+            script.push(Case::Remove(4, 257, ROOM));
+        } else {
+            issue_remove(&mut there, remover, 257, &mut [0; OP_LEN]);
+            give(script, &there);
+        }
+        script.extend([
+            Case::Add(4, 257, ROOM),
+            Case::Add(4, 1025, ROOM),
+            Case::Move(4, 1025, 262, ROOM),
+            Case::Move(4, 1025, 257, ROOM),
+            Case::Move(4, 257, 0, ROOM),
+            Case::Remove(4, 257, ROOM),
+            Case::Remove(4, 1025, ROOM),
+            Case::Remove(4, 1025, ROOM),
+            Case::Add(4, 1025, ROOM),
+            Case::Move(4, 1025, 0, ROOM),
+            Case::Add(4, 0, ROOM),
+        ]);
+        look(script);
+        // The remover met none of this; its log takes it all, and moves on.
+        let here = script.buffer().to_vec();
+        script.load_in(&there, 600);
+        issue_all(script, remover);
+        give(script, &here);
+        issue_all(script, remover);
+        look(script);
+    }
+}
+
+/// Calls that name what was removed, and 1025, which is not known at first.
+fn issue_all(script: &mut Script, replica: u8) {
+    script.extend(each(replica, 257, 257, ROOM));
+    script.extend(each(replica, 258, 1025, ROOM));
+    script.push(Case::Move(replica, 257, 1025, ROOM));
+}
+
+/// 9 comes before 11, and 11 before 8.
+fn marked_in_full_logs(script: &mut Script) {
+    let mut ops = adds(1, 255);
+    ops.extend([remove(2, 257, &[255]), remove(3, 300, &[255])]);
+    ops.push(add(3, 257, &[255, 0, 1]));
+    let file = file_of(&ops);
+    for room in [13, 14] {
+        script.load_in(&file, file.len() + room);
+        for replica in [1, 2, 8] {
+            script.extend(each(replica, 257, 257, ROOM));
+            script.extend(each(replica, 257, 300, ROOM));
+            script.push(Case::Move(replica, 257, 770, ROOM));
+            script.push(Case::Move(replica, 258, 300, ROOM));
+            script.push(Case::Move(replica, 258, 4000, ROOM));
+        }
     }
 }
 
@@ -229,10 +369,16 @@ fn pick_sort(rng: &mut Rng) -> usize {
     rng.pick(&[0, 0, 0, 1, 2, 2, 2, 2])
 }
 
-/// Mostly an added node, now and then the root or a wrong number.
+/// Mostly an added node that takes new work, now and then any that an op names,
+/// the root or a wrong number.
 fn some_node(rng: &mut Rng, buffer: &[u8]) -> u16 {
-    let ops: Vec<Op> = ops(buffer);
-    match rng.below(20) {
+    let mut ops: Vec<Op> = ops(buffer);
+    let sort = rng.below(20);
+    if sort > 4 {
+        let log = log_of(&ops);
+        ops.retain(|op| log.knowledge(&log.held(), op.node) == Knowledge::Unmarked);
+    }
+    match sort {
         0 => rng.pick(&NUMBERS),
         1 | 2 => 0,
         _ if ops.is_empty() => 0,

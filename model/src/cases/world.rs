@@ -81,7 +81,8 @@ impl World {
         *count = (*count).max(heard.sequence() as u8);
     }
 
-    /// The kind of a move is free: a delivered one is taken as written.
+    /// The kind of a move is free: a delivered one is taken as written. So is one
+    /// that names a marked node, whether its replica has met the removal or not.
     fn issue(&mut self, rng: &mut Rng, replica: u8, style: Style) {
         let vector = self.seen[usize::from(replica) - 1];
         let sequence = usize::from(vector[usize::from(replica) - 1]) + 1;

@@ -78,7 +78,14 @@ pub fn issue_in(buffer: &mut [u8], replica: u8, issue: Issue, room: usize) -> (A
             assert_eq!(deliver(&mut other, &out[..14]), Accepted(end));
             assert_eq!(buffer, other);
         }
-        Refused(1 | 2 | 3 | 7..=10) => {
+        Refused(number) => {
+            let all = [1, 2, 3, 7, 8, 9];
+            let own: &[u8] = match issue {
+                Issue::Add(_) => &[11],
+                Issue::Remove(_) => &[],
+                Issue::Move(..) => &[10, 11],
+            };
+            assert!(all.contains(&number) || own.contains(&number), "{number}");
             assert_eq!(buffer, before);
             assert!(out.iter().all(|&byte| byte == 0xee));
         }

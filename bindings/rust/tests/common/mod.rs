@@ -42,7 +42,12 @@ pub fn issue(rng: &mut Rng, log: &mut Log, me: Replica) {
         4 => log.remove(me, a),
         _ => log.move_to(me, a, b),
     };
-    let expected = [Refusal::Unknown, Refusal::Cycle, Refusal::Exhausted];
+    let expected = [
+        Refusal::Unknown,
+        Refusal::Marked,
+        Refusal::Cycle,
+        Refusal::Exhausted,
+    ];
     if let Err(why) = issued {
         assert!(expected.contains(&why), "{why}");
     }

@@ -1,7 +1,7 @@
 //! Making, delivering, issuing and judging.
 
 use super::log::{Layout, Log, Op, ADD, DOWN, HEADER, OP, REMOVE, REPLICAS, UP};
-use super::replay::{depth, is_below, replay, NO_PARENT, SLOTS};
+use super::replay::{depth, is_below, marks, replay, slot_of, NO_PARENT, SLOTS};
 use outline_model::{refusal, Answer};
 
 pub fn answer(result: Result<Answer, u8>) -> Answer {
@@ -54,6 +54,10 @@ pub fn issue_add(buffer: &mut [u8], replica: u8, parent: u16, out: &mut [u8]) ->
         if !log.knows_parent(&log.layout.counts, parent) {
             return Err(refusal::UNKNOWN);
         }
+        // The root's slot is never marked.
+        if marks(log)[slot_of(parent)] == 1 {
+            return Err(refusal::MARKED);
+        }
         Ok((ADD, u16::from_be_bytes([replica, sequence]), parent))
     }))
 }
@@ -81,6 +85,10 @@ pub fn issue_move(
         if !log.knows(counts, node) || !log.knows_parent(counts, parent) || parent == node {
             return Err(refusal::UNKNOWN);
         }
+        let marks = marks(log);
+        if marks[slot_of(node)] == 1 || marks[slot_of(parent)] == 1 {
+            return Err(refusal::MARKED);
+        }
         let mut parents = [NO_PARENT; SLOTS];
         let mut outcomes = [0; SLOTS];
         replay(log, &mut parents, &mut outcomes);
@@ -92,7 +100,8 @@ pub fn issue_move(
     }))
 }
 
-/// Tests 1, 2, 3 and 9; `draft` makes 7 and 10, and gives kind, node and parent.
+/// Tests 1, 2, 3 and 9; `draft` makes 7, 11 and 10, and gives kind, node and
+/// parent.
 fn issue(
     buffer: &mut [u8],
     replica: u8,

@@ -1,8 +1,8 @@
 //! Path and listing.
 
 use super::calls::answer;
-use super::log::{Log, REMOVE};
-use super::replay::{depth, replay, slot_of, NO_PARENT, SLOTS};
+use super::log::Log;
+use super::replay::{depth, marks, replay, slot_of, NO_PARENT, SLOTS};
 use outline_model::{refusal, Answer, View};
 
 #[inline(never)]
@@ -36,14 +36,11 @@ fn try_listing(file: &[u8], view: View, out: &mut [u8]) -> Result<Answer, u8> {
     let log = Log::open(file).ok_or(refusal::UNSOUND)?;
     let mut parents = [NO_PARENT; SLOTS];
     replay(&log, &mut parents, &mut [0; SLOTS]);
-    let mut removed = [false; SLOTS];
-    for op in log.ops().filter(|op| op.kind() == REMOVE) {
-        removed[slot_of(op.node())] = true;
-    }
+    let marks = marks(&log);
     let hidden = match view {
-        View::Keeping => hidden(&parents, &removed),
-        // All below a removed node goes with it: the tour does not come there.
-        View::Skipping => removed,
+        View::Keeping => hidden(&parents, &marks),
+        // All below a marked node goes with it: the tour does not come there.
+        View::Skipping => marks,
     };
     let mut order = [(0u16, 0u16); SLOTS];
     let order = tour(&parents, &hidden, &mut order);
@@ -59,7 +56,7 @@ fn try_listing(file: &[u8], view: View, out: &mut [u8]) -> Result<Answer, u8> {
         rest = put_decimal(rest, node);
         rest = put(
             rest,
-            if removed[slot_of(node)] {
+            if marks[slot_of(node)] == 1 {
                 b" r\n"
             } else {
                 b" k\n"
@@ -69,19 +66,19 @@ fn try_listing(file: &[u8], view: View, out: &mut [u8]) -> Result<Answer, u8> {
     Ok(Answer::Count(size))
 }
 
-/// Which slots the keeping view hides: all but the nodes that are not removed,
-/// and those above them.
-fn hidden(parents: &[u16; SLOTS], removed: &[bool; SLOTS]) -> [bool; SLOTS] {
-    let mut hidden = [true; SLOTS];
-    hidden[0] = false;
+/// Which slots the keeping view hides, with 1: all but the unmarked nodes, and
+/// those above them.
+fn hidden(parents: &[u16; SLOTS], marks: &[u8; SLOTS]) -> [u8; SLOTS] {
+    let mut hidden = [1; SLOTS];
+    hidden[0] = 0;
     for slot in 1..SLOTS {
-        if parents[slot] == NO_PARENT || removed[slot] {
+        if parents[slot] == NO_PARENT || marks[slot] == 1 {
             continue;
         }
         // Up to the first that is shown already.
         let mut at = slot;
-        while hidden[at] {
-            hidden[at] = false;
+        while hidden[at] == 1 {
+            hidden[at] = 0;
             at = slot_of(parents[at]);
         }
     }
@@ -91,14 +88,14 @@ fn hidden(parents: &[u16; SLOTS], removed: &[bool; SLOTS]) -> [bool; SLOTS] {
 /// The shown nodes in preorder, with their depths.
 fn tour<'a>(
     parents: &[u16; SLOTS],
-    hidden: &[bool; SLOTS],
+    hidden: &[u8; SLOTS],
     order: &'a mut [(u16, u16); SLOTS],
 ) -> &'a [(u16, u16)] {
     // First child and next sibling; from the last slot on, so that children rise.
     let mut first = [0u16; SLOTS];
     let mut next = [0u16; SLOTS];
     for slot in (1..SLOTS).rev() {
-        if parents[slot] != NO_PARENT && !hidden[slot] {
+        if parents[slot] != NO_PARENT && hidden[slot] == 0 {
             let above = slot_of(parents[slot]);
             next[slot] = first[above];
             first[above] = node_at(slot);

@@ -70,6 +70,17 @@ pub fn replay(log: &Log, parents: &mut [u16; SLOTS], outcomes: &mut [u8; SLOTS])
     }
 }
 
+/// Which slots have a marked node, with 1: every remove marks, whenever it comes.
+pub fn marks(log: &Log) -> [u8; SLOTS] {
+    let mut marks = [0; SLOTS];
+    for op in log.ops() {
+        if op.kind() == REMOVE {
+            marks[slot_of(op.node())] = 1;
+        }
+    }
+    marks
+}
+
 /// Whether `from` is the node or lies below it.
 pub fn is_below(parents: &[u16; SLOTS], from: u16, node: u16) -> bool {
     let mut at = from;

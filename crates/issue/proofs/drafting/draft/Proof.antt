@@ -8,7 +8,8 @@ use Rattle.issue.proofs.drafting.draft.Tie as tie
 
 draft-known-requires : tie.Need-draft-known-requires
 draft-known-requires c κs =
-    let known = so-by-not (c .before .knows .ensures) (c .if2 .left) in
+    let asked = c .before .before in
+    let known = so-by-not (asked .before .knows .ensures) (asked .if2 .left) in
     known-request _ _ _ _ (search issuing) (search issuing) (search issuing) (search issuing) known
 
 pub draft-spec : {M : Type 1} → statement M
@@ -17,6 +18,8 @@ draft-spec =
     (tie.spec
     (λ c κs. header-of _ (search issuing))
     (λ c κs. search needs)
+    (λ c. search issuing)
+    (λ c κs. search issuing)
     (λ c. search issuing)
     (λ c κs. search issuing)
     (λ c. search issuing)

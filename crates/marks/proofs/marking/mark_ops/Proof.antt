@@ -1,11 +1,12 @@
 -- `marks::marking::mark_ops` meets its contract.
+use native.Mathlib.Omega.{arith}
 use Rattle.oplog.proofs.MarkerLaws.{togo}
-use Rattle.marks.proofs.MarkingCases.{Marking, marking}
+use Rattle.marks.proofs.MarkingCases.{Marking, marking, unmarked-size}
 use Rattle.marks.proofs.marking.mark_ops.Statement.{statement}
 use Rattle.marks.proofs.marking.mark_ops.Tie as tie
 
 abbrev Inv-loop : tie.InvT-loop
-Inv-loop file marks₀ m₀ marks m = Marking file marks₀ marks m
+Inv-loop file marks₀ m₀ marks m = Marking file marks m
 
 abbrev μ-loop : tie.MeasureT-loop
 μ-loop file marks₀ m₀ marks m = togo m
@@ -22,5 +23,5 @@ mark-ops-spec =
     (λ c κs. search marking)
     (λ c. search marking)
     (λ c. search marking)
-    (λ c. search marking)
+    (λ c. omega (arith, unmarked-size))
     (λ c. search marking))

@@ -1,17 +1,16 @@
--- `issue::drafting::knows` meets its contract.
+-- `issue::naming::unmarked` meets its contract.
 use borrow.Author.Needs.{needs}
 use Rattle.issue.proofs.IssueCases.{issuing}
-use Rattle.issue.proofs.drafting.knows.Statement.{statement}
-use Rattle.issue.proofs.drafting.knows.Tie as tie
+use Rattle.issue.proofs.naming.unmarked.Statement.{statement}
+use Rattle.issue.proofs.naming.unmarked.Tie as tie
 
-pub knows-spec : {M : Type 1} → statement M
-knows-spec =
+pub unmarked-spec : {M : Type 1} → statement M
+unmarked-spec =
     tie.close
     (tie.spec
     (λ c. search needs)
-    (λ c κs. search issuing)
+    (λ c κs. search needs)
     (λ c. search needs)
-    (λ c κs. search issuing)
     (λ c. search needs)
     (λ c κs. search needs)
     (λ c. search issuing)

@@ -1,7 +1,7 @@
--- `issue::drafting::knows_move` meets its contract.
+-- `issue::naming::knows_move` meets its contract.
 use Rattle.issue.proofs.IssueCases.{issuing}
-use Rattle.issue.proofs.drafting.knows_move.Statement.{statement}
-use Rattle.issue.proofs.drafting.knows_move.Tie as tie
+use Rattle.issue.proofs.naming.knows_move.Statement.{statement}
+use Rattle.issue.proofs.naming.knows_move.Tie as tie
 
 pub knows-move-spec : {M : Type 1} → statement M
 knows-move-spec =

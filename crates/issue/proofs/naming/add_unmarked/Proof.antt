@@ -1,0 +1,15 @@
+-- `issue::naming::add_unmarked` meets its contract.
+use borrow.Author.Needs.{needs}
+use Rattle.issue.proofs.IssueCases.{issuing}
+use Rattle.issue.proofs.naming.add_unmarked.Statement.{statement}
+use Rattle.issue.proofs.naming.add_unmarked.Tie as tie
+
+pub add-unmarked-spec : {M : Type 1} → statement M
+add-unmarked-spec =
+    tie.close
+    (tie.spec
+    (λ c. search needs)
+    (λ c κs. search issuing)
+    (λ c. search needs)
+    (λ c κs. search needs)
+    (λ c. search issuing))

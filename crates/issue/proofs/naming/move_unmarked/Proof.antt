@@ -1,0 +1,18 @@
+-- `issue::naming::move_unmarked` meets its contract.
+use borrow.Author.Needs.{needs}
+use Rattle.issue.proofs.IssueCases.{issuing}
+use Rattle.issue.proofs.naming.move_unmarked.Statement.{statement}
+use Rattle.issue.proofs.naming.move_unmarked.Tie as tie
+
+pub move-unmarked-spec : {M : Type 1} → statement M
+move-unmarked-spec =
+    tie.close
+    (tie.spec
+    (λ c. search needs)
+    (λ c κs. search issuing)
+    (λ c. search needs)
+    (λ c κs. search needs)
+    (λ c. search issuing)
+    (λ c. search needs)
+    (λ c κs. search needs)
+    (λ c. search issuing))
