@@ -1,7 +1,7 @@
 -- The returns and turns of marking, as the code meets them.
 use Prim.Native.Nat.{_<_, _≤_, ℕ}
 use borrow.Author.Needs.{needs}
-use borrow.Author.Tests.{eqb-false, leb-true, ne-eqb}
+use borrow.Author.Tests.{eqb-false, le-leb, leb-true, ne-eqb}
 use lib.Dec.{eqb, leb}
 use lib.ListN.{drop, length, length-replicate, set}
 use mathlib.Core.Bool.{Bool, cond, false, true}
@@ -77,6 +77,17 @@ module _ (f : List ℕ) (m : Marker) (t : List ℕ) (a : MarkableFrom f m t) whe
     unfolding markAt
     held-op e x b = b ∙ rw (← is, e)
 
+  -- n is the count that was read, and more ops follow
+  module _ (n : ℕ) (is : n ≡ countAt f (m .replica)) (more : m .sequence < n) where
+    is-there : leb (m .sequence) (countAt f (m .replica)) ≡ true
+    is-there = le-leb (m .sequence) (countAt f (m .replica)) (omega arith)
+
+    pub more-asks : MarkableAt f (m .replica) (m .sequence) t
+    more-asks = held-asks _ refl is-there
+
+    pub more-op : (x : List ℕ) → x ≡ mark t (opAt (logOf width f) (m .replica) (m .sequence)) → x ≡ markAt f t (m .replica) (m .sequence)
+    more-op x b = held-op _ refl is-there x b
+
 ---- all ops; a marker on its way, with the ops before it done
 
 pub record Marking (f t : List ℕ) (m : Marker) : Type 0 where
@@ -127,6 +138,6 @@ module _ (f t : List ℕ) (m : Marker) (r : Marking f t m) where
           step false op ops t = refl
 
 ---- what the code of marking needs: search marking
-pub ruleset marked-op = (mark-remove, mark-other, mark-kind, header-long, held-none, held-asks, held-op)
+pub ruleset marked-op = (mark-remove, mark-other, mark-kind, header-long, held-none, held-asks, held-op, more-asks, more-op)
 
 pub ruleset marking = (needs, tested, marked-op, marking-starts, marking-ends, marking-asks, marking-less, marking-on)

@@ -1,11 +1,13 @@
 use codec::kind_at;
 use codec::node_at;
 use oplog::Marker;
+use oplog::count_at;
 use oplog::place;
 use soundness::WIDTH;
 use tree::slot_in;
 ghost use mathlib.Core.Path.{_≡_};
 ghost use Rattle.rules.specs.File.{width, logOf, opAt};
+ghost use Rattle.oplog.specs.Places.{nextMarker};
 ghost use Rattle.marks.specs.Marking.{Markable, MarkableAt, MarkableFrom};
 ghost use Rattle.marks.specs.Marking.{mark, markAt, marksOf};
 
@@ -42,6 +44,21 @@ fn mark_held(file: &[u8], m: Marker, marks: &mut [u8])
     mark_op(file, m.replica, m.sequence, marks);
 }
 
+// The effect of the op at a marker, if there is one, and the next marker. That a replica has more ops is
+// foreseen, so no turn waits for the count.
+fn mark_turn(file: &[u8], m: Marker, marks: &mut [u8]) -> Marker
+    requires { ⌜ MarkableFrom (now file) m (now marks) ⌝ }
+    ensures { λ r. ⌜ (r ≡ nextMarker (now (file .entry)) m)
+        × (now (marks .exit) ≡ markAt (now (file .entry)) (now (marks .entry)) (m .replica) (m .sequence)) ⌝ }
+{
+    if m.sequence < count_at(file, m.replica) {
+        mark_op(file, m.replica, m.sequence, marks);
+        return m.next(file);
+    }
+    mark_held(file, m, marks);
+    m.next(file)
+}
+
 // Marks every node that an op of a sound log removes, by a marker through the file.
 pub fn mark_ops(file: &[u8], marks: &mut [u8])
     requires { ⌜ Markable (now file) (now marks) ⌝ }
@@ -49,7 +66,6 @@ pub fn mark_ops(file: &[u8], marks: &mut [u8])
 {
     let mut m = Marker::first();
     while m.replica <= 8 {
-        mark_held(file, m, marks);
-        m = m.next(file);
+        m = mark_turn(file, m, marks);
     }
 }

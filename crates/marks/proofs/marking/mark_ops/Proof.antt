@@ -20,7 +20,6 @@ mark-ops-spec =
     (λ c κs. search marking)
     (λ c. search marking)
     (λ c κs. search marking)
-    (λ c κs. search marking)
     (λ c. search marking)
     (λ c. search marking)
     (λ c. omega (arith, unmarked-size))
