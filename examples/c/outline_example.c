@@ -2,6 +2,7 @@
  * Two machines, each with a log of its own. One makes two headings and the
  * other gets them; then, apart, each moves a heading below the other's. They
  * meet, hand each other their ops, and hold the same file and the same tree.
+ * Then one heading is removed, and takes no new work.
  */
 #include "outline.h"
 
@@ -44,6 +45,12 @@ static void move(struct machine *m, uint16_t node, uint16_t parent) {
     printf("machine %d moves node %d under %d: %s\n", m->replica, node, parent,
            outline_text(answer));
     if (!outline_refused(answer)) m->end = outline_value(answer);
+}
+
+static void take_away(struct machine *m, uint16_t node) {
+    uint8_t op[OUTLINE_OP];
+    m->end = value_of(outline_issue_remove(m->log, sizeof m->log, m->replica, node, op, sizeof op));
+    printf("machine %d removes node %d\n", m->replica, node);
 }
 
 /*
@@ -118,5 +125,8 @@ int main(void) {
     judge(&one);
     show_path(&one, a);
     move(&one, b, a);
+    take_away(&one, b);
+    move(&one, a, b);
+    show(&one);
     return same ? 0 : 1;
 }

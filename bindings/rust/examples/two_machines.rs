@@ -1,6 +1,7 @@
 //! Two machines, each with a log of its own. One makes two headings and the
 //! other gets them; then, apart, each moves a heading below the other's. They
 //! meet, hand each other their ops, and hold the same file and the same tree.
+//! Then one heading is removed, and takes no new work.
 
 use outline::{Kind, Log, Node, Outcome, Refusal, Replica, View};
 
@@ -91,5 +92,10 @@ fn main() -> Result<(), Refusal> {
     let path: Vec<String> = tree.path(a).map(|node| node.to_string()).collect();
     println!("path of {a}: {}", path.join(" "));
     one.put(b, a);
+
+    one.log.remove(one.replica, b)?;
+    println!("machine {} removes node {b}", one.replica);
+    one.put(a, b);
+    one.show();
     Ok(())
 }

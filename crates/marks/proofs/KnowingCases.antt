@@ -4,22 +4,20 @@ use borrow.Author.Needs.{needs}
 use borrow.Author.Tests.{eq-eqb, ne-eqb}
 use lib.Dec.{eqb}
 use lib.ListN.{getD, length}
-use mathlib.Core.Bool.{Bool, false, not, true}
+use mathlib.Core.Bool.{false, not}
 use mathlib.Core.List.{List}
 use mathlib.Core.Logic.{inr}
 use mathlib.Core.Path.{ap, sym, _∙_, _≡_}
 use Rattle.lists.proofs.BoolLaws.{tested}
-use Rattle.rules.specs.File.{Log, countsOf, logOf, width}
+use Rattle.rules.specs.File.{Log, logOf, width}
 use Rattle.rules.specs.Marks.{isKnown, knowledge, knownMarked, knownUnmarked, marked, unknown}
 use Rattle.rules.specs.Op.{Vector}
 use Rattle.rules.specs.Tree.{slots}
 use Rattle.rules.proofs.KnownLaws.{Known, knowledge-known, knowledge-unknown, named-valid}
 use Rattle.rules.proofs.SoundLaws.{sound-good}
-use Rattle.soundness.specs.Asked.{Tallied}
 use Rattle.soundness.proofs.SoundCases.{tallied-held}
 use Rattle.tree.specs.Slots.{slotIn}
 use Rattle.marks.specs.Knowing.{MarkedLog}
-use Rattle.marks.specs.Marking.{marksOf}
 use Rattle.marks.proofs.MarkLaws.{marks-long, marks-say}
 
 module _ (f : List ℕ) (u : Vector) (t : List ℕ) (a : MarkedLog f u t) where

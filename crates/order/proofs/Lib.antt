@@ -13,8 +13,8 @@ pub mod RisingLaws
 pub mod TourLaws
 pub mod PlacingLaws
 pub mod DecimalLaws
-pub mod ClaimTheorems
 pub mod RemoveLaws
 pub mod WorkLaws
-pub mod ViewLaws
 pub mod TreePathLaws
+pub mod ViewLaws
+pub mod ClaimTheorems

@@ -1,18 +1,18 @@
 -- What a line prints of a node, and what an issued op names, by what the held counts know.
 use Prim.Native.Nat.{ℕ, _*_, _+_, _/_, _<_}
 use borrow.Author.Tests.{not-true}
-use mathlib.Core.Bool.{Bool, false, not, true, and-eq-true-iff}
-use mathlib.Core.Path.{refl, sym, _∙_, _≡_}
+use mathlib.Core.Bool.{false, not, true, and-eq-true-iff}
+use mathlib.Core.Path.{sym, _∙_, _≡_}
 use native.Mathlib.Omega.{arith}
 use Rattle.lists.proofs.BoolLaws.{never}
 use Rattle.rules.proofs.IssueLaws.{bytes-node, bytes-parent}
-use Rattle.rules.proofs.KnownLaws.{Known, known-reads}
+use Rattle.rules.proofs.KnownLaws.{known-reads}
 use Rattle.rules.proofs.StructureLaws.{GoodLog}
 use Rattle.rules.specs.File.{Log, countsOf}
 use Rattle.rules.specs.Issue.{Request, add, move, remove, issued, opBytes, requestUnmarked}
 use Rattle.rules.specs.Listing.{line, lineOf}
 use Rattle.rules.specs.Marks.{isMarked, knowledge, marked}
-use Rattle.rules.specs.Op.{countIn, isRemove, kindOf, nodeNumber, nodeOf, parentOf}
+use Rattle.rules.specs.Op.{countIn, isRemove, kindOf, nodeNumber}
 use Rattle.rules.specs.Replay.{parentsOf}
 use Rattle.rules.specs.Tree.{depth, moveKind}
 use Rattle.order.specs.Claims.{WorkUnmarked}

@@ -1,9 +1,11 @@
 pub mod ReplicaLaws
 pub mod FileLaws
 pub mod StructureLaws
+pub mod CausalLaws
+pub mod SlotLaws
+pub mod KnownLaws
 pub mod AppendLaws
 pub mod InLaws
-pub mod CausalLaws
 pub mod TimeLaws
 pub mod ExtendLaws
 pub mod LayerLaws
@@ -13,11 +15,9 @@ pub mod InsertLaws
 pub mod OfferLaws
 pub mod IssueLaws
 pub mod PutOutLaws
-pub mod SlotLaws
 pub mod ClimbLaws
 pub mod TreeLaws
 pub mod CircleLaws
-pub mod KnownLaws
 pub mod StepLaws
 pub mod UnionLaws
 pub mod DecimalLaws

@@ -289,8 +289,9 @@ table =
     ∷ issues prunedBuffer 1 (add 257) (refused 11)
     ∷ issues prunedBuffer 2 (move 257 513) (refused 11)
     ∷ issues prunedBuffer 2 (move 513 257) (refused 11)
-    -- only the parent itself counts, and a remove stays allowed
+    -- only the parent itself counts, the root is never marked, and a remove stays allowed
     ∷ issues prunedBuffer 1 (add 258) (accepted 130)
+    ∷ issues prunedBuffer 1 (add 0) (accepted 130)
     ∷ issues prunedBuffer 2 (move 513 258) (accepted 130)
     ∷ issues prunedBuffer 2 (move 258 513) (accepted 130)
     ∷ issues prunedBuffer 2 (remove 257) (accepted 130)
@@ -351,8 +352,8 @@ table-holds =
     & (refl, refl) & refl & refl & refl & refl & (refl, refl) & refl & refl & refl & refl & refl & (refl, refl) & refl
     & refl & refl & refl & refl & refl & refl & (refl, refl) & refl & refl & refl & refl & refl & refl & refl & refl
     & refl & refl & refl & refl & refl & refl & refl & refl & refl & refl & refl & refl & refl & refl & refl & refl
-    & refl & refl & refl & refl & refl & refl & refl & (refl, refl) & refl & refl & refl & refl & refl & refl & refl
-    & refl & refl & refl & refl & refl & refl & refl & refl & refl & refl & tt
+    & refl & refl & refl & refl & refl & refl & refl & refl & (refl, refl) & refl & refl & refl & refl & refl & refl
+    & refl & refl & refl & refl & refl & refl & refl & refl & refl & refl & refl & tt
 
 -- what holds of all rows holds of each
 each : (xs : List Row) (d : Row) → AllHold xs → (k : ℕ) → k < length xs → Holds (getD xs k d)

@@ -1,7 +1,6 @@
 -- `marks::knowing::knowledge_of` meets its contract.
-use native.Mathlib.Omega.{arith}
 use borrow.Author.Needs.{needs}
-use Rattle.marks.proofs.KnowingCases.{knowing, table-long}
+use Rattle.marks.proofs.KnowingCases.{knowing}
 use Rattle.marks.proofs.knowing.knowledge_of.Statement.{statement}
 use Rattle.marks.proofs.knowing.knowledge_of.Tie as tie
 
