@@ -4,23 +4,22 @@ use mathlib.Core.Bool.{Bool, true, false, cond, not, and-eq-true-iff}
 use mathlib.Core.List.{List, _++_}
 use Prim.Native.Nat.{ℕ, _+_, _<_}
 use native.Mathlib.Omega.{arith}
-use lib.ListN.{length, take, drop, replicate}
+use lib.ListN.{length, take, drop}
 use lib.Seq.{take-at}
-use lib.Dec.{ltb, eqb}
+use lib.Dec.{ltb}
 use borrow.Author.Needs.{needs}
 use borrow.Author.Tests.{ltb-true, le-leb}
 use Rattle.rules.specs.Answer.{Answer, refused, require}
 use Rattle.rules.specs.Bytes.{word}
 use Rattle.rules.specs.Issue.{Request, add, remove, move, Issued, issueAnswer, issueBuffer, issueOut, issued, opBytes, requestClear, requestKnown, requestUnmarked}
-use Rattle.rules.specs.Tree.{moveKind, atOrBelow, depth, slots}
+use Rattle.rules.specs.Tree.{moveKind, atOrBelow, depth}
 use Rattle.rules.specs.File.{Log, width, appended, countsOf, headerCounts, logOf}
-use Rattle.rules.specs.Log.{knownParent}
-use Rattle.rules.specs.Marks.{isKnown, isMarked, knowledge}
 use Rattle.rules.specs.Op.{Vector, countIn, isReplica, nodeNumber, replicaOf}
 use Rattle.rules.specs.Replay.{parentsOf}
 use Rattle.rules.specs.Sound.{sound}
 use Rattle.lists.proofs.BoolLaws.{tested}
 use Rattle.rules.proofs.FileLaws.{counts-logOf, length-counts}
+use Rattle.rules.proofs.KnownLaws.{known-reads}
 use Rattle.rules.proofs.SoundLaws.{sound-structural}
 use Rattle.codec.specs.Asked.{isAccepted}
 use Rattle.codec.specs.Answers.{numberOf}
@@ -35,94 +34,13 @@ use Rattle.issue.specs.declared.request.Drafted.{Drafted}
 use Rattle.issue.specs.declared.request.Drafted.the-variants.{Op, Refused}
 use Rattle.issue.specs.declared.request.Request.the-variants.{Add, Remove, Move}
 use Rattle.soundness.proofs.SoundCases.{tallied-held, tallied}
-use Rattle.marks.specs.Marking.{Markable, noMarks}
-use Rattle.marks.specs.Knowing.{knowledgeOf}
 use Rattle.delivery.proofs.AddCases.{has-room}
 use Rattle.rules.specs.Issue as rules
 use Rattle.issue.specs.declared.request.Request as code
-use Rattle.marks.specs.declared.knowing.Knowledge as code-marks
-use Rattle.marks.specs.declared.knowing.Knowledge.the-variants as marks
-use Rattle.rules.proofs.KnownLaws.{Known, known-reads}
 
 -- what a call hands back
 abbrev handed : Answer → (buffer out : List ℕ) → Issued
 handed a b o = record { answer = a; buffer = b; out = o }
-
----- number 7; v are the held counts
-
-module _ (log : Log) (q : code.Request) (r : Bool) where
-  module _ (v : Vector) (is : v ≡ countsOf log) where
-    pub add-known : (p : ℕ) → q ≡ Add p → r ≡ knownParent log v p → r ≡ requestKnown log (requestOf q)
-    unfolding requestKnown
-    add-known p e h = rw (e, ← is) h
-
-    pub remove-known : (n : ℕ) → q ≡ Remove n → r ≡ isKnown (knowledge log v n) → r ≡ requestKnown log (requestOf q)
-    unfolding requestKnown
-    remove-known n e h = rw (e, ← is) h
-
-  pub move-known : (n p : ℕ) → q ≡ Move n p → r ≡ requestKnown log (move n p) → r ≡ requestKnown log (requestOf q)
-  move-known n p e h = rw e h
-
-module _ (log : Log) (v : Vector) (is : v ≡ countsOf log) (n p : ℕ) where
-  pub node-unknown : isKnown (knowledge log v n) ≡ false → false ≡ requestKnown log (move n p)
-  unfolding requestKnown
-  node-unknown e = rw (← is, e)
-
-  module _ (a : Known log v n) where
-    pub parent-unknown : knownParent log v p ≡ false → false ≡ requestKnown log (move n p)
-    unfolding requestKnown
-    parent-unknown e = rw (← is, a, e)
-
-    pub both-known : knownParent log v p ≡ true → not (eqb p n) ≡ requestKnown log (move n p)
-    unfolding requestKnown
-    both-known e = rw (← is, a, e)
-
----- number 11
-
--- a table without marks, to be filled
-pub no-marks : (f : List ℕ) → sound width f ≡ true → Markable f (replicate slots 0)
-unfolding noMarks
-no-marks f a = record { is-sound = a; unmarked = refl }
-
--- k is what the held counts know of a node
-module _ (log : Log) (v : Vector) (n : ℕ) (k : code-marks.Knowledge) (is : knowledgeOf k ≡ knowledge log v n) where
-  pub work-unknown : k ≡ marks.Unknown → true ≡ not (isMarked (knowledge log v n))
-  unfolding isMarked
-  work-unknown e = rw (← is, e)
-
-  pub work-unmarked : k ≡ marks.KnownUnmarked → true ≡ not (isMarked (knowledge log v n))
-  unfolding isMarked
-  work-unmarked e = rw (← is, e)
-
-  pub work-marked : k ≡ marks.KnownMarked → false ≡ not (isMarked (knowledge log v n))
-  unfolding isMarked
-  work-marked e = rw (← is, e)
-
-module _ (log : Log) (v : Vector) (is : v ≡ countsOf log) (n p : ℕ) where
-  pub add-works : (r : Bool) → r ≡ not (isMarked (knowledge log v p)) → r ≡ requestUnmarked log (add p)
-  unfolding requestUnmarked
-  add-works r e = rw (← is) e
-
-  pub node-marked : not (isMarked (knowledge log v n)) ≡ false → false ≡ requestUnmarked log (move n p)
-  unfolding requestUnmarked
-  node-marked e = rw (← is, e)
-
-  pub move-works : not (isMarked (knowledge log v n)) ≡ true → (r : Bool) → r ≡ not (isMarked (knowledge log v p))
-      → r ≡ requestUnmarked log (move n p)
-  unfolding requestUnmarked
-  move-works e r h = rw (← is, e) h
-
-module _ (log : Log) (q : code.Request) where
-  pub remove-unmarked : (n : ℕ) → q ≡ Remove n → true ≡ requestUnmarked log (requestOf q)
-  unfolding requestUnmarked
-  remove-unmarked n e = rw e
-
-  module _ (r : Bool) where
-    pub add-unmarked : (p : ℕ) → q ≡ Add p → r ≡ requestUnmarked log (add p) → r ≡ requestUnmarked log (requestOf q)
-    add-unmarked p e h = rw e h
-
-    pub move-unmarked : (n p : ℕ) → q ≡ Move n p → r ≡ requestUnmarked log (move n p) → r ≡ requestUnmarked log (requestOf q)
-    move-unmarked n p e h = rw e h
 
 ---- number 10, and the op
 
@@ -329,13 +247,7 @@ module _ (f out : List ℕ) (s : ℕ) (q : Request) (l : Lent f (length out) s) 
     issue-put x h = rw (answer-by f s (length out) l q, ← is, e, op-of (logOf width f) s q d (opened .1), counts-logOf width f) h
 
 ---- what the code of issuing needs: search issuing
-pub ruleset requests = (add-known, remove-known, move-known, node-unknown, parent-unknown, both-known, known-small)
-
-pub ruleset works = (work-unknown, work-unmarked, work-marked, add-works, node-marked, move-works)
-
-pub ruleset unmarking = (no-marks, works, add-unmarked, remove-unmarked, move-unmarked)
-
-pub ruleset moves = (move-cycle, move-op, move-now, cleared-move, move-names)
+pub ruleset moves = (known-small, move-cycle, move-op, move-now, cleared-move, move-names)
 
 pub ruleset drafting = (moves, add-op, remove-op, exhausted, unknown, known-request, marked, drafts)
 
@@ -343,4 +255,4 @@ pub ruleset putting = (acceptable, all-added, put-kept, writable, put-added)
 
 pub ruleset issues = (issue-refused, ready, issue-put)
 
-pub ruleset issuing = (needs, tested, sound-structural, tallied, tallied-held, requests, unmarking, drafting, putting, issues)
+pub ruleset issuing = (needs, tested, sound-structural, tallied, tallied-held, drafting, putting, issues)

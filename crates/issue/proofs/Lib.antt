@@ -1,1 +1,2 @@
+pub mod NamingCases
 pub mod IssueCases

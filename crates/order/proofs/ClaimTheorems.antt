@@ -47,7 +47,12 @@ pub listings : Listings
 listings w f s =
     let log : Log = logOf w f in
     let good = structural-good w f s in
-    record { once = preorder-once log good slots; every = preorder-is log good; size = listing-size log good; marks = λ n. marked-line log good n }
+    record {
+      once = preorder-once log good slots;
+      every = preorder-is log good;
+      size = listing-size log good;
+      marks = marked-line log good;
+    }
 
 pub decimals : Decimals
 decimals n small = record {

@@ -1,6 +1,6 @@
 -- `issue::naming::add_unmarked` meets its contract.
 use borrow.Author.Needs.{needs}
-use Rattle.issue.proofs.IssueCases.{issuing}
+use Rattle.issue.proofs.NamingCases.{naming}
 use Rattle.issue.proofs.naming.add_unmarked.Statement.{statement}
 use Rattle.issue.proofs.naming.add_unmarked.Tie as tie
 
@@ -9,7 +9,7 @@ add-unmarked-spec =
     tie.close
     (tie.spec
     (λ c. search needs)
-    (λ c κs. search issuing)
+    (λ c κs. search naming)
     (λ c. search needs)
     (λ c κs. search needs)
-    (λ c. search issuing))
+    (λ c. search naming))

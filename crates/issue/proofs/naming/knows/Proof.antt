@@ -1,6 +1,6 @@
 -- `issue::naming::knows` meets its contract.
 use borrow.Author.Needs.{needs}
-use Rattle.issue.proofs.IssueCases.{issuing}
+use Rattle.issue.proofs.NamingCases.{naming}
 use Rattle.issue.proofs.naming.knows.Statement.{statement}
 use Rattle.issue.proofs.naming.knows.Tie as tie
 
@@ -9,11 +9,11 @@ knows-spec =
     tie.close
     (tie.spec
     (λ c. search needs)
-    (λ c κs. search issuing)
+    (λ c κs. search naming)
     (λ c. search needs)
-    (λ c κs. search issuing)
+    (λ c κs. search naming)
     (λ c. search needs)
     (λ c κs. search needs)
-    (λ c. search issuing)
-    (λ c. search issuing)
-    (λ c. search issuing))
+    (λ c. search naming)
+    (λ c. search naming)
+    (λ c. search naming))

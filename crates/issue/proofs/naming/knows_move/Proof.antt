@@ -1,5 +1,5 @@
 -- `issue::naming::knows_move` meets its contract.
-use Rattle.issue.proofs.IssueCases.{issuing}
+use Rattle.issue.proofs.NamingCases.{naming}
 use Rattle.issue.proofs.naming.knows_move.Statement.{statement}
 use Rattle.issue.proofs.naming.knows_move.Tie as tie
 
@@ -7,8 +7,8 @@ pub knows-move-spec : {M : Type 1} → statement M
 knows-move-spec =
     tie.close
     (tie.spec
-    (λ c κs. search issuing)
-    (λ c. search issuing)
-    (λ c κs. search issuing)
-    (λ c. search issuing)
-    (λ c. search issuing))
+    (λ c κs. search naming)
+    (λ c. search naming)
+    (λ c κs. search naming)
+    (λ c. search naming)
+    (λ c. search naming))

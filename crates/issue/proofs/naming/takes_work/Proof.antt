@@ -1,6 +1,6 @@
 -- `issue::naming::takes_work` meets its contract.
 use borrow.Author.Needs.{needs}
-use Rattle.issue.proofs.IssueCases.{issuing}
+use Rattle.issue.proofs.NamingCases.{naming}
 use Rattle.issue.proofs.naming.takes_work.Statement.{statement}
 use Rattle.issue.proofs.naming.takes_work.Tie as tie
 
@@ -12,6 +12,6 @@ takes-work-spec =
     (λ c. search needs)
     (λ c. search needs)
     (λ c. search needs)
-    (λ c. search issuing)
-    (λ c. search issuing)
-    (λ c. search issuing))
+    (λ c. search naming)
+    (λ c. search naming)
+    (λ c. search naming))

@@ -1,6 +1,6 @@
 -- `issue::naming::unmarked` meets its contract.
 use borrow.Author.Needs.{needs}
-use Rattle.issue.proofs.IssueCases.{issuing}
+use Rattle.issue.proofs.NamingCases.{naming}
 use Rattle.issue.proofs.naming.unmarked.Statement.{statement}
 use Rattle.issue.proofs.naming.unmarked.Tie as tie
 
@@ -13,6 +13,6 @@ unmarked-spec =
     (λ c. search needs)
     (λ c. search needs)
     (λ c κs. search needs)
-    (λ c. search issuing)
-    (λ c. search issuing)
-    (λ c. search issuing))
+    (λ c. search naming)
+    (λ c. search naming)
+    (λ c. search naming))
