@@ -40,7 +40,7 @@ module _ (log : Log) (good : GoodLog log) where
   unfolding path
   path-fuel n w k h = let (j, b, d) = has-depth n w in climb-enough parents j k slots n d (omega arith) (omega arith)
 
-  pub child-named : (n m : ℕ) → isIn m (children log parents n) ≡ true → (Known log (countsOf log) m) × (parentIn parents m ≡ n)
+  pub child-named : (n m : ℕ) → isIn m (children log parents n) ≡ true → Known log (countsOf log) m × (parentIn parents m ≡ n)
   unfolding children nodes
   child-named n m e =
       let (a, b) = isIn-filter (λ m. eqb (parentIn parents m) n) (addedIn log (countsOf log)) m e in

@@ -71,11 +71,12 @@ known-reads log v n e =
 pub known-of : (log : Log) (v : Vector) (n : ℕ) → Within v n → isAdd (opAt log (n / 256) (n % 256)) ≡ true → Known log v n
 unfolding nodeWithin isReplica
 known-of log v n h a =
-    known-is log v n ∙ and-both (and-both (and-both (and-both (le-leb 1 (n / 256) (h .low)) (le-leb (n / 256) 8 (h .high))) (le-leb 1 (n % 256) (h .first)))
+    known-is log v n
+    ∙ and-both (and-both (and-both (and-both (le-leb 1 (n / 256) (h .low)) (le-leb (n / 256) 8 (h .high))) (le-leb 1 (n % 256) (h .first)))
     (le-leb (n % 256) (countIn v (n / 256)) (h .last))) a
 
 abbrev pub Named : Log → Vector → ℕ → Type 0
-Named log v n = (n ≡ 0) ⊎ (Known log v n)
+Named log v n = (n ≡ 0) ⊎ Known log v n
 
 pub parent-reads : (log : Log) (v : Vector) (n : ℕ) → knownParent log v n ≡ true → Named log v n
 unfolding knownParent

@@ -274,8 +274,8 @@ table =
     ∷ lists prunedFile keeping (replicate 29 9) (refused 8) (replicate 29 9)
     ∷ lists prunedFile skipping (replicate 15 9) (accepted 14) (48 ∷ 32 ∷ 48 ∷ 32 ∷ 107 ∷ 10 ∷ 49 ∷ 32 ∷ 53 ∷ 49 ∷ 51 ∷ 32 ∷ 107 ∷ 10 ∷ 9 ∷ [])
     ∷ prints prunedFile prunedText
-    -- three outcomes, each asked in a vector: of 257, which is removed; of 259, removed later; of 258, whose parent alone is removed; of 513; of a
-    -- remove's number, and of the root
+    -- three outcomes, each asked in a vector: of 257, which is removed; of 259, removed later; of 258, whose parent alone is removed; of
+    -- 513; of a remove's number, and of the root
     ∷ knows pruned (vector 0 0 0) 257 unknown
     ∷ knows pruned (vector 3 0 0) 257 knownUnmarked
     ∷ knows pruned (vector 4 0 0) 257 knownMarked
@@ -337,15 +337,16 @@ _&_ a b = (a, b)
 
 -- every row of the table holds
 pub table-holds : AllHold table
-unfolding ofOps table p1 p1File p1Buffer emptyFile p10 p11 p11All p12 p12All rivals rivals2 rivals3 chain pruned prunedFile prunedBuffer reworked require wordAt
-    word upFrom downFrom sum greatest same concat all any filter isIn replicas isReplica countIn kindOf replicaOf nodeOf parentOf
-    vectorOf ownCount seqOf nodeNumber isAdd isRemove isMove wellFormed emptyLog opsOf opAt countsOf append countAt startAt headerCounts
-    startOf endOf fileEnd chunks chunksOf logOf headerEntry headerOf fileOf within covered closedAt closed isKnown isMarked nodeWithin knowledge knownParent
-    namesKnown soundOp soundOps soundLog soundHeader laid structural sound makeAnswer isHeld heldAnswer admitAnswer deliverAnswer slot
-    slotOf parentIn climb path depth atOrBelow opsWithin addedIn removedIn timestampIn timestamp stamp stamped ofReplica ofKind ofTime
-    byTime ordered start outcomeSlot outcomeOf step replay parentsOf outcomesOf opBytes moveKind issued requestKnown requestUnmarked requestClear
-    issueAnswer issueOut nodes marked shown children preorder digits decimal lineOf line listingIn listingOf listingAnswer listing
-    listingSize refusedLine outline judgeAnswer pathOf pathAnswer pathCall endAnswer countsAnswer countsCall
+unfolding ofOps table p1 p1File p1Buffer emptyFile p10 p11 p11All p12 p12All rivals rivals2 rivals3 chain pruned prunedFile prunedBuffer
+    reworked require wordAt word upFrom downFrom sum greatest same concat all any filter isIn replicas isReplica countIn kindOf replicaOf
+    nodeOf parentOf vectorOf ownCount seqOf nodeNumber isAdd isRemove isMove wellFormed emptyLog opsOf opAt countsOf append countAt
+    startAt headerCounts startOf endOf fileEnd chunks chunksOf logOf headerEntry headerOf fileOf within covered closedAt closed isKnown
+    isMarked nodeWithin knowledge knownParent namesKnown soundOp soundOps soundLog soundHeader laid structural sound makeAnswer isHeld
+    heldAnswer admitAnswer deliverAnswer slot slotOf parentIn climb path depth atOrBelow opsWithin addedIn removedIn timestampIn timestamp
+    stamp stamped ofReplica ofKind ofTime byTime ordered start outcomeSlot outcomeOf step replay parentsOf outcomesOf opBytes moveKind
+    issued requestKnown requestUnmarked requestClear issueAnswer issueOut nodes marked shown children preorder digits decimal lineOf line
+    listingIn listingOf listingAnswer listing listingSize refusedLine outline judgeAnswer pathOf pathAnswer pathCall endAnswer
+    countsAnswer countsCall
 table-holds =
     (refl, refl) & refl & refl & refl & refl & refl & refl & refl & refl & refl & refl & refl & refl & refl & refl
     & refl & refl & refl & refl & refl & refl & refl & refl & refl & refl & refl & refl & refl & refl & refl & refl

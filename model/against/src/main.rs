@@ -3,12 +3,15 @@
 
 #[path = "../../bench/src/callgrind.rs"]
 mod callgrind;
+#[path = "../../bench/src/pick.rs"]
+mod pick;
 
 use callgrind::COUNTING;
 use outline_model::cases::examples;
 use outline_model::cases::world::{Style, World};
 use outline_model::rng::Rng;
 use outline_model::{Op, MAX_FILE, OP_LEN, SLOTS};
+use pick::{last, names};
 use std::fmt::Write;
 use std::hint::black_box;
 use std::path::Path;
@@ -30,6 +33,7 @@ how many times fewer instructions it takes.
 
 type Deliver = unsafe extern "C" fn(*mut u8, usize, *const u8, usize) -> usize;
 type Add = unsafe extern "C" fn(*mut u8, usize, u8, u16, *mut u8, usize) -> usize;
+type Move = unsafe extern "C" fn(*mut u8, usize, u8, u16, u16, *mut u8, usize) -> usize;
 type Judge = unsafe extern "C" fn(*const u8, usize, *mut u16, usize, *mut u8, usize) -> usize;
 
 extern "C" {
@@ -38,6 +42,40 @@ extern "C" {
     fn before_outline_issue_add(b: *mut u8, n: usize, s: u8, p: u16, o: *mut u8, m: usize)
         -> usize;
     fn after_outline_issue_add(b: *mut u8, n: usize, s: u8, p: u16, o: *mut u8, m: usize) -> usize;
+    fn before_outline_issue_remove(
+        b: *mut u8,
+        n: usize,
+        s: u8,
+        i: u16,
+        o: *mut u8,
+        m: usize,
+    ) -> usize;
+    fn after_outline_issue_remove(
+        b: *mut u8,
+        n: usize,
+        s: u8,
+        i: u16,
+        o: *mut u8,
+        m: usize,
+    ) -> usize;
+    fn before_outline_issue_move(
+        b: *mut u8,
+        n: usize,
+        s: u8,
+        i: u16,
+        p: u16,
+        o: *mut u8,
+        m: usize,
+    ) -> usize;
+    fn after_outline_issue_move(
+        b: *mut u8,
+        n: usize,
+        s: u8,
+        i: u16,
+        p: u16,
+        o: *mut u8,
+        m: usize,
+    ) -> usize;
     fn before_outline_judge(
         f: *const u8,
         n: usize,
@@ -58,18 +96,24 @@ extern "C" {
 
 const DELIVER: [Deliver; 2] = [before_outline_deliver, after_outline_deliver];
 const ADD: [Add; 2] = [before_outline_issue_add, after_outline_issue_add];
+const REMOVE: [Add; 2] = [before_outline_issue_remove, after_outline_issue_remove];
+const MOVE: [Move; 2] = [before_outline_issue_move, after_outline_issue_move];
 const JUDGE: [Judge; 2] = [before_outline_judge, after_outline_judge];
 
 #[derive(Clone, Copy, PartialEq, Eq)]
 enum Call {
     Deliver,
     Add,
+    Remove,
+    Move,
     Judge,
 }
 
-const CALLS: [(Call, &str); 3] = [
+const CALLS: [(Call, &str); 5] = [
     (Call::Deliver, "deliver"),
     (Call::Add, "issue_add"),
+    (Call::Remove, "issue_remove"),
+    (Call::Move, "issue_move"),
     (Call::Judge, "judge"),
 ];
 
@@ -80,6 +124,8 @@ struct Work {
     buffer: Vec<u8>,
     op: Vec<u8>,
     replica: u8,
+    node: u16,
+    parent: u16,
     parents: Vec<u16>,
     bytes: Vec<u8>,
 }
@@ -100,16 +146,10 @@ fn ops(shape: &str, size: usize) -> Vec<Op> {
 impl Work {
     fn new(call: Call, shape: &str, size: usize) -> Work {
         let mut ops = ops(shape, size);
-        let free = |op: &Op| {
-            ops.iter()
-                .all(|x| usize::from(x.vector[op.index()]) < op.sequence())
-        };
-        let last = (0..ops.len())
-            .filter(|&i| free(&ops[i]))
-            .min_by_key(|&i| ops[i].replica);
-        let last = last.expect("some op is counted by no other");
+        let last = last(&ops);
         let op = ops[last].bytes().to_vec();
-        if call == Call::Deliver || (call == Call::Add && size == SLOTS - 1) {
+        let issues = matches!(call, Call::Add | Call::Remove | Call::Move);
+        if call == Call::Deliver || (issues && size == SLOTS - 1) {
             ops.remove(last);
         }
         let log = examples::log_of(&ops);
@@ -120,12 +160,15 @@ impl Work {
             .iter()
             .position(|&count| count < 255)
             .unwrap_or(0);
+        let (node, parent) = names(&log);
         Work {
             call,
             buffer: file.clone(),
             file,
             op,
             replica: replica as u8 + 1,
+            node,
+            parent,
             parents: vec![0; SLOTS],
             bytes: vec![0; SLOTS],
         }
@@ -138,11 +181,14 @@ impl Work {
         }
         let (buf, n) = (black_box(self.buffer.as_mut_ptr()), self.buffer.len());
         let (parents, out) = (self.parents.as_mut_ptr(), self.bytes.as_mut_ptr());
+        let (replica, node, parent) = (self.replica, self.node, self.parent);
         // SAFETY: pointers and lengths are those of slices, which do not overlap.
         callgrind::count(|| unsafe {
             match self.call {
                 Call::Deliver => DELIVER[side](buf, n, self.op.as_ptr(), OP_LEN),
-                Call::Add => ADD[side](buf, n, self.replica, 0, out, OP_LEN),
+                Call::Add => ADD[side](buf, n, replica, parent, out, OP_LEN),
+                Call::Remove => REMOVE[side](buf, n, replica, node, out, OP_LEN),
+                Call::Move => MOVE[side](buf, n, replica, node, parent, out, OP_LEN),
                 Call::Judge => JUDGE[side](buf, n, parents, SLOTS, out, SLOTS),
             }
         })

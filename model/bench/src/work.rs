@@ -1,12 +1,13 @@
 //! What is measured: every call on logs of each shape and size.
 
 use crate::callgrind;
+use crate::pick::{last, names};
 use outline::plain;
 use outline_bench::careful;
 use outline_model::cases::examples;
 use outline_model::cases::world::{Style, World};
 use outline_model::rng::Rng;
-use outline_model::{Answer, Knowledge, Log, Op, Tree, View, MAX_FILE, OP_LEN, REPLICAS, SLOTS};
+use outline_model::{Answer, Op, View, MAX_FILE, OP_LEN, REPLICAS, SLOTS};
 use std::hint::black_box;
 
 pub const SIZES: [usize; 4] = [0, 100, 1000, 2040];
@@ -268,33 +269,6 @@ const MAX_OPS: usize = SLOTS - 1;
 #[inline]
 fn accepted(call: impl FnOnce() -> Answer) -> bool {
     callgrind::count(|| !matches!(call(), Answer::Refused(_)))
-}
-
-/// The place of an op that no other counts, of the lowest replica that has one:
-/// most is moved up for it.
-fn last(ops: &[Op]) -> usize {
-    let free = |op: &Op| {
-        ops.iter()
-            .all(|other| usize::from(other.vector[op.index()]) < op.sequence())
-    };
-    (0..ops.len())
-        .filter(|&i| free(&ops[i]))
-        .min_by_key(|&i| ops[i].replica)
-        .expect("some op is the last")
-}
-
-/// The deepest node that takes new work, and one to move it under; the root
-/// where there is none.
-fn names(log: &Log) -> (u16, u16) {
-    let tree = Tree::judge(log);
-    let unmarked = |&node: &u16| log.knowledge(&log.held(), node) == Knowledge::Unmarked;
-    let nodes: Vec<u16> = tree.nodes().filter(unmarked).collect();
-    let Some(&node) = nodes.iter().max_by_key(|&&node| tree.depth(node)) else {
-        return (0, 0);
-    };
-    let free = |&&other: &&u16| tree.path(other).all(|above| above != node);
-    let parent = nodes.iter().find(free).copied().unwrap_or(0);
-    (node, parent)
 }
 
 /// All that is measured. At size 0 the shapes are one.
