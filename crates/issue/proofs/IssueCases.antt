@@ -28,15 +28,16 @@ use Rattle.codec.specs.declared.answer.Refusal.the-variants.{Unknown, Exhausted
 use Rattle.codec.proofs.AnswerLaws.{if-accepted, if-not-accepted}
 use Rattle.tree.specs.Climb.{moveOrCycle}
 use Rattle.delivery.specs.Adding.{lastTest, Acceptable}
-use Rattle.issue.specs.Issuing.{requestOf, bytesOf, movedIn, clearedOp, drafted, withOp, putOut, Lent, Ready, Writable, KnownRequest}
-use Rattle.issue.specs.declared.request.Draft.{Draft}
-use Rattle.issue.specs.declared.request.Drafted.{Drafted}
-use Rattle.issue.specs.declared.request.Drafted.the-variants.{Op, Refused}
-use Rattle.issue.specs.declared.request.Request.the-variants.{Add, Remove, Move}
+use Rattle.issue.specs.Issuing.{bytesOf, movedIn, clearedOp, drafted, withOp, putOut, Lent, Ready, Writable, KnownRequest}
+use Rattle.issue.specs.declared.draft.Draft.{Draft}
+use Rattle.issue.specs.declared.draft.Drafted.{Drafted}
+use Rattle.issue.specs.declared.draft.Drafted.the-variants.{Op, Refused}
+use Rattle.request.specs.Requests.{requestOf}
+use Rattle.request.specs.declared.request.Request.the-variants.{Add, Remove, Move}
 use Rattle.soundness.proofs.SoundCases.{tallied-held, tallied}
 use Rattle.delivery.proofs.AddCases.{has-room}
 use Rattle.rules.specs.Issue as rules
-use Rattle.issue.specs.declared.request.Request as code
+use Rattle.request.specs.declared.request.Request as code
 
 -- what a call hands back
 abbrev handed : Answer → (buffer out : List ℕ) → Issued

@@ -1,2 +1,1 @@
-pub mod NamingCases
 pub mod IssueCases

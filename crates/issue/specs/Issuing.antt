@@ -15,17 +15,9 @@ use Rattle.rules.specs.Sound.{sound}
 use Rattle.codec.specs.declared.answer.Refusal.the-variants.{Unknown, Exhausted, Cycle, Marked}
 use Rattle.delivery.specs.Adding.{lastTest}
 use Rattle.soundness.specs.Asked.{Tallied}
-use Rattle.issue.specs.declared.request.Draft.{Draft}
-use Rattle.issue.specs.declared.request.Drafted.{Drafted}
-use Rattle.issue.specs.declared.request.Request.the-variants.{Add, Remove, Move}
-use Rattle.issue.specs.declared.request.Drafted.the-variants as drafts
-use Rattle.issue.specs.declared.request.Request as code
-
--- what is asked for, in the rules' terms
-abbrev pub requestOf : code.Request → Request
-requestOf (Add p) = add p
-requestOf (Remove n) = remove n
-requestOf (Move n p) = move n p
+use Rattle.issue.specs.declared.draft.Draft.{Draft}
+use Rattle.issue.specs.declared.draft.Drafted.{Drafted}
+use Rattle.issue.specs.declared.draft.Drafted.the-variants as drafts
 
 -- the bytes of a drafted op
 abbrev pub bytesOf : (s : ℕ) → Draft → Vector → Op

@@ -1,12 +1,12 @@
-use crate::naming::knows;
-use crate::naming::unmarked;
-use crate::request::Draft;
-use crate::request::Drafted;
-use crate::request::Request;
+use crate::draft::Draft;
+use crate::draft::Drafted;
 use codec::Refusal;
 use codec::widen;
 use oplog::counts_of;
 use replay::replay_all;
+use request::Request;
+use request::knows;
+use request::unmarked;
 use soundness::WIDTH;
 use tree::SLOTS;
 use tree::move_kind;
@@ -17,7 +17,8 @@ ghost use lib.Dec.{ltb};
 ghost use Rattle.rules.specs.File.{width, logOf};
 ghost use Rattle.rules.specs.Op.{isReplica, countIn, nodeNumber};
 ghost use Rattle.rules.specs.Replay.{parentsOf};
-ghost use Rattle.issue.specs.Issuing.{requestOf, movedIn, clearedOp, drafted, Issuer, KnownRequest, Movable, InTree};
+ghost use Rattle.request.specs.Requests.{requestOf};
+ghost use Rattle.issue.specs.Issuing.{movedIn, clearedOp, drafted, Issuer, KnownRequest, Movable, InTree};
 
 // Number 9: whether a replica has an op left to issue.
 fn has_left(counts: [u8; 8], replica: u8) -> bool

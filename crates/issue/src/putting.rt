@@ -1,19 +1,20 @@
+use crate::draft::Draft;
+use crate::draft::Drafted;
 use crate::drafting::draft;
-use crate::request::Draft;
-use crate::request::Drafted;
-use crate::request::Request;
 use codec::Answer;
 use codec::is_accepted;
 use codec::write_op;
 use delivery::accept;
 use delivery::last_test;
 use oplog::counts_of;
+use request::Request;
 use soundness::WIDTH;
 ghost use mathlib.Core.Path.{_≡_};
 ghost use lib.ListN.{length};
 ghost use Rattle.rules.specs.File.{width, headerCounts};
 ghost use Rattle.codec.specs.Answers.{answerOf};
-ghost use Rattle.issue.specs.Issuing.{requestOf, bytesOf, withOp, putOut, Lent, Ready, Writable};
+ghost use Rattle.request.specs.Requests.{requestOf};
+ghost use Rattle.issue.specs.Issuing.{bytesOf, withOp, putOut, Lent, Ready, Writable};
 ghost use Rattle.rules.specs.Issue as rules;
 
 // Puts out an op that passed every test, and adds it.

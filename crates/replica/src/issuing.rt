@@ -1,7 +1,7 @@
 use codec::Answer;
 use codec::Refusal;
-use issue::Request;
 use issue::issue_next;
+use request::Request;
 use soundness::WIDTH;
 use soundness::is_sound;
 ghost use mathlib.Core.Path.{_≡_};
@@ -9,7 +9,7 @@ ghost use Rattle.rules.specs.Issue.{add, remove, move};
 ghost use Rattle.rules.specs.File.{width};
 ghost use Rattle.rules.specs.Op.{isReplica};
 ghost use Rattle.codec.specs.Answers.{answerOf};
-ghost use Rattle.issue.specs.Issuing.{requestOf};
+ghost use Rattle.request.specs.Requests.{requestOf};
 ghost use Rattle.rules.specs.Issue as rules;
 
 // Whether a number is a replica's.

@@ -1,8 +1,8 @@
--- `issue::naming::knows` meets its contract.
+-- `request::naming::knows` meets its contract.
 use borrow.Author.Needs.{needs}
-use Rattle.issue.proofs.NamingCases.{naming}
-use Rattle.issue.proofs.naming.knows.Statement.{statement}
-use Rattle.issue.proofs.naming.knows.Tie as tie
+use Rattle.request.proofs.NamingCases.{naming}
+use Rattle.request.proofs.naming.knows.Statement.{statement}
+use Rattle.request.proofs.naming.knows.Tie as tie
 
 pub knows-spec : {M : Type 1} → statement M
 knows-spec =

@@ -19,9 +19,9 @@ use Rattle.soundness.proofs.SoundCases.{tallied-held}
 use Rattle.marks.specs.Marking.{Markable, noMarks}
 use Rattle.marks.specs.Knowing.{knowledgeOf}
 use Rattle.marks.specs.declared.knowing.Knowledge.{Knowledge}
-use Rattle.issue.specs.Issuing.{requestOf}
-use Rattle.issue.specs.declared.request.Request.the-variants.{Add, Remove, Move}
-use Rattle.issue.specs.declared.request.Request as code
+use Rattle.request.specs.Requests.{requestOf}
+use Rattle.request.specs.declared.request.Request.the-variants.{Add, Remove, Move}
+use Rattle.request.specs.declared.request.Request as code
 use Rattle.marks.specs.declared.knowing.Knowledge.the-variants as marks
 
 ---- number 7; v are the held counts

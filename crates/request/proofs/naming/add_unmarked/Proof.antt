@@ -1,8 +1,8 @@
--- `issue::naming::add_unmarked` meets its contract.
+-- `request::naming::add_unmarked` meets its contract.
 use borrow.Author.Needs.{needs}
-use Rattle.issue.proofs.NamingCases.{naming}
-use Rattle.issue.proofs.naming.add_unmarked.Statement.{statement}
-use Rattle.issue.proofs.naming.add_unmarked.Tie as tie
+use Rattle.request.proofs.NamingCases.{naming}
+use Rattle.request.proofs.naming.add_unmarked.Statement.{statement}
+use Rattle.request.proofs.naming.add_unmarked.Tie as tie
 
 pub add-unmarked-spec : {M : Type 1} → statement M
 add-unmarked-spec =

@@ -1,8 +1,8 @@
--- `issue::naming::takes_work` meets its contract.
+-- `request::naming::takes_work` meets its contract.
 use borrow.Author.Needs.{needs}
-use Rattle.issue.proofs.NamingCases.{naming}
-use Rattle.issue.proofs.naming.takes_work.Statement.{statement}
-use Rattle.issue.proofs.naming.takes_work.Tie as tie
+use Rattle.request.proofs.NamingCases.{naming}
+use Rattle.request.proofs.naming.takes_work.Statement.{statement}
+use Rattle.request.proofs.naming.takes_work.Tie as tie
 
 pub takes-work-spec : {M : Type 1} → statement M
 takes-work-spec =

@@ -14,7 +14,7 @@ ghost use Rattle.rules.specs.Marks.{isMarked, knowledge};
 ghost use Rattle.rules.specs.File.{width, logOf};
 ghost use Rattle.soundness.specs.Asked.{Tallied};
 ghost use Rattle.marks.specs.Knowing.{MarkedLog};
-ghost use Rattle.issue.specs.Issuing.{requestOf};
+ghost use Rattle.request.specs.Requests.{requestOf};
 
 // Number 7 of a move: node and parent are known, and are not the same.
 fn knows_move(file: &[u8], counts: [u8; 8], node: u16, parent: u16) -> bool
@@ -31,7 +31,7 @@ fn knows_move(file: &[u8], counts: [u8; 8], node: u16, parent: u16) -> bool
 }
 
 // Number 7: whether what a request names is known.
-pub(crate) fn knows(file: &[u8], counts: [u8; 8], request: Request) -> bool
+pub fn knows(file: &[u8], counts: [u8; 8], request: Request) -> bool
     requires { ⌜ Tallied (now file) counts ⌝ }
     ensures { λ r. ⌜ r ≡ requestKnown (logOf width (now (file .entry))) (requestOf request) ⌝ }
 {
@@ -78,7 +78,7 @@ fn move_unmarked(file: &[u8], counts: [u8; 8], node: u16, parent: u16) -> bool
 }
 
 // Number 11: whether what takes the work of a request is unmarked. A remove is no work.
-pub(crate) fn unmarked(file: &[u8], counts: [u8; 8], request: Request) -> bool
+pub fn unmarked(file: &[u8], counts: [u8; 8], request: Request) -> bool
     requires { ⌜ Tallied (now file) counts ⌝ }
     ensures { λ r. ⌜ r ≡ requestUnmarked (logOf width (now (file .entry))) (requestOf request) ⌝ }
 {

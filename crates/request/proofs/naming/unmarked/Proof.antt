@@ -1,8 +1,8 @@
--- `issue::naming::unmarked` meets its contract.
+-- `request::naming::unmarked` meets its contract.
 use borrow.Author.Needs.{needs}
-use Rattle.issue.proofs.NamingCases.{naming}
-use Rattle.issue.proofs.naming.unmarked.Statement.{statement}
-use Rattle.issue.proofs.naming.unmarked.Tie as tie
+use Rattle.request.proofs.NamingCases.{naming}
+use Rattle.request.proofs.naming.unmarked.Statement.{statement}
+use Rattle.request.proofs.naming.unmarked.Tie as tie
 
 pub unmarked-spec : {M : Type 1} → statement M
 unmarked-spec =

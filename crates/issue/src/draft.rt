@@ -1,15 +1,5 @@
 use codec::Refusal;
 
-// What a caller asks to issue.
-pub enum Request {
-    // A new node under a parent.
-    Add(u16),
-    // A node.
-    Remove(u16),
-    // A node under a new parent.
-    Move(u16, u16),
-}
-
 // An op to issue, but for its replica and its vector.
 pub struct Draft {
     pub kind: u8,
