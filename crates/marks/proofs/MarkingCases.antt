@@ -3,7 +3,7 @@ use Prim.Native.Nat.{_<_, _≤_, ℕ}
 use borrow.Author.Needs.{needs}
 use borrow.Author.Tests.{eqb-false, le-leb, leb-true, ne-eqb}
 use lib.Dec.{eqb, leb}
-use lib.ListN.{drop, length, length-replicate, set}
+use lib.ListN.{drop, length, length-replicate, replicate, set}
 use mathlib.Core.Bool.{Bool, cond, false, true}
 use mathlib.Core.List.{List, _∷_, foldl}
 use mathlib.Core.Path.{ap, refl, sym, _∙_, _≡_}
@@ -14,6 +14,7 @@ use Rattle.rules.specs.Op.{Op, isRemove, kindOf, nodeOf}
 use Rattle.rules.specs.Log.{laid}
 use Rattle.rules.proofs.FileLaws.{length-logOf}
 use Rattle.rules.proofs.StructureLaws.{laid-reads}
+use Rattle.rules.specs.Sound.{sound}
 use Rattle.rules.specs.Tree.{slots}
 use Rattle.soundness.proofs.SoundCases.{laid-of}
 use Rattle.oplog.specs.Places.{nextMarker, placeOf}
@@ -94,6 +95,11 @@ pub record Marking (f t : List ℕ) (m : Marker) : Type 0 where
   pub table : MarkTable f t
   pub at : Walk m
   pub rest : let log = logOf width f in marksOf log ≡ foldl mark t (left log (opAt log) (m .replica) (m .sequence))
+
+-- a table of zeros, to be filled
+pub fresh-marks : (f : List ℕ) → sound width f ≡ true → Markable f (replicate slots 0)
+unfolding noMarks
+fresh-marks f a = record { is-sound = a; unmarked = refl }
 
 pub unmarked-size : (f t : List ℕ) → Markable f t → length t ≡ slots
 unfolding noMarks

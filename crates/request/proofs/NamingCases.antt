@@ -1,24 +1,20 @@
 -- The tests of what a request names, as the code meets them.
-use mathlib.Core.Path.{_≡_, refl}
+use mathlib.Core.Path.{_≡_}
 use mathlib.Core.Bool.{Bool, true, false, not}
-use mathlib.Core.List.{List}
 use Prim.Native.Nat.{ℕ}
-use lib.ListN.{replicate}
 use lib.Dec.{eqb}
 use borrow.Author.Needs.{needs}
 use Rattle.lists.proofs.BoolLaws.{tested}
-use Rattle.rules.specs.File.{Log, width, countsOf}
+use Rattle.rules.specs.File.{Log, countsOf}
 use Rattle.rules.specs.Issue.{add, move, requestKnown, requestUnmarked}
 use Rattle.rules.specs.Log.{knownParent}
 use Rattle.rules.specs.Marks.{isKnown, isMarked, knowledge}
 use Rattle.rules.specs.Op.{Vector}
-use Rattle.rules.specs.Sound.{sound}
-use Rattle.rules.specs.Tree.{slots}
 use Rattle.rules.proofs.KnownLaws.{Known}
 use Rattle.soundness.proofs.SoundCases.{tallied-held}
-use Rattle.marks.specs.Marking.{Markable, noMarks}
 use Rattle.marks.specs.Knowing.{knowledgeOf}
 use Rattle.marks.specs.declared.knowing.Knowledge.{Knowledge}
+use Rattle.marks.proofs.MarkingCases.{fresh-marks}
 use Rattle.request.specs.Requests.{requestOf}
 use Rattle.request.specs.declared.request.Request.the-variants.{Add, Remove, Move}
 use Rattle.request.specs.declared.request.Request as code
@@ -54,11 +50,6 @@ module _ (log : Log) (v : Vector) (is : v ≡ countsOf log) (n p : ℕ) where
     both-known e = rw (← is, a, e)
 
 ---- number 11
-
--- a table without marks, to be filled
-pub no-marks : (f : List ℕ) → sound width f ≡ true → Markable f (replicate slots 0)
-unfolding noMarks
-no-marks f a = record { is-sound = a; unmarked = refl }
 
 -- k is what the held counts know of a node
 module _ (log : Log) (v : Vector) (n : ℕ) (k : Knowledge) (is : knowledgeOf k ≡ knowledge log v n) where
@@ -105,6 +96,6 @@ pub ruleset knowing = (add-known, remove-known, move-known, node-unknown, parent
 
 pub ruleset works = (work-unknown, work-unmarked, work-marked, add-works, node-marked, move-works)
 
-pub ruleset unmarking = (no-marks, works, add-unmarked, remove-unmarked, move-unmarked)
+pub ruleset unmarking = (fresh-marks, works, add-unmarked, remove-unmarked, move-unmarked)
 
 pub ruleset naming = (needs, tested, tallied-held, knowing, unmarking)

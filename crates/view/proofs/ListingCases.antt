@@ -5,7 +5,7 @@ use lib.ListN.{drop, length, length-append, length-replicate, replicate, take}
 use lib.Seq.{take-append-seam}
 use mathlib.Core.Bool.{false, true}
 use mathlib.Core.List.{_++_, List, foldl}
-use mathlib.Core.Path.{ap, refl, sym, _∙_, _≡_}
+use mathlib.Core.Path.{ap, sym, _∙_, _≡_}
 use native.Mathlib.Omega.{arith}
 use Rattle.lists.proofs.BoolLaws.{tested}
 use Rattle.rules.proofs.SoundLaws.{sound-good, sound-structural}
@@ -25,7 +25,8 @@ use Rattle.view.specs.Asked.{Arrangeable, Arranged, Orderable, Printable
 use Rattle.tour.specs.Asked.{Tourable}
 use Rattle.tour.specs.Tables.{hiddenOf, linkSlot, links, linksOf, noLinks, orderBy, tourOf}
 use Rattle.view.specs.Tables.{linesOf, orderOf, putFront}
-use Rattle.marks.specs.Marking.{Markable, marksOf, noMarks}
+use Rattle.marks.specs.Marking.{marksOf}
+use Rattle.marks.proofs.MarkingCases.{fresh-marks, unmarked-size}
 
 ---- the nodes that a view shows
 
@@ -50,21 +51,13 @@ module _ (p m o₀ : List ℕ) (a : Orderable p m o₀) (f n : List ℕ) where
 ---- of a sound buffer
 
 pub fresh-asks : (f : List ℕ) → sound width f ≡ true → Arrangeable f (replicate slots 0) (replicate slots 0)
-unfolding noMarks
-fresh-asks f a = record { is-sound = a; unmarked = refl; order-size = length-replicate {A = ℕ} slots 0 }
+fresh-asks f a = record { markable = fresh-marks f a; order-size = length-replicate {A = ℕ} slots 0 }
 
 module _ (f m o : List ℕ) (a : Arrangeable f m o) where
-  no-marks-size : length m ≡ slots
-  unfolding noMarks
-  no-marks-size = rw (a .unmarked) (length-replicate {A = ℕ} slots 0)
-
-  pub marks-ask : Markable f m
-  marks-ask = record { is-sound = a .is-sound; unmarked = a .unmarked }
-
   -- m′ are the marks
   module _ (m′ : List ℕ) where
     pub order-asks : (p : List ℕ) → length p ≡ slots → length m′ ≡ length m → Orderable p m′ o
-    order-asks p lp lm = record { parents-size = lp; marks-size = lm ∙ no-marks-size; order-size = a .order-size }
+    order-asks p lp lm = record { parents-size = lp; marks-size = lm ∙ unmarked-size f m (a .markable); order-size = a .order-size }
 
     pub order-of : m′ ≡ marksOf (logOf width f) → (p : List ℕ) → p ≡ parentsOf (logOf width f)
         → (v : View) (t : List ℕ) → t ≡ orderBy p m′ v → t ≡ orderBy (parentsOf (logOf width f)) (marksOf (logOf width f)) v
@@ -106,6 +99,6 @@ module _ (f out : List ℕ) (view : View) where
         e ∙ rw (m, o, listing-is (logOf width f) (sound-good width f a) view) (sym listing-put)
 
 ---- what the code of listings needs: search listings
-pub ruleset arranging = (links-ask, order-few, order-made, fresh-asks, marks-ask, order-asks, order-of)
+pub ruleset arranging = (links-ask, order-few, order-made, fresh-asks, order-asks, order-of)
 
 pub ruleset listings = (needs, tested, sound-structural, arranging, lines-short, lines-ask, lines-put, listing-unsound, listing-now)

@@ -8,7 +8,7 @@ use Rattle.rules.specs.File.{width, countsOf, logOf}
 use Rattle.rules.specs.Log.{knownParent}
 use Rattle.rules.specs.Sound.{sound}
 use Rattle.rules.specs.Tree.{slotOf, slots, parentIn, path}
-use Rattle.marks.specs.Marking.{noMarks}
+use Rattle.marks.specs.Marking.{Markable}
 use Rattle.view.specs.Tables.{linesOf}
 
 ---- paths
@@ -55,6 +55,5 @@ pub record Orderable (parents marks order : List ℕ) : Type 0 where
   pub order-size : length order ≡ slots
 
 pub record Arrangeable (f marks order : List ℕ) : Type 0 where
-  pub is-sound : sound width f ≡ true
-  pub unmarked : marks ≡ noMarks
+  pub markable : Markable f marks
   pub order-size : length order ≡ slots
