@@ -18,7 +18,8 @@ makes a `Result` of the number that the library answers: at `make`, of eight ins
 Logs: **flat** has adds under the root, of all eight replicas, each by itself; **deep** is one chain, each node under the one before and each
 op counting all before; **random** has replicas that add, remove and move, and hear of each other now and then. The size is the number of
 ops. A delivery brings the last op of a log of that size, of the lowest replica that has one which no other op counts. Issuing at 2,040
-means at 2,039: a full log takes no more. Issuing a remove or a move at 0 is refused, for want of a node. Moves, paths: of the deepest node.
+means at 2,039: a full log takes no more. Issuing a remove or a move at 0 is refused, for want of a node. Moves, paths: of
+the deepest unmarked node; adds: under another.
 
 A whole exchange delivers all ops of a log to an empty one, one by one, in causal order: none is early, and one pass is enough. Its log is
 **interleaved**: one chain in which the eight replicas take turns, the highest first. Offered in the order of the file until none is early, its
