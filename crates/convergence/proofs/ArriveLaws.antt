@@ -4,13 +4,12 @@ use borrow.Author.Tests.{le-leb, lt-leb, lt-ltb}
 use lib.ListN.{length}
 use mathlib.Core.Bool.{true, false, _||_}
 use mathlib.Core.List.{List, _∷_}
-use mathlib.Core.Path.{_≡_, refl, sym, ap, _∙_}
-use native.Mathlib.Nat.{le-refl}
+use mathlib.Core.Path.{_≡_, sym, ap, _∙_}
 use native.Mathlib.Omega.{arith}
 use Rattle.convergence.proofs.AddedLaws.{has-more, has-swap}
 use Rattle.convergence.specs.Clash.{Arrives}
 use Rattle.convergence.specs.Exchange.{Call, issue, deliver, answer, bufferAfter, has}
-use Rattle.rules.proofs.AppendLaws.{Admits, extends, in-range, ops-other, good-append}
+use Rattle.rules.proofs.AppendLaws.{Admits, extends, extends-refl, in-range, ops-other, good-append}
 use Rattle.rules.proofs.DeliverLaws.{Admitted, admitted, appended-log, appended-end, appended-length, appended-sound}
 use Rattle.rules.proofs.IssueLaws.{allowed, issue-admitted}
 use Rattle.rules.proofs.StructureLaws.{GoodLog, count-held}
@@ -25,12 +24,12 @@ use Rattle.rules.specs.Sound.{sound}
 
 ---- a call that adds an op to a buffer
 
-pub record Adds (b : List ℕ) (r : Op) (c : Call) : Type 0 where
+pub record AddsOp (b : List ℕ) (r : Op) (c : Call) : Type 0 where
   pub taken : answer b c ≡ accepted (fileEnd width b + width)
   pub admitted-there : Admitted width b r (fileEnd width b + width)
   pub grown : bufferAfter b c ≡ appended width b r
 
-delivery-adds : (b : List ℕ) (r : Op) → deliverAnswer width b r ≡ accepted (fileEnd width b + width) → Adds b r (deliver r)
+delivery-adds : (b : List ℕ) (r : Op) → deliverAnswer width b r ≡ accepted (fileEnd width b + width) → AddsOp b r (deliver r)
 unfolding answer bufferAfter deliverBuffer
 delivery-adds b r e = record { taken = e; admitted-there = admitted width b r _ e; grown = rw e }
 
@@ -44,7 +43,7 @@ module _ (f b out : List ℕ) (s : ℕ) (q : Request) (n : ℕ) (ok : issueAnswe
       let space = le-leb width (length out) (a .space) in
       rw (is-sound, one-log, space, a .is-replica, lt-ltb _ 255 (a .count), a .names, a .is-unmarked, a .clear, le-leb _ _ fits)
 
-  pub issue-adds : Adds b (issued (logOf width f) s q) (issue out s q)
+  pub issue-adds : AddsOp b (issued (logOf width f) s q) (issue out s q)
   unfolding answer bufferAfter issueBuffer
   issue-adds =
       rw (← one-log) (record { taken = again; admitted-there = issue-admitted b (length out) s q _ again; grown = rw again })
@@ -57,9 +56,9 @@ module _ (f b : List ℕ) (s : ℕ) (r : Op) (back : NextOp (logOf width f) s r)
   new-there =
       lt-leb (seqOf r) (countIn (countsOf (logOf width f)) (replicaOf r)) (rw (back .origin, back .sequence) (omega arith))
 
-  pub op-adds : Adds b r (deliver r)
+  pub op-adds : AddsOp b r (deliver r)
   op-adds =
-      delivery-adds b r (back .accepted-by b is-sound (rw one-log (record { counts = λ t l u. le-refl _; ops = λ t k l u lk uk. refl }))
+      delivery-adds b r (back .accepted-by b is-sound (rw one-log (extends-refl (logOf width f)))
       (rw one-log new-there) fits)
 
 ---- one op and then the other
@@ -71,7 +70,7 @@ module _ (f : List ℕ) (good : GoodLog (logOf width f)) (s s′ : ℕ) (r r′ 
   log = logOf width f
 
   -- it came by a call
-  module _ (one : Call) (adds : Adds b r one) (fits : fileEnd width b + 2 * width ≤ length b) where
+  module _ (one : Call) (adds : AddsOp b r one) (fits : fileEnd width b + 2 * width ≤ length b) where
     abbrev end : ℕ
     end = fileEnd width b + width
 
@@ -98,7 +97,7 @@ module _ (f : List ℕ) (good : GoodLog (logOf width f)) (s s′ : ℕ) (r r′ 
         lt-leb (seqOf r′) (countIn (countsOf (append log r)) (replicaOf r′)) (rw (back′ .origin, back′ .sequence)
         (omega (arith, count-held log s′, count-held (append log r) s′, ap length same-ops)))
 
-    next : Adds then r′ (deliver r′)
+    next : AddsOp then r′ (deliver r′)
     next =
         let e = appended-end width b r end came in
         let n = appended-length width b r end came in

@@ -11,7 +11,7 @@ use mathlib.Core.Path.{refl, ap, _≡_, _∙_, sym}
 use native.Mathlib.Decide.{ℕ-discrete}
 use native.Mathlib.Omega.{arith}
 use Rattle.convergence.proofs.AddedLaws.{has-swap, two-extends, one-of-two, first-count, first-op, rest-same}
-use Rattle.convergence.proofs.ArriveLaws.{Adds, issue-adds, op-adds, arrives, arrives-back}
+use Rattle.convergence.proofs.ArriveLaws.{AddsOp, issue-adds, op-adds, arrives, arrives-back}
 use Rattle.convergence.proofs.ClashLaws.{winner-first}
 use Rattle.rules.proofs.StepLaws.{passed-over, placed-already, applied, blocked, applies, tables-full}
 use Rattle.convergence.proofs.MoveLaws.{opOf, upward, Asked, asked, Drawn, drawn, slot-in, valid-node, y-blocked, circle-is}
@@ -310,11 +310,11 @@ module _ (f g out out′ : List ℕ) (x y : Move) (both : BothIssued f g out out
     room : fileEnd width b + width ≤ length b
     room = omega arith
 
-    x-then-y : (one : Call) → Adds b putx one → Arrives f b putx puty one (deliver puty)
+    x-then-y : (one : Call) → AddsOp b putx one → Arrives f b putx puty one (deliver puty)
     x-then-y one adds =
         arrives f good _ _ putx puty back-x back-y (ay .low) (both .replicas-differ) b one-log one adds fits
 
-    y-then-x : (one : Call) → Adds b puty one → Arrives f b putx puty one (deliver putx)
+    y-then-x : (one : Call) → AddsOp b puty one → Arrives f b putx puty one (deliver putx)
     y-then-x one adds =
         arrives-back f b putx puty one (deliver putx)
         (arrives f good _ _ puty putx back-y back-x (ax .low) differ-back b one-log one adds fits)

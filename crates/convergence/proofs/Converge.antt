@@ -11,7 +11,7 @@ use lib.ListN.{length, getD}
 use borrow.Author.Tests.{le-leb}
 use Rattle.lists.specs.Lists.{concat}
 use Rattle.rules.specs.Op.{Op, countIn, replicaOf, seqOf}
-use Rattle.rules.specs.File.{Log, opsOf, opAt, countsOf, width, logOf, Extends, largest}
+use Rattle.rules.specs.File.{Log, opsOf, opAt, countsOf, width, logOf, Extends, Agree, largest}
 use Rattle.rules.specs.Replay.{parentsOf}
 use Rattle.rules.specs.Views.{nodes}
 use Rattle.convergence.specs.Exchange.{Site, run, has, times, Agreed, arrange, filed, Side, left, right, other, Pair, missing, everything, Round, after, Answered, answers, acceptedBy, ValidRound, EachRound}
@@ -21,10 +21,10 @@ use Rattle.rules.specs.Judge.{judge, judgeAnswer}
 use Rattle.rules.specs.Answer.{require}
 use Rattle.rules.specs.Sound.{sound}
 use Rattle.rules.specs.Tree.{slots}
-use Rattle.rules.proofs.OfferLaws.{Agree}
-use Rattle.rules.proofs.StructureLaws.{count-held, GoodLog, good-ops, counts-covered, counts-closed}
+use Rattle.rules.proofs.StructureLaws.{count-held, GoodLog, good-ops}
 use Rattle.lists.proofs.BoolLaws.{both-ways, or-cases}
 use Rattle.rules.proofs.FileLaws.{WideLog}
+use Rattle.order.proofs.LevelLaws.{whole-cut}
 use Rattle.order.proofs.TreeTheorem.{is-tree}
 use Rattle.convergence.proofs.HasLaws.{has-append, has-old, times-append, times-once, none-onlyIn}
 use Rattle.rules.proofs.UnionLaws.{extends-equal, longer, longer-is, union, union-ops, union-left, union-right, union-wide, sound-union}
@@ -90,7 +90,10 @@ module _ (p : Pair) (k : (d : Side) → Kept (p d)) (big : (d : Side) → larges
   extends = both left (λ d. Extends (logIn (p d)) u) (union-left _ _ agree) (union-right _ _ agree)
 
   pub stands : (d : Side) → Stands u (p d .buffer) (p d)
-  stands d = record { kept = k d; inside = extends d; size = refl; past = refl }
+  stands d = record {
+    kept = k d;
+    way = record { is-sound = k d .is-sound; inside = extends d; size = refl; past = refl };
+  }
 
   either : (d : Side) (r : Op) → OpIn (logIn (p left)) r ⊎ OpIn (logIn (p right)) r
       → (has (p d .held) r || has (p (other d) .held) r) ≡ true
@@ -137,7 +140,7 @@ module _ (p : Pair) (k : (d : Side) → Kept (p d)) (big : (d : Side) → larges
     log-end : (d : Side) → logIn (q d) ≡ u
     log-end d =
         let s = pass .stands d in
-        extends-equal (logIn (q d)) u (kept-good (q d) (s .kept) .eight) (gu .eight) (s .inside) (λ t l h.
+        extends-equal (logIn (q d)) u (kept-good (q d) (s .kept) .eight) (gu .eight) (s .way .inside) (λ t l h.
         elim (decLe 1 (countIn (countsOf u) t)) [
           | yes m ↦
               let x = good-ops gu t (countIn (countsOf u) t) l h m (le-refl _) in
@@ -151,7 +154,7 @@ module _ (p : Pair) (k : (d : Side) → Kept (p d)) (big : (d : Side) → larges
     has-end d r =
         let s = pass .stands d in
         both-ways (has (q d .held) r) (has (p d .held) r || has (p (other d) .held) r)
-        (λ e. either d r (in-union _ _ r (in-more (logIn (q d)) u (s .inside) r (s .kept .tracks .inside r e))))
+        (λ e. either d r (in-union _ _ r (in-more (logIn (q d)) u (s .way .inside) r (s .kept .tracks .inside r e))))
         (λ e. ⊎-elim (from-either d d r) (from-either d (other d) r) (or-cases (has (p d .held) r) (has (p (other d) .held) r) e))
 
     counted : (d : Side) (r : Op) → cond (has (p d .held) r || has (p (other d) .held) r) 1 0 ≡ cond (has (p d .held) r) 1 0 + times
@@ -167,7 +170,7 @@ module _ (p : Pair) (k : (d : Side) → Kept (p d)) (big : (d : Side) → larges
     unfolding filed
     settle tree = record {
       once = λ d r. gain (has (p d .held) r) (has (p (other d) .held) r) _ (counted d r);
-      files = λ d. let s = pass .stands d in rw (arrange-all, ← log-end d, kept-end (q d) (s .kept), ← s .past) (s .kept .front);
+      files = λ d. let s = pass .stands d in rw (arrange-all, ← log-end d, kept-end (q d) (s .kept), ← s .way .past) (s .kept .front);
       judging = λ d pt ot lp lo. judged-is (q d .buffer) (arrange (everything p)) pt ot (pass .stands d .kept .is-sound)
           (log-end d ∙ sym arrange-all) lp lo;
       tree = tree;
@@ -190,8 +193,7 @@ module _ (p : Pair) (k : (d : Side) → Kept (p d)) (big : (d : Side) → larges
 -- the tree of a good log
 tree-of : (log : Log) → GoodLog log → IsTree (nodes log) (parentsOf log)
 unfolding nodes parentsOf
-tree-of log g =
-    is-tree log g (countsOf log) (record { is-covered = counts-covered log; is-closed = counts-closed log g })
+tree-of log g = is-tree log g (countsOf log) (whole-cut log g)
 
 -- demand 3
 pub converges : Converges

@@ -15,6 +15,7 @@ use Rattle.lists.proofs.BoolLaws.{never, or-cases}
 use Rattle.lists.proofs.ListLaws.{same-refl, same-eq, same-sym}
 use Rattle.lists.proofs.FilterLaws.{filter-append}
 use Rattle.lists.proofs.AllLaws.{any-append}
+use Rattle.lists.proofs.EachLaws.{Each}
 
 ---- has and times
 
@@ -78,6 +79,10 @@ once-last a x r h e = rw (times-append a (x ∷ []) r) (go (same r x) refl)
     go : (b : Bool) → same r x ≡ b → length (filter (same r) a) + length (cond b (x ∷ []) []) ≤ 1
     go true q = let z : has a r ≡ false = rw (same-eq r x q) e in omega (arith, times-none a r z)
     go false q = omega arith
+
+pub each-has : (P : Op → Type 0) (a : List Op) → ((r : Op) → has a r ≡ true → P r) → Each P a
+each-has P [] h = tt
+each-has P (x ∷ a) h = (h x (has-head x a), each-has P a (λ r e. h r (has-tail x a r e)))
 
 ---- where an op stands
 

@@ -1,27 +1,26 @@
 -- After every list of calls the buffer is the file of the held ops and a rest.
-use mathlib.Core.Path.{_≡_, refl, ap, _∙_}
+use mathlib.Core.Path.{_≡_, refl}
 use mathlib.Core.Bool.{true, false}
-use mathlib.Core.List.{List, [], _∷_, _++_, foldl}
-use Prim.Native.Nat.{ℕ, _+_, _≤_, _<_}
+use mathlib.Core.List.{List, [], _∷_, _++_, foldl, append-assoc, append-nil}
+use Prim.Native.Nat.{ℕ, _≤_, _<_}
 use native.Mathlib.Omega.{arith}
 use borrow.Author.Tests.{leb-false, le-leb}
-use lib.ListN.{length, take, drop}
-use lib.Seq.{drop-at, take-at}
+use lib.ListN.{length, drop}
+use lib.Seq.{drop-at}
 use lib.Dec.{lit≤}
 use Rattle.rules.specs.Op.{Op, countIn, replicaOf, seqOf}
-use Rattle.rules.specs.File.{Log, countsOf, append, fileEnd, logOf, fileOf, emptyLog, appended, width}
-use Rattle.rules.specs.Deliver.{makeAnswer, makeBuffer, isHeld, deliverAnswer, deliverBuffer}
-use Rattle.rules.specs.Issue.{issued, issueAnswer, issueBuffer, issueOut}
-use Rattle.convergence.specs.Exchange.{Call, make, issue, deliver, Site, answer, bufferAfter, heldThen, perform, run, standing, has, times, arrange, filed, fileIn}
+use Rattle.rules.specs.File.{Log, countsOf, fileEnd, logOf, fileOf, emptyLog, appended, width}
+use Rattle.rules.specs.Deliver.{makeAnswer, makeBuffer, isHeld, deliverBuffer}
+use Rattle.convergence.specs.Exchange.{Call, make, Site, answer, bufferAfter, begun, added, Adds, perform, run, standing, has, times, arrange, filed, fileIn}
 use Rattle.lists.specs.Lists.{any, filter}
 use Rattle.rules.specs.Sound.{sound}
 use Rattle.rules.specs.Answer.{Answer, refused, hadIt, accepted, require, ifAccepted, done}
 use Rattle.lists.proofs.BoolLaws.{never, fails}
 use Rattle.rules.proofs.ReplicaLaws.{replica-cases}
-use Rattle.rules.proofs.DeliverLaws.{Admitted, admitted, appended-log, appended-end, appended-sound, appended-past}
-use Rattle.rules.proofs.IssueLaws.{issue-admitted}
+use Rattle.rules.proofs.DeliverLaws.{Admitted, admitted, appended-log, appended-sound, appended-front}
+use Rattle.convergence.proofs.CallLaws.{calls-add, begun-is}
 use Rattle.rules.proofs.AppendLaws.{in-range, own-next, seq-positive}
-use Rattle.rules.proofs.FileLaws.{length-logOf, counts-logOf, length-file, WideLog, logOf-fileOf, file-end}
+use Rattle.rules.proofs.FileLaws.{InFront, length-front, front-reads, length-logOf, length-file, WideLog, logOf-fileOf, file-end}
 use Rattle.rules.proofs.StructureLaws.{GoodLog, HeldOps, good-ops}
 use Rattle.rules.proofs.SoundLaws.{sound-good, sound-laid, wide-empty, sound-file, sound-wide, SoundLog, sound-empty, sound-log}
 use Rattle.convergence.proofs.HasLaws.{once-last}
@@ -32,7 +31,7 @@ logIn x = logOf width (x .buffer)
 
 pub record Kept (x : Site) : Type 0 where
   pub is-sound : sound width (x .buffer) ≡ true
-  pub front : x .buffer ≡ fileOf width (logIn x) ++ drop (fileEnd width (x .buffer)) (x .buffer)
+  pub front : InFront width (x .buffer)
   pub tracks : Tracks (logIn x) (x .held)
   pub once : (r : Op) → times (x .held) r ≤ 1
 
@@ -54,13 +53,11 @@ kept-arrange x k =
     arrange-log (logIn x) (x .held) (k .tracks) (kept-ops x k) (kept-good x k .eight) (kept-good x k .counts)
 
 pub kept-end : (x : Site) → Kept x → length (fileOf width (logIn x)) ≡ fileEnd width (x .buffer)
-unfolding fileEnd
-kept-end x k = rw (length-file width (logIn x) (kept-wide x k), counts-logOf)
+kept-end x k = length-front width (x .buffer) (sound-laid width (x .buffer) (k .is-sound) .fits)
 
 pub kept-front : (x : Site) → Kept x → fileIn x ≡ fileOf width (logIn x)
 unfolding fileIn
-kept-front x k =
-    ap (take (fileEnd width (x .buffer))) (k .front) ∙ take-at (fileOf width (logIn x)) _ _ (kept-end x k)
+kept-front x k = front-reads width (x .buffer) (sound-laid width (x .buffer) (k .is-sound) .fits) (k .front)
 
 -- a file in front of a rest
 kept-file : (log : Log) (rest : List ℕ) (ops : List Op) → SoundLog log → WideLog width log → Tracks log ops
@@ -88,17 +85,12 @@ module _ (x : Site) (r : Op) (n : ℕ) (k : Kept x) (h : Admitted width (x .buff
   grown-new = fails _ (λ e. let i = k .tracks .inside r e in let z : countIn (countsOf (logIn x)) (replicaOf r) < seqOf r = leb-false _ _
       (h .admits .new) in omega (arith, i .here))
 
-  grown-front : appended width (x .buffer) r ≡ fileOf width (append (logIn x) r) ++ drop (fileEnd width (x .buffer) + width) (x .buffer)
-  unfolding appended
-  grown-front = refl
-
   pub kept-grown : Kept grown
   kept-grown =
       let i = in-range (logIn x) r (kept-good x k) (h .admits) in
       record {
         is-sound = appended-sound width (x .buffer) r n h;
-        front = rw (appended-log width (x .buffer) r n h, appended-end width (x .buffer) r n h, appended-past width (x .buffer) r n h)
-            grown-front;
+        front = appended-front width (x .buffer) r n h;
         tracks = rw (appended-log width (x .buffer) r n h) (tracks-append (logIn x) r (length-logOf width (x .buffer)) (i .0) (i .1)
             (own-next (logIn x) r (kept-good x k) (h .admits)) (x .held) (k .tracks));
         once = λ y. once-last (x .held) r y (k .once y) grown-new;
@@ -121,40 +113,43 @@ empty-once : (r : Op) → times [] r ≤ 1
 unfolding times filter
 empty-once r = lit≤ tt
 
-pub kept-make : (x : Site) → 32 ≤ length (x .buffer) → Kept (perform x make)
-unfolding perform bufferAfter answer heldThen makeBuffer makeAnswer require
-kept-make x h = rw (le-leb 32 (length (x .buffer)) h) (kept-file emptyLog (drop 32 (x .buffer)) [] sound-empty (wide-empty width)
+kept-begun-make : (x : Site) → 32 ≤ length (x .buffer) → Kept (begun x make)
+unfolding begun makeBuffer makeAnswer require
+kept-begun-make x h = rw (le-leb 32 (length (x .buffer)) h) (kept-file emptyLog (drop 32 (x .buffer)) [] sound-empty (wide-empty width)
     empty-tracks empty-once)
 
+-- a first making, in any buffer that is long enough
+pub kept-make : (x : Site) → 32 ≤ length (x .buffer) → Kept (perform x make)
+unfolding perform bufferAfter answer begun added makeBuffer makeAnswer require
+kept-make x h = rw (le-leb 32 (length (x .buffer)) h) (rw (le-leb 32 (length (x .buffer)) h) at (kept-begun-make x h))
+
+-- ops delivered in turn
+kept-adds : (ops : List Op) (x : Site) (g : List ℕ) → Kept x → Adds (x .buffer) ops g → Kept (record { buffer = g; held = x .held ++ ops })
+unfolding deliverBuffer
+kept-adds [] x g k e = rw (e, append-nil) k
+kept-adds (r ∷ ops) x g k a =
+    let (n, e, rest) = a in
+    let h = admitted width (x .buffer) r n e in
+    let grow : deliverBuffer width (x .buffer) r ≡ appended width (x .buffer) r = rw e in
+    rw (← append-assoc (x .held) (r ∷ []) ops) (kept-adds ops (grown x r n k h) g (kept-grown x r n k h) (rw grow at rest))
+
 pub kept-perform : (x : Site) (c : Call) → Kept x → Kept (perform x c)
-unfolding perform bufferAfter answer heldThen issueBuffer issueOut deliverBuffer
-kept-perform x make k = kept-make x (sound-laid width (x .buffer) (k .is-sound) .header)
-kept-perform x (issue lent s q) k = go (issueAnswer width (x .buffer) (length lent) s q) refl
+unfolding perform
+kept-perform x c k = go (answer (x .buffer) c) refl
   where
-    go : (a : Answer) → issueAnswer width (x .buffer) (length lent) s q ≡ a
-        → Kept (record {
-          buffer = ifAccepted a (appended width (x .buffer) (issued (logIn x) s q)) (x .buffer);
-          held = ifAccepted a
-              (x .held ++ (take width (ifAccepted a (issued (logIn x) s q ++ drop width lent) lent) ∷ [])) (x .held);
-        })
-    go (refused n) e = k
-    go hadIt e = k
-    go done e = k
+    first : Kept (begun x c)
+    first = begun-is Kept x c (kept-begun-make x (sound-laid width (x .buffer) (k .is-sound) .header)) k
+
+    unchanged : ifAccepted (answer (x .buffer) c) true false ≡ false → Kept (record { buffer = bufferAfter (x .buffer) c; held = x .held })
+    unchanged e = rw (calls-add .keeps (x .buffer) c e) k
+
+    go : (a : Answer) → answer (x .buffer) c ≡ a
+        → Kept (record { buffer = bufferAfter (x .buffer) c; held = ifAccepted a (begun x c .held ++ added (x .buffer) c) (x .held) })
+    go (refused n) e = unchanged (rw e)
+    go hadIt e = unchanged (rw e)
+    go done e = unchanged (rw e)
     go (accepted n) e =
-        let h = issue-admitted (x .buffer) (length lent) s q n e in
-        rw (take-at (issued (logIn x) s q) (drop width lent) width (h .long)) (kept-grown x (issued (logIn x) s q) n k h)
-kept-perform x (deliver r) k = go (deliverAnswer width (x .buffer) r) refl
-  where
-    go : (a : Answer) → deliverAnswer width (x .buffer) r ≡ a
-        → Kept (record {
-          buffer = ifAccepted a (appended width (x .buffer) r) (x .buffer);
-          held = ifAccepted a (x .held ++ (r ∷ []))
-              (x .held);
-        })
-    go (refused n) e = k
-    go hadIt e = k
-    go done e = k
-    go (accepted n) e = kept-grown x r n k (admitted width (x .buffer) r n e)
+        kept-adds (added (x .buffer) c) (begun x c) (bufferAfter (x .buffer) c) first (calls-add .adds x c n e)
 
 -- after every list of calls
 kept-calls : (calls : List Call) (x : Site) → Kept x → Kept (foldl perform x calls)

@@ -1,4 +1,5 @@
 pub mod HasLaws
+pub mod CallLaws
 pub mod TrackLaws
 pub mod KeptLaws
 pub mod ListTheorems
@@ -10,4 +11,7 @@ pub mod ArriveLaws
 pub mod MoveLaws
 pub mod ClashLaws
 pub mod ClashTheorem
+pub mod DeliverAllLaws
 pub mod HandoverTheorem
+pub mod OpeningTheorem
+pub mod OpenLaws

@@ -12,9 +12,10 @@ use Rattle.rules.proofs.CircleLaws.{second-blocked, first-below, second-free, c
 use Rattle.convergence.specs.Clash.{Move, nextSlot, request, circle, hang}
 use Rattle.rules.proofs.KnownLaws.{Known, Named, named-valid, parent-reads, known-reads}
 use Rattle.order.proofs.GrowLaws.{Tree}
+use Rattle.order.proofs.LevelLaws.{whole-cut}
 use Rattle.order.proofs.RunLaws.{replay-run}
 use Rattle.rules.proofs.IssueLaws.{counts-eight, bytes-parent, bytes-vector, bytes-node, Allowed}
-use Rattle.rules.proofs.StructureLaws.{GoodLog, counts-covered, counts-closed}
+use Rattle.rules.proofs.StructureLaws.{GoodLog}
 use Rattle.rules.proofs.SlotLaws.{Valid}
 use Rattle.rules.proofs.ClimbLaws.{Reaches, short}
 use Rattle.rules.proofs.TreeLaws.{still-reaches, free-avoids}
@@ -130,7 +131,7 @@ module _ (log : Log) (good : GoodLog log) (x y : Move) (ax : Asked log x) (ay : 
 
   tree : Tree log (countsOf log) (replay log (countsOf log))
   unfolding replay
-  tree = replay-run log good (countsOf log) (record { is-covered = counts-covered log; is-closed = counts-closed log good }) .tree
+  tree = replay-run log good (countsOf log) (whole-cut log good) .tree
 
   size : length parents ≡ slots
   unfolding parentsOf

@@ -1,6 +1,6 @@
 -- What a run of offers comes to: both sides stay files of ops of the union, the answers are those of a round, and
 -- each acceptance makes one op less missing.
-use mathlib.Core.Path.{_≡_, refl, sym, ap, _∙_}
+use mathlib.Core.Path.{_≡_, refl, sym, _∙_}
 use mathlib.Core.Logic.{⊎-elim}
 use mathlib.Core.Bool.{Bool, true, false, cond, _&&_, or-true}
 use mathlib.Core.List.{List, [], _∷_, _++_, append-assoc, append-nil}
@@ -8,37 +8,35 @@ use Prim.Native.Nat.{ℕ, suc, _+_, _≤_}
 use native.Mathlib.Omega.{arith}
 use native.Mathlib.Decide.{decLe}
 use borrow.Author.Tests.{leb-true}
-use lib.ListN.{length, drop}
-use lib.Seq.{drop-drop}
+use lib.ListN.{length}
 use Rattle.lists.specs.Lists.{same, concat, all, any, filter}
 use Rattle.rules.specs.Op.{Op, countIn, replicaOf, vectorOf, seqOf}
-use Rattle.rules.specs.File.{Log, opAt, countsOf, fileEnd, appended, width, Extends, largest}
+use Rattle.rules.specs.File.{Log, opAt, countsOf, fileEnd, logOf, appended, width, largest}
 use Rattle.rules.specs.Log.{covered}
 use Rattle.rules.specs.Deliver.{isHeld, deliverAnswer}
 use Rattle.convergence.specs.Exchange.{Site, answer, has, Side, left, right, other, isSide, Pair, missing, Offer, Round, answerTo, offered, after, Answered, answers, acceptances, acceptedBy, offers, ValidRound, EachRound, onlyIn}
 use Rattle.convergence.specs.Converges.{expected}
 use Rattle.rules.specs.Answer.{Answer, refused, hadIt, accepted, ifAccepted, done}
 use Rattle.lists.proofs.BoolLaws.{never, and-left, and-right, or-cases}
-use Rattle.rules.proofs.AppendLaws.{in-range, own-next, seq-positive}
-use Rattle.rules.proofs.DeliverLaws.{appended-past, Admitted, admitted, appended-log, appended-end, appended-length}
-use Rattle.rules.proofs.OfferLaws.{Agree, Offered, early, offered-in-full, had, taken}
+use Rattle.rules.proofs.AppendLaws.{seq-positive}
+use Rattle.rules.proofs.DeliverLaws.{Admitted, admitted}
+use Rattle.rules.proofs.OfferLaws.{Offered, early, had, short, taken}
+use Rattle.rules.proofs.WayLaws.{OnWay, room-in-full, way-answer, way-grown, way-room}
 use Rattle.rules.proofs.CausalLaws.{Missing, total, some-ready}
-use Rattle.rules.proofs.FileLaws.{length-logOf, WideLog}
+use Rattle.rules.proofs.FileLaws.{WideLog}
 use Rattle.lists.proofs.ListLaws.{same-refl, same-eq}
 use Rattle.rules.proofs.StructureLaws.{HeldOp, HeldOps}
 use Rattle.convergence.proofs.HasLaws.{has-old, times-some, onlyIn-less, onlyIn-same, some-onlyIn}
-use Rattle.rules.proofs.InLaws.{OpIn, in-more, append-within, op-in}
-use Rattle.convergence.proofs.KeptLaws.{logIn, Kept, kept-ops, kept-grown, grown-new, kept-good}
+use Rattle.rules.proofs.InLaws.{OpIn, in-more, op-in}
+use Rattle.convergence.proofs.KeptLaws.{logIn, Kept, kept-ops, kept-grown, grown-new}
 use Rattle.convergence.proofs.SideLaws.{both, side-self, side-other, side-eq, missing-from, delivered, offered-to, offered-other, offered-same, answers-append, after-append, acceptedBy-append, acceptances-append}
 use Rattle.rules.proofs.SoundLaws.{SoundLog}
 use Rattle.lists.proofs.AllLaws.{all-append}
 
--- a side in the rounds: its log lies within u, and past its file are the bytes of f, the buffer before the rounds
+-- a side in the rounds, on its way to u from the buffer f
 pub record Stands (u : Log) (f : List ℕ) (x : Site) : Type 0 where
   pub kept : Kept x
-  pub inside : Extends (logIn x) u
-  pub size : length (x .buffer) ≡ length f
-  pub past : drop (fileEnd width (x .buffer)) (x .buffer) ≡ drop (fileEnd width (x .buffer)) f
+  pub way : OnWay width u f (x .buffer)
 
 -- from p to q by offers with these answers
 pub record Passes (u : Log) (base : Side → List ℕ) (p q : Pair) (xs : List Answered) : Type 0 where
@@ -47,18 +45,22 @@ pub record Passes (u : Log) (base : Side → List ℕ) (p q : Pair) (xs : List A
   pub gained : (d : Side) → q d .held ≡ p d .held ++ acceptedBy d xs
   pub fewer : length (missing p) ≡ length (missing q) + length (acceptances xs)
 
-offered-expected : {log : Log} {r : Op} {n : ℕ} {a : Answer} → Offered log r n a → expected a ≡ true
-unfolding expected
-offered-expected taken = refl
-offered-expected (had e) = refl
-offered-expected (early e) = refl
+-- what an op is answered where there is room for it
+module _ {g : List ℕ} {r : Op} (room : isHeld (logOf width g) r ≡ false → fileEnd width g + width ≤ length g) where
+  offered-expected : {a : Answer} → Offered width g r a → expected a ≡ true
+  unfolding expected
+  offered-expected taken = refl
+  offered-expected (had e) = refl
+  offered-expected (early e) = refl
+  offered-expected (short e l) = absurd (omega (arith, room e))
 
--- an answer to an op that is neither held nor early
-accepts : {log : Log} {r : Op} {m : ℕ} {a : Answer} → Offered log r m a → (isHeld log r ≡ true → ⊥) → (covered log (vectorOf r) ≡ false → ⊥)
-    → (n : ℕ) × (a ≡ accepted n)
-accepts {m = m} taken h c = (m, refl)
-accepts (had e) h c = absurd (h e)
-accepts (early e) h c = absurd (c e)
+  -- an op that is neither held nor early
+  accepts : {a : Answer} → Offered width g r a → (isHeld (logOf width g) r ≡ true → ⊥) → (covered (logOf width g) (vectorOf r) ≡ false → ⊥)
+      → (n : ℕ) × (a ≡ accepted n)
+  accepts taken h c = (fileEnd width g + width, refl)
+  accepts (had e) h c = absurd (h e)
+  accepts (early e) h c = absurd (c e)
+  accepts (short e l) h c = absurd (omega (arith, room e))
 
 -- an op that would be accepted, and is offered
 reached : (os : List Offer) (p : Pair) (d : Side) (r : Op) (n : ℕ) → offers os d r ≡ true → deliverAnswer width (p d .buffer) r ≡ accepted n
@@ -88,28 +90,19 @@ module _ (u : Log) (su : SoundLog u) (wu : WideLog width u) (base : Side → Lis
   where
     ---- one offer
 
-    pub offer-answer : (d : Side) (x : Site) → Stands u (base d) x → (r : Op) → OpIn u r
-        → Offered (logIn x) r (fileEnd width (x .buffer) + width) (deliverAnswer width (x .buffer) r)
-    offer-answer d x s r i =
-        let agree : Agree u (logIn x) = λ t q l h lq uq vq. sym (s .inside .ops t q l h lq vq) in
-        let room : largest width ≤ length (x .buffer) = omega (arith, s .size, big d) in
-        rw (i .there) at (offered-in-full width u su wu (x .buffer) (s .kept .is-sound) agree (replicaOf r) (seqOf r) (i .low) (i .high)
-        (seq-positive r) (i .here) room)
+    module _ (d : Side) (x : Site) (s : Stands u (base d) x) (r : Op) (i : OpIn u r) where
+      offer-answer : Offered width (x .buffer) r (deliverAnswer width (x .buffer) r)
+      offer-answer = way-answer width u su (base d) (x .buffer) (s .way) r i wu
 
-    pub stands-grown : (d : Side) (x : Site) → Stands u (base d) x → (r : Op) → OpIn u r → (n : ℕ) → Admitted width (x .buffer) r n
-        → Stands u (base d) (record { buffer = appended width (x .buffer) r; held = x .held ++ (r ∷ []) })
-    stands-grown d x s r i n h =
-        let good = kept-good x (s .kept) in
-        let g = in-range (logIn x) r good (h .admits) in
-        let e = fileEnd width (x .buffer) in
-        record {
-          kept = kept-grown x r n (s .kept) h;
-          inside = rw (appended-log width (x .buffer) r n h) (append-within (logIn x) r (length-logOf width (x .buffer)) (g .0) (g .1)
-              (own-next (logIn x) r good (h .admits)) u (s .inside) i);
-          size = appended-length width (x .buffer) r n h ∙ s .size;
-          past = rw (appended-end width (x .buffer) r n h) (appended-past width (x .buffer) r n h ∙ sym (drop-drop width e (x .buffer))
-              ∙ ap (drop width) (s .past) ∙ drop-drop width e (base d));
-        }
+      room : isHeld (logIn x) r ≡ false → fileEnd width (x .buffer) + width ≤ length (x .buffer)
+      room = way-room width u su (base d) (x .buffer) (s .way) r i (room-in-full width u su (base d) (big d))
+
+      stands-grown : (n : ℕ) → Admitted width (x .buffer) r n
+          → Stands u (base d) (record { buffer = appended width (x .buffer) r; held = x .held ++ (r ∷ []) })
+      stands-grown n h = record {
+        kept = kept-grown x r n (s .kept) h;
+        way = way-grown width u su (base d) (x .buffer) (s .way) r i n h;
+      }
 
     pass-none : (p : Pair) → ((d : Side) → Stands u (base d) (p d)) → Passes u base p p []
     unfolding all acceptedBy acceptances filter
@@ -171,13 +164,16 @@ module _ (u : Log) (su : SoundLog u) (wu : WideLog width u) (base : Side → Lis
     pass-one p o s h = go (answerTo p o) refl (offer-answer (o .to) (p (o .to)) (s (o .to)) (o .op) i)
       where
         i : OpIn u (o .op)
-        i = let t = other (o .to) in in-more (logIn (p t)) u (s t .inside) (o .op) (s t .kept .tracks .inside (o .op) h)
+        i = let t = other (o .to) in in-more (logIn (p t)) u (s t .way .inside) (o .op) (s t .kept .tracks .inside (o .op) h)
 
-        go : (a : Answer) → answerTo p o ≡ a → Offered (logIn (p (o .to))) (o .op) (fileEnd width (p (o .to) .buffer) + width) a
+        fits : isHeld (logIn (p (o .to))) (o .op) ≡ false → fileEnd width (p (o .to) .buffer) + width ≤ length (p (o .to) .buffer)
+        fits = room (o .to) (p (o .to)) (s (o .to)) (o .op) i
+
+        go : (a : Answer) → answerTo p o ≡ a → Offered width (p (o .to) .buffer) (o .op) a
             → Passes u base p (offered p o) (record { offer = o; answered = a } ∷ [])
         go (refused n) e f = pass-same p (offered p o) (record { offer = o; answered = refused n }) s (offered-same p o (rw e))
-            (offered-expected f) refl
-        go done e f = never (offered-expected f)
+            (offered-expected fits f) refl
+        go done e f = never (offered-expected fits f)
         go hadIt e f = pass-same p (offered p o) (record { offer = o; answered = hadIt }) s (offered-same p o (rw e)) refl refl
         go (accepted n) e f = pass-gain p (offered p o) (o .to) (o .op) n s h i (admitted width (p (o .to) .buffer) (o .op) n e)
             (rw e at (offered-to p o)) (offered-other p o)
@@ -203,7 +199,7 @@ module _ (u : Log) (su : SoundLog u) (wu : WideLog width u) (base : Side → Lis
           → Missing (logIn (p (other d))) (logIn (p d)) (replicaOf r) (seqOf r)
       lacks d r a b =
           let i = s (other d) .kept .tracks .inside r a in
-          let j = in-more (logIn (p (other d))) u (s (other d) .inside) r i in
+          let j = in-more (logIn (p (other d))) u (s (other d) .way .inside) r i in
           record {
             low = i .low;
             high = i .high;
@@ -214,7 +210,7 @@ module _ (u : Log) (su : SoundLog u) (wu : WideLog width u) (base : Side → Lis
                 low = i .low;
                 high = i .high;
                 here = l;
-                there = sym (s d .inside .ops (replicaOf r) (seqOf r) (i .low) (i .high) (seq-positive r) l) ∙ j .there;
+                there = sym (s d .way .inside .ops (replicaOf r) (seqOf r) (i .low) (i .high) (seq-positive r) l) ∙ j .there;
               }))
               | no nl ↦ omega arith
             ];
@@ -233,7 +229,8 @@ module _ (u : Log) (su : SoundLog u) (wu : WideLog width u) (base : Side → Lis
           let x : Op = opAt here t k in
           let i : OpIn here x = op-in here ops t k (y .low) (y .high) (y .first) (y .here) in
           let m : HeldOp here t k x = ops t k (y .low) (y .high) (y .first) (y .here) in
-          let (n, e) = accepts (offer-answer d (p d) (s d) x (in-more here u (s (other d) .inside) x i)) (λ g.
+          let j : OpIn u x = in-more here u (s (other d) .way .inside) x i in
+          let (n, e) = accepts (room d (p d) (s d) x j) (offer-answer d (p d) (s d) x j) (λ g.
           let z : k ≤ countIn (countsOf there) t = rw (m .origin, m .number) at (leb-true (seqOf x) (countIn (countsOf there) (replicaOf x))
           g) in
           omega (arith, y .not-there)) (λ g. never (sym g ∙ c)) in

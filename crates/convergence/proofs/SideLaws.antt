@@ -7,7 +7,7 @@ use native.Mathlib.Nat.{add-comm}
 use lib.ListN.{length, length-append}
 use Rattle.rules.specs.Op.{Op}
 use Rattle.rules.specs.Deliver.{deliverBuffer}
-use Rattle.convergence.specs.Exchange.{Site, answer, bufferAfter, heldThen, perform, Side, left, right, other, isSide, Pair, missing, Offer, answerTo, offered, after, Answered, answers, acceptances, acceptedBy, onlyIn}
+use Rattle.convergence.specs.Exchange.{Site, answer, bufferAfter, begun, added, perform, Side, left, right, other, isSide, Pair, missing, Offer, answerTo, offered, after, Answered, answers, acceptances, acceptedBy, onlyIn}
 use Rattle.rules.specs.Answer.{Answer, refused, hadIt, accepted, ifAccepted, done}
 use Rattle.rules.specs.File.{appended, width}
 use Rattle.lists.proofs.BoolLaws.{never}
@@ -57,7 +57,7 @@ delivered x r a = record {
 
 module _ (p : Pair) (o : Offer) where
   pub offered-to : offered p o (o .to) ≡ delivered (p (o .to)) (o .op) (answerTo p o)
-  unfolding offered perform bufferAfter answer heldThen answerTo deliverBuffer delivered
+  unfolding offered perform bufferAfter answer begun added answerTo deliverBuffer delivered
   offered-to = rw (side-self (o .to))
 
   pub offered-other : offered p o (other (o .to)) ≡ p (other (o .to))

@@ -6,20 +6,23 @@ use mathlib.Core.Bool.{Bool, true, false, cond, _&&_, not}
 use mathlib.Core.List.{List, [], _∷_, _++_, map, foldl}
 use lib.ListN.{length, take, drop}
 use lib.Dec.{eqb}
-use Rattle.rules.specs.Answer.{Answer, ifAccepted}
+use Rattle.rules.specs.Answer.{Answer, accepted, ifAccepted}
 use Rattle.lists.specs.Lists.{upFrom, same, concat, any, filter}
 use Rattle.rules.specs.Op.{Op, replicas, replicaOf, seqOf}
 use Rattle.rules.specs.File.{Log, width, fileEnd, fileOf}
 use Rattle.rules.specs.Deliver.{makeAnswer, makeBuffer, deliverAnswer, deliverBuffer}
 use Rattle.rules.specs.Issue.{Request, issueAnswer, issueBuffer, issueOut}
+use Rattle.rules.specs.Bundle.{bodiesIn, turnsTaken, openAnswer, openBuffer}
 
 ---- a list of calls
 
--- a call that is lent the log's buffer to write in; judging, path and listing only read it, so any of them may stand between
+-- a call that is lent the log's buffer to write in; judging, path, listing and making a bundle only read it, so any of them may stand
+-- between
 pub data Call : Type 0 where
   make : Call
   issue : (out : List ℕ) (replica : ℕ) → Request → Call
   deliver : (op : List ℕ) → Call
+  openBundle : (bundle : List ℕ) → Call
 
 -- a buffer, and the ops held there, in the order in which they were accepted
 pub record Site : Type 0 where
@@ -30,23 +33,39 @@ unfoldable pub answer : List ℕ → Call → Answer
 answer f make = makeAnswer f
 answer f (issue out s q) = issueAnswer width f (length out) s q
 answer f (deliver r) = deliverAnswer width f r
+answer f (openBundle b) = openAnswer width f b
 
 unfoldable pub bufferAfter : List ℕ → Call → List ℕ
 bufferAfter f make = makeBuffer width f
 bufferAfter f (issue out s q) = issueBuffer width f (length out) s q
 bufferAfter f (deliver r) = deliverBuffer width f r
+bufferAfter f (openBundle b) = openBuffer width f b
 
--- what is held once the call is accepted: nothing; or one op more, which issuing put in the first lent bytes, or which was delivered
-unfoldable pub heldThen : Site → Call → List Op
-heldThen x make = []
-heldThen x (issue out s q) = x .held ++ (take width (issueOut width (x .buffer) out s q) ∷ [])
-heldThen x (deliver r) = x .held ++ (r ∷ [])
+-- what an accepted call adds to: making begins with nothing held, every other call with what there was
+unfoldable pub begun : Site → Call → Site
+begun x make = record { buffer = makeBuffer width (x .buffer); held = [] }
+begun x (issue out s q) = x
+begun x (deliver r) = x
+begun x (openBundle b) = x
+
+-- the ops that an accepted call adds, in this order: the one that issuing put in the first lent bytes; the one that was delivered; the
+-- bodies of a bundle but those that are passed by
+unfoldable pub added : List ℕ → Call → List Op
+added f make = []
+added f (issue out s q) = take width (issueOut width f out s q) ∷ []
+added f (deliver r) = r ∷ []
+added f (openBundle b) = turnsTaken width f (bodiesIn width b)
 
 unfoldable pub perform : Site → Call → Site
 perform x c = record {
   buffer = bufferAfter (x .buffer) c;
-  held = ifAccepted (answer (x .buffer) c) (heldThen x c) (x .held);
+  held = ifAccepted (answer (x .buffer) c) (begun x c .held ++ added (x .buffer) c) (x .held);
 }
+
+-- delivering these ops in turn to the buffer f, each being accepted, leaves the buffer g
+abbrev pub Adds : List ℕ → List Op → List ℕ → Type 0
+Adds f [] g = g ≡ f
+Adds f (r ∷ rs) g = (n : ℕ) × (deliverAnswer width f r ≡ accepted n) × Adds (deliverBuffer width f r) rs g
 
 -- a buffer that holds f, before the first call
 abbrev pub lent : List ℕ → Site
@@ -65,6 +84,7 @@ unfoldable pub outAfter : List ℕ → Call → List ℕ
 outAfter f make = []
 outAfter f (issue out s q) = issueOut width f out s q
 outAfter f (deliver r) = []
+outAfter f (openBundle b) = []
 
 unfoldable pub reply : List ℕ → Call → Reply
 reply f c = record { answer = answer f c; out = outAfter f c }

@@ -2,5 +2,6 @@ pub mod Exchange
 pub mod Lists
 pub mod Converges
 pub mod Handover
+pub mod Opens
 pub mod Clash
 pub mod Meeting

@@ -1,5 +1,6 @@
 -- A meeting worked out: what the definitions of Exchange give for the document's P1.
 use Prim.Native.Nat.{ℕ}
+use lib.Count.{ones, onesIn}
 use lib.ListN.{replicate}
 use mathlib.Core.Bool.{Bool, true, false, _||_, or-true}
 use mathlib.Core.List.{List, [], _∷_, _++_}
@@ -7,12 +8,13 @@ use mathlib.Core.Path.{refl, _≡_}
 use native.Mathlib.Omega.{arith}
 use Rattle.convergence.specs.Clash.{Move, circle, beats, putOut, BothIssued, BothAdded, Arrivals}
 use Rattle.convergence.specs.Converges.{expected}
-use Rattle.convergence.specs.Exchange.{Side, Round, left, Offer, Pair, Call, issue, deliver, run, right, make, missing, after, answers, acceptedBy, answer, answerTo, acceptances, isSide, arrange, inOrder, everything, other, perform, opNumbered, heldThen, has, onlyIn, bufferAfter, offered}
+use Rattle.convergence.specs.Exchange.{Side, Round, left, Offer, Pair, Call, issue, deliver, openBundle, run, right, make, missing, after, answers, acceptedBy, answer, answerTo, acceptances, isSide, arrange, inOrder, everything, other, perform, opNumbered, begun, added, has, onlyIn, bufferAfter, offered}
 use Rattle.rules.specs.Answer.{require}
 use Rattle.rules.specs.Bytes.{wordAt, word}
 use Rattle.lists.specs.Lists.{all, upFrom, downFrom, sum, concat, greatest, same, any, filter, isIn}
 use Rattle.rules.specs.Deliver.{makeAnswer, deliverBuffer, makeBuffer, deliverAnswer, heldAnswer, admitAnswer, isHeld}
-use Rattle.rules.specs.Examples.{p1, adds, p1File, vector}
+use Rattle.rules.specs.Bundle.{countsRead, headCounts, headSize, bodiesIn, opsBy, wholeBundle, unlessRefused, turnsAnswer, turnsBuffer, turnsTaken, openAnswer, openBuffer}
+use Rattle.rules.specs.Examples.{a₁, a₂, a₃, b₁, p1, p1File, p1Bundle}
 use Rattle.rules.specs.Issue.{opBytes, add, move, requestKnown, requestUnmarked, issued, issueAnswer, requestClear, issueBuffer, issueOut}
 use Rattle.rules.specs.Tree.{moveKind, climb, path, atOrBelow, slot, slotOf, depth, parentIn}
 use Rattle.rules.specs.File.{emptyLog, opsOf, opAt, countsOf, append, countAt, startAt, headerCounts, startOf, endOf, fileEnd, chunks, chunksOf, logOf, headerEntry, headerOf, fileOf, within, appended, width}
@@ -21,19 +23,6 @@ use Rattle.rules.specs.Op.{Op, replicas, isReplica, countIn, kindOf, replicaOf,
 use Rattle.rules.specs.Replay.{ofTime, timestampIn, stamped, parentsOf, ofReplica, byTime, ofKind, start, outcomeSlot, outcomeOf, opsWithin, removedIn, stamp, ordered, outcomesOf, replay, timestamp, step}
 use Rattle.rules.specs.Marks.{isKnown, isMarked, knowledge, marked, nodeWithin}
 use Rattle.rules.specs.Sound.{sound}
-
--- P1's ops: replica 1 issues the first three, and replica 2, which has the first two, issues the last
-abbrev a₁ : Op
-a₁ = adds 1 1 0 (vector 0 0 0)
-
-abbrev a₂ : Op
-a₂ = adds 1 2 0 (vector 1 0 0)
-
-abbrev a₃ : Op
-a₃ = opBytes 4 1 258 257 (vector 2 0 0)
-
-abbrev b₁ : Op
-b₁ = opBytes 4 2 257 258 (vector 2 0 0)
 
 -- refused calls and a second making among them
 abbrev calls₁ : List Call
@@ -48,6 +37,11 @@ calls₁ =
 abbrev calls₂ : List Call
 calls₂ =
     deliver a₁ ∷ make ∷ deliver a₂ ∷ deliver a₁ ∷ deliver a₁ ∷ deliver a₂ ∷ issue (replicate 14 9) 2 (move 257 258) ∷ []
+
+-- the two adds come in a bundle, after one with a body that is early; then all of P1 in one, of which two ops are new
+abbrev calls₃ : List Call
+calls₃ =
+    openBundle (1 ∷ 2 ∷ (a₁ ++ a₃)) ∷ openBundle (1 ∷ 2 ∷ (a₁ ++ a₂)) ∷ openBundle p1Bundle ∷ []
 
 abbrev pair : List Call → Pair
 pair calls left = run (replicate 102 7) calls₁
@@ -70,6 +64,9 @@ rounds = backward ∷ (to left a₁ ∷ backward) ∷ (backward ++ (to left a₂
 pub record Met : Type 0 where
   pub held-left : pair calls₂ left .held ≡ a₁ ∷ a₂ ∷ a₃ ∷ []
   pub held-right : pair calls₂ right .held ≡ a₁ ∷ a₂ ∷ b₁ ∷ []
+  -- what opening bundles adds
+  pub held-opened : pair calls₃ right .held ≡ a₁ ∷ a₂ ∷ b₁ ∷ a₃ ∷ []
+  pub file-opened : pair calls₃ right .buffer ≡ p1File
   -- two ops are missing, and one round brings both over; the two files are then P1's
   pub missing-two : missing (pair calls₂) ≡ a₃ ∷ b₁ ∷ []
   pub none-missing : missing (after (pair calls₂) round) ≡ []
@@ -91,11 +88,14 @@ unfolding p1 p1File require wordAt word upFrom downFrom sum greatest same concat
     makeAnswer isHeld heldAnswer admitAnswer deliverAnswer slot slotOf parentIn climb path depth atOrBelow opsWithin timestampIn timestamp
     stamp stamped ofReplica ofKind ofTime byTime ordered start outcomeSlot outcomeOf step replay parentsOf outcomesOf opBytes moveKind
     issued requestKnown requestUnmarked requestClear issueAnswer makeBuffer deliverBuffer appended issueBuffer issueOut answer bufferAfter
-    heldThen perform run has opNumbered inOrder arrange other isSide onlyIn missing answerTo offered after answers acceptances acceptedBy
-    expected everything removedIn
+    begun added perform run has opNumbered inOrder arrange other isSide onlyIn missing answerTo offered after answers acceptances acceptedBy
+    expected everything removedIn ones onesIn countsRead headCounts headSize bodiesIn opsBy wholeBundle unlessRefused turnsAnswer
+    turnsBuffer turnsTaken openAnswer openBuffer
 met = record {
   held-left = refl;
   held-right = refl;
+  held-opened = refl;
+  file-opened = refl;
   missing-two = refl;
   none-missing = refl;
   answers-expected = refl;
@@ -144,7 +144,7 @@ unfolding p1 p1File require wordAt word upFrom sum same concat all any replicas 
     vectorOf ownCount seqOf nodeNumber isAdd isRemove wellFormed emptyLog opsOf opAt countsOf append countAt startAt headerCounts startOf
     endOf fileEnd chunks chunksOf logOf headerEntry headerOf fileOf within covered closedAt closed isKnown nodeWithin marked
     knowledge knownParent namesKnown soundOp soundOps soundLog soundHeader laid structural sound makeAnswer isHeld heldAnswer admitAnswer
-    deliverAnswer opBytes makeBuffer deliverBuffer appended answer bufferAfter heldThen perform run has removedIn opsWithin filter isIn
+    deliverAnswer opBytes makeBuffer deliverBuffer appended answer bufferAfter begun added perform run has removedIn opsWithin filter isIn
 arrived h e = rw e (record {
   is-sound = refl;
   ops = λ z. last-first (same z a₁) (same z a₂) (same z a₃) (same z b₁);
@@ -158,7 +158,7 @@ unfolding p1 p1File require wordAt word upFrom downFrom sum greatest same concat
     makeAnswer isHeld heldAnswer admitAnswer deliverAnswer slot slotOf parentIn climb path depth atOrBelow opsWithin timestampIn timestamp
     stamp stamped ofReplica ofKind ofTime byTime ordered start outcomeSlot outcomeOf step replay parentsOf outcomesOf opBytes moveKind
     issued requestKnown requestUnmarked requestClear issueAnswer makeBuffer deliverBuffer appended issueBuffer issueOut answer bufferAfter
-    heldThen perform run circle beats removedIn
+    begun added perform run circle beats removedIn
 clashed = record {
   both-issued = record {
     one-log = refl;

@@ -23,6 +23,15 @@ all-filter p q (x ∷ xs) h = go (q x) (all-filter p q xs (and-right (p x) _ h))
     go true ih = and-both (and-left (p x) _ h) ih
     go false ih = ih
 
+pub all-passing : {A : Type 0} (p : A → Bool) (xs : List A) → all p (filter p xs) ≡ true
+unfolding all filter
+all-passing p [] = refl
+all-passing p (x ∷ xs) = go (p x) refl (all-passing p xs)
+  where
+    go : (b : Bool) → p x ≡ b → all p (filter p xs) ≡ true → all p (cond b (x ∷ filter p xs) (filter p xs)) ≡ true
+    go true e ih = and-both e ih
+    go false e ih = ih
+
 pub all-of-map : {A B : Type 0} (p : B → Bool) (g : A → B) (xs : List A) → all p (map g xs) ≡ all (λ x. p (g x)) xs
 unfolding all
 all-of-map p g [] = refl

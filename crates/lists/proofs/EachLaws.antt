@@ -6,7 +6,8 @@ use mathlib.Core.Path.{_≡_, refl}
 use borrow.Author.Tests.{eq-eqb}
 use lib.Dec.{eqb}
 use Prim.Native.Nat.{ℕ, _+_, _<_, _≤_, suc, zero}
-use native.Mathlib.Nat.{le-refl}
+use native.Mathlib.Nat.{le-of-suc-le-suc, le-refl, not-suc-le-zero}
+use lib.ListN.{getD, length}
 use native.Mathlib.Omega.{arith}
 
 abbrev pub Each : {A : Type 0} → (A → Type 0) → List A → Type 0
@@ -18,18 +19,44 @@ module _ {A : Type 0} (P : A → Type 0) where
   each-append [] ys a b = b
   each-append (x ∷ xs) ys a b = (a .0, each-append xs ys (a .1) b)
 
-  pub each-filter : (p : A → Bool) (xs : List A) → Each P xs → Each P (filter p xs)
-  unfolding filter
-  each-filter p [] h = tt
-  each-filter p (x ∷ xs) h = go (p x) (each-filter p xs (h .1))
-    where
-      go : (b : Bool) → Each P (filter p xs) → Each P (cond b (x ∷ filter p xs) (filter p xs))
-      go true rest = (h .0, rest)
-      go false rest = rest
+-- of the one at a place
+pub each-at : {A : Type 0} (P : A → Type 0) (xs : List A) (d : A) (i : ℕ) → Each P xs → i < length xs → P (getD xs i d)
+each-at P [] d i h l = absurd (not-suc-le-zero l)
+each-at P (x ∷ xs) d zero h l = h .0
+each-at P (x ∷ xs) d (suc i) h l = each-at P xs d i (h .1) (le-of-suc-le-suc l)
 
 pub each-map : {A : Type 0} (P Q : A → Type 0) (xs : List A) → ((x : A) → P x → Q x) → Each P xs → Each Q xs
 each-map P Q [] f h = tt
 each-map P Q (x ∷ xs) f h = (f x (h .0), each-map P Q xs f (h .1))
+
+pub each-of-map : {A B : Type 0} (P : B → Type 0) (f : A → B) (xs : List A) → Each (λ x. P (f x)) xs → Each P (map f xs)
+each-of-map P f [] h = tt
+each-of-map P f (x ∷ xs) h = (h .0, each-of-map P f xs (h .1))
+
+pub each-both : {A : Type 0} (P Q : A → Type 0) (xs : List A) → Each P xs → Each Q xs → Each (λ x. P x × Q x) xs
+each-both P Q [] h k = tt
+each-both P Q (x ∷ xs) h k = ((h .0, k .0), each-both P Q xs (h .1) (k .1))
+
+module _ {A : Type 0} (P : A → Type 0) (p : A → Bool) where
+  -- of those that pass
+  pub each-passed : (xs : List A) → Each (λ x. p x ≡ true → P x) xs → Each P (filter p xs)
+  unfolding filter
+  each-passed [] h = tt
+  each-passed (x ∷ xs) h = go (p x) refl (each-passed xs (h .1))
+    where
+      go : (b : Bool) → p x ≡ b → Each P (filter p xs) → Each P (cond b (x ∷ filter p xs) (filter p xs))
+      go true e rest = (h .0 e, rest)
+      go false e rest = rest
+
+  pub each-filter : (xs : List A) → Each P xs → Each P (filter p xs)
+  each-filter xs h = each-passed xs (each-map P (λ x. p x ≡ true → P x) xs (λ x a e. a) h)
+
+  pub each-test : (xs : List A) → ((x : A) → p x ≡ true → P x) → Each P (filter p xs)
+  each-test xs h = each-passed xs (each-every xs)
+    where
+      each-every : (ys : List A) → Each (λ x. p x ≡ true → P x) ys
+      each-every [] = tt
+      each-every (y ∷ ys) = (h y, each-every ys)
 
 pub each-concat : (P : ℕ → Type 0) (F : ℕ → List ℕ) (cs : List ℕ) → Each (λ c. Each P (F c)) cs → Each P (concat (map F cs))
 unfolding concat
@@ -57,15 +84,6 @@ module _ {A : Type 0} (P : A → Type 0) where
   pub each-right : (xs ys : List A) → Each P (xs ++ ys) → Each P ys
   each-right [] ys a = a
   each-right (x ∷ xs) ys a = each-right xs ys (a .1)
-
-  pub each-test : (p : A → Bool) (xs : List A) → ((x : A) → p x ≡ true → P x) → Each P (filter p xs)
-  unfolding filter
-  each-test p [] h = tt
-  each-test p (x ∷ xs) h = go (p x) refl (each-test p xs h)
-    where
-      go : (b : Bool) → p x ≡ b → Each P (filter p xs) → Each P (cond b (x ∷ filter p xs) (filter p xs))
-      go true e rest = (h x e, rest)
-      go false e rest = rest
 
   pub each-up : (F : ℕ → List A) (n a : ℕ) → ((t : ℕ) → a ≤ t → t < a + n → Each P (F t)) → Each P (concat (map F (upFrom a n)))
   unfolding upFrom concat

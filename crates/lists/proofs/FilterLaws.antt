@@ -4,12 +4,12 @@ use Rattle.lists.proofs.BoolLaws.{and-left, and-right, never}
 use Rattle.lists.proofs.RangeLaws.{concat-none, concat-nothing}
 use mathlib.Core.Bool.{Bool, _&&_, _||_, cond, false, true}
 use mathlib.Core.List.{List, [], _++_, _∷_, append-nil, map, map-append}
-use Prim.Native.Nat.{_+_, _<_, _≤_, suc, zero, ℕ}
+use Prim.Native.Nat.{_+_, _-_, _<_, _≤_, suc, zero, ℕ}
 use mathlib.Core.Path.{_∙_, _≡_, ap, refl, sym}
 use native.Mathlib.Nat.{add-zero, le-of-suc-le-suc, le-refl, not-suc-le-zero}
 use native.Mathlib.Omega.{arith}
-use borrow.Author.Tests.{eq-eqb, leb-true, ne-eqb}
-use lib.Dec.{eqb, leb}
+use borrow.Author.Tests.{eq-eqb, leb-true, ltb-false, ltb-true, ne-eqb}
+use lib.Dec.{eqb, leb, ltb}
 use lib.ListN.{getD, length, length-append, take}
 use native.Mathlib.Decide.{ℕ-discrete}
 
@@ -23,6 +23,49 @@ module _ {A : Type 0} (p : A → Bool) where
           ++ filter p ys
       go true = refl
       go false = refl
+
+  pub filter-every : (xs : List A) → ((x : A) → p x ≡ true) → filter p xs ≡ xs
+  unfolding filter
+  filter-every [] h = refl
+  filter-every (x ∷ xs) h = rw (h x, filter-every xs h)
+
+  -- where one is left, one passes
+  pub some-passes : (xs : List A) → 1 ≤ length (filter p xs) → any p xs ≡ true
+  unfolding filter any
+  some-passes [] h = absurd (not-suc-le-zero h)
+  some-passes (x ∷ xs) h = go (p x) h (some-passes xs)
+    where
+      go : (b : Bool) → 1 ≤ length (cond b (x ∷ filter p xs) (filter p xs)) → (1 ≤ length (filter p xs) → any p xs ≡ true)
+          → (b || any p xs) ≡ true
+      go true h ih = refl
+      go false h ih = ih h
+
+  -- the first of n elements has number a + 1, and those with a number above v pass
+  pub passing-above : (d : A) (v n a : ℕ) (xs : List A) → n ≤ length xs → ((i : ℕ) → i < n → p (getD xs i d) ≡ ltb v (a + i + 1))
+      → length (filter p (take n xs)) ≡ (a + n - v) - (a - v)
+  unfolding filter
+  passing-above d v zero a xs l e = omega arith
+  passing-above d v (suc n) a [] l e = absurd (not-suc-le-zero l)
+  passing-above d v (suc n) a (x ∷ xs) l e =
+      go (p x) refl (passing-above d v n (suc a) xs (le-of-suc-le-suc l) (λ i u. e (suc i) (omega arith) ∙ ap (ltb v) (omega arith)))
+    where
+      first : p x ≡ ltb v (a + 0 + 1)
+      first = e 0 (omega arith)
+
+      go : (b : Bool) → p x ≡ b → length (filter p (take n xs)) ≡ (suc a + n - v) - (suc a - v)
+          → length (cond b (x ∷ filter p (take n xs)) (filter p (take n xs))) ≡ (a + suc n - v) - (a - v)
+      go true q ih = omega (arith, ltb-true v (a + 0 + 1) (sym first ∙ q))
+      go false q ih = omega (arith, ltb-false v (a + 0 + 1) (sym first ∙ q))
+
+pub filter-map : {A B : Type 0} (p : B → Bool) (h : A → B) (xs : List A) → filter p (map h xs) ≡ map h (filter (λ x. p (h x)) xs)
+unfolding filter
+filter-map p h [] = refl
+filter-map p h (x ∷ xs) = rw (filter-map p h xs) (go (p (h x)))
+  where
+    go : (b : Bool) → cond b (h x ∷ map h (filter (λ x. p (h x)) xs)) (map h (filter (λ x. p (h x)) xs)) ≡ map h
+        (cond b (x ∷ filter (λ x. p (h x)) xs) (filter (λ x. p (h x)) xs))
+    go true = refl
+    go false = refl
 
 module _ {A B : Type 0} (p : B → Bool) (h : A → B) (d : A) where
   pub filter-none : (n : ℕ) (xs : List A) → ((i : ℕ) → i < n → i < length xs → p (h (getD xs i d)) ≡ false)

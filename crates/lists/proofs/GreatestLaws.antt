@@ -86,3 +86,13 @@ all-greatest p (x ∷ xs) h = go (p x) refl (all-greatest p xs (omega arith))
     go : (b : Bool) → p x ≡ b → all p xs ≡ true → (b && all p xs) ≡ true
     go true e ih = ih
     go false e ih = let z : _≡_ {A = ℕ} (cond (p x) 0 1) 1 = rw e in absurd (omega arith)
+
+pub some-greatest : {A : Type 0} (p : A → Bool) (xs : List A) → 1 ≤ greatest (map (λ x. cond (p x) 1 0) xs) → 1 ≤ length (filter p xs)
+unfolding greatest filter
+some-greatest p [] h = absurd (not-suc-le-zero h)
+some-greatest p (x ∷ xs) h = go (p x) refl (some-greatest p xs)
+  where
+    go : (b : Bool) → p x ≡ b → (1 ≤ greatest (map (λ x. cond (p x) 1 0) xs) → 1 ≤ length (filter p xs))
+        → 1 ≤ length (cond b (x ∷ filter p xs) (filter p xs))
+    go true e ih = omega arith
+    go false e ih = ih (let z : _≡_ {A = ℕ} (cond (p x) 1 0) 0 = rw e in omega arith)

@@ -3,12 +3,12 @@ use Rattle.lists.proofs.BoolLaws.{and-left, and-right, both-ways, never
 use Rattle.lists.specs.Lists.{concat, same, sum}
 use mathlib.Core.Bool.{Bool, _&&_, true}
 use mathlib.Core.List.{List, [], _++_, _∷_, append-assoc, map, map-append}
-use Prim.Native.Nat.{_+_, _<_, _≤_, suc, zero, ℕ}
+use Prim.Native.Nat.{_+_, _-_, _<_, _≤_, suc, zero, ℕ}
 use mathlib.Core.Path.{_∙_, _≡_, ap, ap₂, refl, sym}
 use native.Mathlib.Numerals.{add-one}
 use native.Mathlib.Omega.{arith}
-use lib.ListN.{length-set, drop, drop-of-length-le, getD, length, replicate, replicate-append-replicate, set, take}
-use lib.Seq.{drop-cons, drop-drop, take-all, take-nil, take-suc, take-suc-set}
+use lib.ListN.{length-append, length-set, drop, drop-of-length-le, getD, length, replicate, replicate-append-replicate, set, take, take-append-drop}
+use lib.Seq.{drop-cons, drop-drop, drop-set-lt, take-all, take-nil, take-suc, take-suc-set}
 use borrow.Author.Tests.{eq-eqb, eqb-true}
 use lib.Dec.{eqb}
 use native.Mathlib.Nat.{le-of-suc-le-suc, not-suc-le-zero, suc-add, zero-add}
@@ -70,12 +70,24 @@ unfolding concat
 concat-append [] ys = refl
 concat-append (x ∷ xs) ys = rw (concat-append xs ys, append-assoc)
 
-pub map-concat : {A : Type 0} (f : ℕ → A) (F : ℕ → List ℕ) (cs : List ℕ) → map f (concat (map F cs)) ≡ concat (map (λ c. map f (F c)) cs)
+pub length-concat : {A : Type 0} (F : ℕ → List A) (ns : List ℕ) → length (concat (map F ns)) ≡ sum (map (λ n. length (F n)) ns)
+unfolding concat sum
+length-concat F [] = refl
+length-concat F (n ∷ ns) = rw (length-append, length-concat F ns)
+
+pub map-concat : {A B C : Type 0} (f : B → C) (F : A → List B) (cs : List A)
+    → map f (concat (map F cs)) ≡ concat (map (λ c. map f (F c)) cs)
 unfolding concat
 map-concat f F [] = refl
 map-concat f F (c ∷ cs) = rw (map-append, map-concat f F cs)
 
-pub map-map : {A : Type 0} (f : ℕ → A) (g : ℕ → ℕ) (xs : List ℕ) → map f (map g xs) ≡ map (λ x. f (g x)) xs
+-- the image at a place
+pub map-at : {A B : Type 0} (f : A → B) (xs : List A) (i : ℕ) (e : B) (d : A) → i < length xs → getD (map f xs) i e ≡ f (getD xs i d)
+map-at f [] i e d l = absurd (not-suc-le-zero l)
+map-at f (x ∷ xs) zero e d l = refl
+map-at f (x ∷ xs) (suc i) e d l = map-at f xs i e d (le-of-suc-le-suc l)
+
+pub map-map : {A B C : Type 0} (f : B → C) (g : A → B) (xs : List A) → map f (map g xs) ≡ map (λ x. f (g x)) xs
 map-map f g [] = refl
 map-map f g (x ∷ xs) = ap (λ ys. f (g x) ∷ ys) (map-map f g xs)
 
@@ -89,6 +101,33 @@ no-length (x ∷ xs) e = absurd (omega arith)
 pub copy-step : (v s : List ℕ) (i x : ℕ) → take i v ≡ take i s → i < length v → i < length s → x ≡ getD s i 0
     → take (i + 1) (set v i x) ≡ take (i + 1) s
 copy-step v s i x e hv hs ex = rw (add-one, take-suc-set, take-suc s i 0, e, ex)
+
+---- a loop that stores entries one behind the other, from place n on
+
+unfoldable pub stores : List ℕ → ℕ → List ℕ → List ℕ
+stores t n [] = t
+stores t n (x ∷ xs) = stores (set t n x) (n + 1) xs
+
+pub stores-are : (xs t : List ℕ) (n : ℕ) → n + length xs ≤ length t → stores t n xs ≡ take n t ++ (xs ++ drop (n + length xs) t)
+unfolding stores
+stores-are [] t n h = let z : n + 0 ≡ n = omega arith in rw z (sym (take-append-drop n t))
+stores-are (x ∷ xs) t n h =
+    let more : n + 1 + length xs ≤ length (set t n x) = omega (arith, length-set t n x) in
+    let end : n + suc (length xs) ≡ n + 1 + length xs = omega arith in
+    stores-are xs (set t n x) (n + 1) more
+    ∙ rw (add-one n, take-suc-set t n x (omega arith), ← add-one n, drop-set-lt (n + 1 + length xs) t n x (omega arith), end, append-assoc)
+
+pub stores-append : (xs ys t : List ℕ) (n : ℕ) → stores t n (xs ++ ys) ≡ stores (stores t n xs) (n + length xs) ys
+unfolding stores
+stores-append [] ys t n = let e : n + 0 ≡ n = omega arith in rw e
+stores-append (x ∷ xs) ys t n =
+    let e : n + suc (length xs) ≡ n + 1 + length xs = omega arith in
+    rw e (stores-append xs ys (set t n x) (n + 1))
+
+pub stores-length : (xs t : List ℕ) (n : ℕ) → length (stores t n xs) ≡ length t
+unfolding stores
+stores-length [] t n = refl
+stores-length (x ∷ xs) t n = stores-length xs (set t n x) (n + 1) ∙ length-set t n x
 
 ---- a loop that fills a table of n entries with x: the first i have it
 
@@ -122,12 +161,23 @@ drop-take zero n l = rw zero-add
 drop-take (suc m) n [] = rw (suc-add, take-nil)
 drop-take (suc m) n (x ∷ l) = rw suc-add (drop-take m n l)
 
-pub drop-more : (xs ys : List ℕ) (i : ℕ) → drop i xs ≡ drop i ys → drop (i + 1) xs ≡ drop (i + 1) ys
-drop-more xs ys i e = sym (drop-drop 1 i xs) ∙ ap (drop 1) e ∙ drop-drop 1 i ys
+pub drop-past : (xs ys : List ℕ) (i j : ℕ) → i ≤ j → drop i xs ≡ drop i ys → drop j xs ≡ drop j ys
+drop-past xs ys i j h e =
+    let k : j ≡ i + (j - i) = omega arith in
+    rw k (sym (drop-drop (j - i) i xs) ∙ ap (drop (j - i)) e ∙ drop-drop (j - i) i ys)
 
-pub drop-replicate : (n a : ℕ) → drop n (replicate (suc n) a) ≡ a ∷ []
-drop-replicate zero a = refl
-drop-replicate (suc n) a = drop-replicate n a
+pub drop-more : (xs ys : List ℕ) (i : ℕ) → drop i xs ≡ drop i ys → drop (i + 1) xs ≡ drop (i + 1) ys
+drop-more xs ys i e = drop-past xs ys i (i + 1) (omega arith) e
+
+pub take-replicate : (a m n : ℕ) → m ≤ n → take m (replicate n a) ≡ replicate m a
+take-replicate a zero n l = refl
+take-replicate a (suc m) zero l = absurd (not-suc-le-zero l)
+take-replicate a (suc m) (suc n) l = ap (_∷_ a) (take-replicate a m n (le-of-suc-le-suc l))
+
+pub drop-replicate : (a m n : ℕ) → drop m (replicate n a) ≡ replicate (n - m) a
+drop-replicate a zero n = let e : n - 0 ≡ n = omega arith in rw e
+drop-replicate a (suc m) zero = let e : 0 - suc m ≡ 0 = omega arith in rw e
+drop-replicate a (suc m) (suc n) = let e : suc n - suc m ≡ n - m = omega arith in rw e (drop-replicate a m n)
 
 pub take-same : {A : Type 0} (d : A) (n : ℕ) (xs ys : List A) → n ≤ length xs → n ≤ length ys
     → ((i : ℕ) → i < n → getD xs i d ≡ getD ys i d)

@@ -1,7 +1,7 @@
 -- Laws of numbers.
 use mathlib.Core.Path.{subst, _∙_, _≡_, sym}
 use mathlib.Core.Logic.{inr, inl, _⊎_}
-use Prim.Native.Nat.{_*_, _+_, _<_, _≤_, suc, zero, ℕ}
+use Prim.Native.Nat.{_%_, _*_, _+_, _/_, _<_, _≤_, suc, zero, ℕ}
 use native.Mathlib.Nat.{add-comm, mul-le-mul, mul-suc, not-suc-le-zero, le-of-suc-le-suc}
 use native.Mathlib.Omega.{arith}
 use mathlib.Core.Bool.{cond}
@@ -15,6 +15,14 @@ mul-step w n = mul-suc w n ∙ add-comm (w * n) w
 -- a body of w bytes for each of 255 ops
 pub product-small : (w n : ℕ) → w ≤ 255 → n ≤ 255 → w * n ≤ 65025
 product-small w n a b = mul-le-mul a b
+
+---- a bit, and the number above it
+
+pub lowest-bit : (b h : ℕ) → b < 2 → (b + 2 * h) % 2 ≡ b
+lowest-bit b h l = omega arith
+
+pub above-bit : (b h : ℕ) → b < 2 → (b + 2 * h) / 2 ≡ h
+above-bit b h l = omega arith
 
 ---- pigeonhole
 

@@ -125,6 +125,17 @@ module _ {A : Type 0} (f : A → ℕ → A) (x : A) (n k : ℕ) where
   unfolding downFrom
   down-end h = let e : n - k ≡ 0 = omega arith in rw e
 
+-- a fold over the places of a list is one over its elements
+pub fold-places : {A B : Type 0} (f : A → B → A) (g : ℕ → B) (d : B) (xs : List B) (a : ℕ) (x : A)
+    → ((i : ℕ) → i < length xs → g (a + i) ≡ getD xs i d) → foldl (λ y i. f y (g i)) x (upFrom a (length xs)) ≡ foldl f x xs
+unfolding upFrom
+fold-places f g d [] a x h = refl
+fold-places f g d (y ∷ ys) a x h =
+    let z : a + 0 ≡ a = omega arith in
+    let first : g a ≡ y = rw z at (h 0 (omega arith)) in
+    ap (λ z. foldl (λ u i. f u (g i)) (f x z) (upFrom (suc a) (length ys))) first
+    ∙ fold-places f g d ys (suc a) (f x y) (λ i l. let e : suc a + i ≡ a + suc i = omega arith in rw e (h (suc i) (omega arith)))
+
 -- n blocks of w numbers, block a first, are one row of numbers
 pub blocks : (w n a : ℕ) → 1 ≤ a → concat (map (λ s. upFrom (w * (s - 1) + 1) w) (upFrom a n)) ≡ upFrom (w * (a - 1) + 1) (w * n)
 unfolding concat

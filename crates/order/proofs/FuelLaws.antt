@@ -14,8 +14,8 @@ use Rattle.rules.specs.Listing.{children, preorder}
 use Rattle.rules.specs.Replay.{parentsOf, addedIn}
 use Rattle.rules.specs.Views.{nodes}
 use Rattle.rules.proofs.ClimbLaws.{up, Depth, climb-enough, depth-child, depth-unique}
-use Rattle.rules.proofs.StructureLaws.{GoodLog, counts-covered, counts-closed}
-use Rattle.order.proofs.LevelLaws.{Cut}
+use Rattle.rules.proofs.StructureLaws.{GoodLog}
+use Rattle.order.proofs.LevelLaws.{whole-cut}
 use Rattle.rules.proofs.KnownLaws.{Known, Named, known-reads}
 use Rattle.order.proofs.RunLaws.{replay-reaches}
 use Rattle.order.proofs.NodeLaws.{added-is}
@@ -25,14 +25,11 @@ module _ (log : Log) (good : GoodLog log) where
   abbrev parents : List ℕ
   parents = parentsOf log
 
-  whole : Cut log (countsOf log)
-  whole = record { is-covered = counts-covered log; is-closed = counts-closed log good }
-
   -- every node, and the root, has a depth of at most 2,040
   pub has-depth : (n : ℕ) → Named log (countsOf log) n → (j : ℕ) × (j ≤ 2040) × Depth parents j n
   unfolding parentsOf
   has-depth n w =
-      let (j, b, r, first) = replay-reaches log good (countsOf log) whole n w in
+      let (j, b, r, first) = replay-reaches log good (countsOf log) (whole-cut log good) n w in
       (j, b, record { root = r .root; first = first })
 
   -- a path is the same with every bound that is large enough
@@ -44,7 +41,7 @@ module _ (log : Log) (good : GoodLog log) where
   unfolding children nodes
   child-named n m e =
       let (a, b) = isIn-filter (λ m. eqb (parentIn parents m) n) (addedIn log (countsOf log)) m e in
-      (sym (added-is log good (countsOf log) whole m) ∙ a, eqb-true _ _ b)
+      (sym (added-is log good (countsOf log) (whole-cut log good) m) ∙ a, eqb-true _ _ b)
 
   preorder-enough : (k i j n : ℕ) → Depth parents j n → 2040 < k + j → 2040 < i + j → j ≤ 2040
       → preorder k log parents n ≡ preorder i log parents n

@@ -10,7 +10,7 @@ use mathlib.Core.Path.{ap, _∙_, _≡_, ap₂, sym}
 use native.Mathlib.Decide.{decLe}
 use native.Mathlib.Omega.{arith}
 use Rattle.order.proofs.RunLaws.{op-ready, op-none}
-use Rattle.order.proofs.LevelLaws.{AtLevel, time-of, counted-value, Cut, equation, off-time, of-replica, by-time-more, matches, stamped-times, one-level, counted-bound, status}
+use Rattle.order.proofs.LevelLaws.{AtLevel, time-of, counted-value, Cut, whole-cut, equation, off-time, of-replica, by-time-more, matches, stamped-times, one-level, counted-bound, status}
 use Rattle.order.specs.Levels.{level, readyOps, readyOp}
 use Rattle.rules.proofs.AppendLaws.{closed-more}
 use Rattle.lists.proofs.RangeLaws.{map-downFrom, map-upFrom, upFrom-add}
@@ -48,8 +48,8 @@ module _ (log more : Log) (x : Late log more) (good : GoodLog log) (goodMore : G
   held-cut : Cut more held
   held-cut = record { is-covered = alike .there; is-closed = closed-more log more held (alike .same) ∙ counts-closed log good }
 
-  whole-cut : Cut more all-held
-  whole-cut = record { is-covered = counts-covered more; is-closed = counts-closed more goodMore }
+  all-cut : Cut more all-held
+  all-cut = whole-cut more goodMore
 
   times-within : map (timestamp more) (opsWithin more held) ≡ map (timestamp log) (opsWithin log held)
   times-within =
@@ -68,7 +68,7 @@ module _ (log more : Log) (x : Late log more) (good : GoodLog log) (goodMore : G
       ∙ rw (x .vector s q l u lq uq, times-within) in
       omega arith
 
-  last-level : AtLevel more goodMore all-held whole-cut (suc top) held
+  last-level : AtLevel more goodMore all-held all-cut (suc top) held
   last-level = record {
     inside = x .extends .counts;
     low = λ s q l u lq uq. omega (arith, early-time s q l u lq uq);
@@ -83,10 +83,10 @@ module _ (log more : Log) (x : Late log more) (good : GoodLog log) (goodMore : G
       let e : countIn all-held s ≡ countIn held s + d = omega arith in
       let none : filter (matches t k s) (map (stamp more) (take d (drop (countIn held s) (opsOf more s)))) ≡ [] =
       filter-none (matches t k s) (stamp more) [] d (drop (countIn held s) (opsOf more s)) (λ i a c.
-      rw (getD-drop (countIn held s) (opsOf more s) i []) (off-time more goodMore all-held whole-cut t k s (countIn held s + i) l u
+      rw (getD-drop (countIn held s) (opsOf more s) i []) (off-time more goodMore all-held all-cut t k s (countIn held s + i) l u
       (omega arith) (λ z.
       omega (arith, late-time s (countIn held s + i + 1) l u (omega arith) (omega arith))))) in
-      of-replica more goodMore all-held whole-cut t k s l u ∙ rw (
+      of-replica more goodMore all-held all-cut t k s l u ∙ rw (
         e,
         take-add (countIn held s) d (opsOf more s),
         map-append,
@@ -130,7 +130,7 @@ module _ (log more : Log) (x : Late log more) (good : GoodLog log) (goodMore : G
 
       last : ofTime (stamped more all-held) (1 + top) ≡ level more (suc top) (readyOps more all-held held)
       last =
-          ap (ofTime (stamped more all-held)) (omega arith) ∙ one-level more goodMore all-held whole-cut (suc top) (omega arith) held
+          ap (ofTime (stamped more all-held)) (omega arith) ∙ one-level more goodMore all-held all-cut (suc top) (omega arith) held
           last-level
 
   ---- the entries of that level
@@ -142,12 +142,12 @@ module _ (log more : Log) (x : Late log more) (good : GoodLog log) (goodMore : G
     pub late-ready : countIn held s < countIn all-held s → readyOp more (suc top) (readyOps more all-held held) k s ≡ cond
         (eqb (kindOf late-op) k) (record { time = suc top; op = late-op } ∷ []) []
     late-ready h = ⊎-elim
-        (λ y. op-ready more goodMore all-held whole-cut (suc top) (omega arith) held last-level k s l u (y .0))
+        (λ y. op-ready more goodMore all-held all-cut (suc top) (omega arith) held last-level k s l u (y .0))
         (λ y. absurd (omega (arith, y .1 h, late-time s (countIn held s + 1) l u (omega arith) (omega arith))))
-        (status more goodMore all-held whole-cut (suc top) (omega arith) held last-level s l u)
+        (status more goodMore all-held all-cut (suc top) (omega arith) held last-level s l u)
 
     pub late-empty : countIn all-held s ≡ countIn held s → readyOp more (suc top) (readyOps more all-held held) k s ≡ []
     late-empty e = ⊎-elim
         (λ y. absurd (omega (arith, y .1)))
-        (λ y. op-none more goodMore all-held whole-cut (suc top) (omega arith) held last-level k s l u (y .0))
-        (status more goodMore all-held whole-cut (suc top) (omega arith) held last-level s l u)
+        (λ y. op-none more goodMore all-held all-cut (suc top) (omega arith) held last-level k s l u (y .0))
+        (status more goodMore all-held all-cut (suc top) (omega arith) held last-level s l u)

@@ -9,8 +9,8 @@ use native.Mathlib.Omega.{arith}
 use native.Mathlib.Decide.{ℕ-discrete, decLe}
 use borrow.Author.Tests.{leb-false, ltb-true, ltb-false, eq-eqb, ne-eqb}
 use lib.ListN.{take, getD}
-use lib.Dec.{leb, ltb, eqb, lit≤}
-use Rattle.lists.specs.Lists.{upFrom, sum, greatest, concat, filter}
+use lib.Dec.{leb, ltb, eqb}
+use Rattle.lists.specs.Lists.{upFrom, greatest, concat, filter}
 use Rattle.rules.specs.Op.{Op, Vector, replicas, countIn, kindOf, replicaOf, vectorOf}
 use Rattle.rules.specs.File.{Log, opsOf, opAt, countsOf, within}
 use Rattle.rules.specs.Log.{covered, closed}
@@ -18,13 +18,13 @@ use Rattle.rules.specs.Tree.{slots}
 use Rattle.rules.specs.Replay.{Stamped, opsWithin, timestampIn, timestamp, stamp, stamped, ofReplica, ofKind, ofTime, byTime, ordered}
 use Rattle.rules.proofs.ReplicaLaws.{replica-fails}
 use Rattle.lists.proofs.BoolLaws.{and-false, and-true}
-use Rattle.rules.proofs.CausalLaws.{Le, within-le, count-none, total, own, counted-le}
+use Rattle.rules.proofs.CausalLaws.{Le, within-le, count-none, total-small, own, counted-le}
 use Rattle.rules.proofs.TimeLaws.{timestamp-equation}
 use Rattle.lists.proofs.GreatestLaws.{greatest-take, greatest-bound, greatest-part, greatest-parts}
 use Rattle.lists.proofs.FilterLaws.{filter-none, filter-one, filter-part}
 use Rattle.lists.proofs.RangeLaws.{map-upFrom, map-downFrom, upFrom-add, concat-nothing, concat-none}
 use Rattle.lists.proofs.ListLaws.{concat-append}
-use Rattle.rules.proofs.StructureLaws.{count-held, held-in, GoodLog, good-ops}
+use Rattle.rules.proofs.StructureLaws.{count-held, held-in, GoodLog, good-ops, counts-covered, counts-closed}
 use Rattle.rules.proofs.FileLaws.{count-map}
 use Rattle.order.specs.Levels.{ready, nextAt, readyOps, advancedAt, advanced, readyOp, levelKind, level, levels, nothing}
 use Rattle.rules.proofs.ClimbLaws.{up}
@@ -54,19 +54,6 @@ module _ (log : Log) (v : Vector) (g : Op → ℕ) where
       greatest-bound g [] (countIn v s) b (opsOf log s) (λ i a c.
       let k : i + 1 - 1 ≡ i = omega arith in
       rw k at (h s (i + 1) l (omega arith) (omega arith) (omega arith))))
-
-total-small : (v : Vector) → ((s : ℕ) → 1 ≤ s → s ≤ 8 → countIn v s ≤ 255) → total v ≤ 2040
-unfolding total sum replicas upFrom
-total-small v b =
-    let b₁ = b 1 (lit≤ tt) (lit≤ tt) in
-    let b₂ = b 2 (lit≤ tt) (lit≤ tt) in
-    let b₃ = b 3 (lit≤ tt) (lit≤ tt) in
-    let b₄ = b 4 (lit≤ tt) (lit≤ tt) in
-    let b₅ = b 5 (lit≤ tt) (lit≤ tt) in
-    let b₆ = b 6 (lit≤ tt) (lit≤ tt) in
-    let b₇ = b 7 (lit≤ tt) (lit≤ tt) in
-    let b₈ = b 8 (lit≤ tt) (lit≤ tt) in
-    omega arith
 
 pub timestamp-bound : (k : ℕ) (log : Log) (r : Op) → timestampIn k log r ≤ k
 unfolding timestampIn
@@ -113,6 +100,9 @@ pub record Cut (log : Log) (cut : Vector) : Type 0 where
   pub is-covered : covered log cut ≡ true
   pub is-closed : closed log cut ≡ true
 
+pub whole-cut : (log : Log) → GoodLog log → Cut log (countsOf log)
+whole-cut log good = record { is-covered = counts-covered log; is-closed = counts-closed log good }
+
 module _ (log : Log) (good : GoodLog log) where
   abbrev pub time-of : ℕ → ℕ → ℕ
   time-of s q = timestamp log (opAt log s q)
@@ -128,7 +118,7 @@ module _ (log : Log) (good : GoodLog log) where
         (total-small (vec s q) (λ r a b. omega (arith, held-in log (vec s q) (x .is-covered) r a b, good .counts r a b)))
 
     -- what the op's vector counts is earlier
-    earlier : (r p : ℕ) → 1 ≤ r → r ≤ 8 → 1 ≤ p → p ≤ countIn (vec s q) r → time-of r p < time-of s q
+    pub earlier : (r p : ℕ) → 1 ≤ r → r ≤ 8 → 1 ≤ p → p ≤ countIn (vec s q) r → time-of r p < time-of s q
     earlier r p a b lp up =
         let x = good-ops good s q l u lq uq in
         omega (

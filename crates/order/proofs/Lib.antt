@@ -3,6 +3,8 @@ pub mod LastLaws
 pub mod GrowLaws
 pub mod RunLaws
 pub mod OnceLaws
+pub mod OrderLaws
+pub mod BeyondLaws
 pub mod NodeLaws
 pub mod DepthLaws
 pub mod TreeTheorem

@@ -1,6 +1,6 @@
 -- Every op of a cut is judged exactly once: the order is a rearrangement of the ops of the cut.
-use lib.ListN.{length}
-use mathlib.Core.Path.{_≡_, ap, _∙_}
+use lib.ListN.{length, length-map}
+use mathlib.Core.Path.{_≡_, refl, sym, ap, _∙_}
 use mathlib.Core.Bool.{Bool, true, cond, _&&_}
 use mathlib.Core.List.{List, map}
 use Prim.Native.Nat.{ℕ, _≤_}
@@ -17,7 +17,7 @@ use Rattle.order.proofs.LevelLaws.{Cut, counted-bound, positive, stampe
 use Rattle.rules.proofs.KnownLaws.{kinds}
 use Rattle.lists.proofs.AllLaws.{all-filter, all-of-map}
 use Rattle.lists.proofs.GreatestLaws.{all-greatest}
-use Rattle.lists.proofs.FilterLaws.{filter-both, ofKey, tally, tally-concat, tally-down, tally-up}
+use Rattle.lists.proofs.FilterLaws.{filter-both, filter-every, ofKey, tally, tally-concat, tally-down, tally-up}
 
 ---- the order
 
@@ -77,3 +77,9 @@ module _ (log : Log) (good : GoodLog log) (cut : Vector) (is : Cut log cut) wher
       (held s q l u lq uq .formed) in and-both (le-leb 1 _ (k .0)) (le-leb _ 4 (k .1))))
       (all-of-map _ (stamp log) (opsWithin log cut) ∙ within-all _ (λ s q l u lq uq. let o = held s q l u lq uq .origin in rw o
       (and-both (le-leb 1 s l) (le-leb s 8 u))))
+
+  pub ordered-length : length (ordered log cut) ≡ length (opsWithin log cut)
+  unfolding stamped
+  ordered-length =
+      sym (ap length (filter-every (λ _. true) (ordered log cut) (λ x. refl))) ∙ ordered-once (λ _. true)
+      ∙ ap length (filter-every (λ _. true) (stamped log cut) (λ x. refl)) ∙ length-map (opsWithin log cut) (stamp log)

@@ -19,12 +19,12 @@ use Rattle.rules.specs.Views.{nodes, View, shown}
 use Rattle.rules.specs.Marks.{marked}
 use Rattle.rules.specs.Listing.{children, preorder, line, listingIn, listingOf}
 use Rattle.lists.proofs.BoolLaws.{never, both-ways}
-use Rattle.rules.proofs.StructureLaws.{GoodLog, counts-covered, counts-closed}
+use Rattle.rules.proofs.StructureLaws.{GoodLog}
 use Rattle.rules.proofs.SlotLaws.{Valid}
 use Rattle.rules.proofs.ClimbLaws.{up, up-last, Depth, depth-unique, depth-child}
 use Rattle.rules.proofs.SoundLaws.{sound-good}
 use Rattle.rules.proofs.DecimalLaws.{line-short}
-use Rattle.order.proofs.LevelLaws.{Cut}
+use Rattle.order.proofs.LevelLaws.{whole-cut}
 use Rattle.rules.proofs.KnownLaws.{Known, Named, known-reads, named-valid, parent-reads}
 use Rattle.order.proofs.RunLaws.{replay-reaches}
 use Rattle.order.proofs.NodeLaws.{added-is}
@@ -39,13 +39,10 @@ module _ (log : Log) (good : GoodLog log) where
   abbrev parents : List ℕ
   parents = parentsOf log
 
-  whole : Cut log (countsOf log)
-  whole = record { is-covered = counts-covered log; is-closed = counts-closed log good }
-
   -- "in rising node number"
   nodes-rise : Rising (nodes log)
   unfolding nodes
-  nodes-rise = added-rises log good (countsOf log) whole
+  nodes-rise = added-rises log good (countsOf log) (whole-cut log good)
 
   children-rise : (n : ℕ) → Rising (children log parents n)
   unfolding children
@@ -116,7 +113,8 @@ module _ (log : Log) (good : GoodLog log) where
 
   child-of : (c n : ℕ) → Known log (countsOf log) c → parentIn parents c ≡ n → isIn c (children log parents n) ≡ true
   unfolding children nodes
-  child-of c n w e = filter-isIn _ (addedIn log (countsOf log)) c (added-is log good (countsOf log) whole c ∙ w) (eq-eqb _ _ e)
+  child-of c n w e =
+      filter-isIn _ (addedIn log (countsOf log)) c (added-is log good (countsOf log) (whole-cut log good) c ∙ w) (eq-eqb _ _ e)
 
   has : (m j : ℕ) → ((i : ℕ) → i < j → Known log (countsOf log) (up parents i m)) → (i k : ℕ) → i ≤ j → i < k
       → isIn m (preorder k log parents (up parents i m)) ≡ true
@@ -132,7 +130,7 @@ module _ (log : Log) (good : GoodLog log) where
   preorder-has : (m : ℕ) → Named log (countsOf log) m → isIn m (preorder slots log parents 0) ≡ true
   unfolding parentsOf
   preorder-has m w =
-      let (j, b, r, first) = replay-reaches log good (countsOf log) whole m w in
+      let (j, b, r, first) = replay-reaches log good (countsOf log) (whole-cut log good) m w in
       rw (r .root) at (has m j (λ i h. not-root (up parents i m) (r .on i (omega arith)) (first i h)) j slots (omega arith) (omega arith))
     where
       not-root : (n : ℕ) → Named log (countsOf log) n → (n ≡ 0 → ⊥) → Known log (countsOf log) n
@@ -155,7 +153,7 @@ module _ (log : Log) (good : GoodLog log) where
   pub line-size : (y : ℕ) → Named log (countsOf log) y → length (line log parents y) ≤ 12
   unfolding line parentsOf
   line-size y w =
-      let (a, b, c) = depth-added log good (countsOf log) whole y w in
+      let (a, b, c) = depth-added log good (countsOf log) (whole-cut log good) y w in
       line-short (depth parents y) y (marked log (countsOf log) y) (omega (arith, c)) (number (named-valid log (countsOf log) y w))
     where
       number : Valid y → y < 10000

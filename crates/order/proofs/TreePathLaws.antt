@@ -13,11 +13,11 @@ use Rattle.rules.proofs.ClimbLaws.{Depth, climb-enough, depth-unique, Reaches, 
 use Rattle.order.proofs.FuelLaws.{has-depth}
 use Rattle.rules.proofs.KnownLaws.{Known, Named, known-reads}
 use Rattle.order.proofs.RunLaws.{replay-reaches}
-use Rattle.order.proofs.LevelLaws.{Cut}
+use Rattle.order.proofs.LevelLaws.{whole-cut}
 use Rattle.order.proofs.NodeLaws.{added-is}
 use Rattle.order.proofs.TreeTheorem.{is-tree}
 use Rattle.lists.proofs.BoolLaws.{or-cases}
-use Rattle.rules.proofs.StructureLaws.{GoodLog, counts-closed, counts-covered}
+use Rattle.rules.proofs.StructureLaws.{GoodLog}
 use Rattle.lists.specs.Lists.{any, isIn}
 use Rattle.rules.specs.Listing.{children}
 use Rattle.rules.specs.File.{Log, countsOf}
@@ -93,18 +93,15 @@ module _ (log : Log) (good : GoodLog log) where
   abbrev P : List ℕ
   P = parentsOf log
 
-  pub whole : Cut log (countsOf log)
-  whole = record { is-covered = counts-covered log; is-closed = counts-closed log good }
-
   pub table-size : length (parentsOf log) ≡ slots
   unfolding parentsOf
-  table-size = is-tree log good (countsOf log) whole .size
+  table-size = is-tree log good (countsOf log) (whole-cut log good) .size
 
   -- the way to the root
   pub root-way : (n : ℕ) → Named log (countsOf log) n
       → (j : ℕ) × (j ≤ 2040) × Reaches (Named log (countsOf log)) (parentsOf log) j n × ((k : ℕ) → k < j → up (parentsOf log) k n ≡ 0 → ⊥)
   unfolding parentsOf
-  root-way n w = replay-reaches log good (countsOf log) whole n w
+  root-way n w = replay-reaches log good (countsOf log) (whole-cut log good) n w
 
   -- what hangs, hangs under a known node or the root
   pub named-parent : (n : ℕ) → Named log (countsOf log) n → (n ≡ 0 → ⊥) → Named log (countsOf log) (parentIn (parentsOf log) n)
@@ -123,7 +120,7 @@ module _ (log : Log) (good : GoodLog log) where
 
   pub nodes-known : (n : ℕ) → isIn n (nodes log) ≡ isKnown (knowledge log (countsOf log) n)
   unfolding nodes
-  nodes-known n = added-is log good (countsOf log) whole n
+  nodes-known n = added-is log good (countsOf log) (whole-cut log good) n
 
   -- c hangs under n
   pub record Under (n c : ℕ) : Type 0 where

@@ -24,6 +24,23 @@ use Rattle.rules.proofs.KnownLaws.{known-is}
 
 ---- a log that holds all of another
 
+pub extends-refl : (log : Log) → Extends log log
+extends-refl log = record { counts = λ s l u. le-refl _; ops = λ s q l u lq uq. refl }
+
+pub extends-then : (a b c : Log) → Extends a b → Extends b c → Extends a c
+extends-then a b c x y = record {
+  counts = λ s l u. omega (arith, x .counts s l u, y .counts s l u);
+  ops = λ s q l u lq uq. y .ops s q l u lq (omega (arith, x .counts s l u)) ∙ x .ops s q l u lq uq;
+}
+
+-- of two logs within one, the longer one
+pub extends-within : (a b u : Log) → Extends a u → Extends b u
+    → ((s : ℕ) → 1 ≤ s → s ≤ 8 → countIn (countsOf a) s ≤ countIn (countsOf b) s) → Extends a b
+extends-within a b u x y h = record {
+  counts = h;
+  ops = λ s q l t lq uq. sym (y .ops s q l t lq (omega (arith, h s l t))) ∙ x .ops s q l t lq uq;
+}
+
 -- what a vector counts is the same in both
 abbrev pub SameWithin : Log → Log → Vector → Type 0
 SameWithin log more v = (s q : ℕ) → 1 ≤ s → s ≤ 8 → 1 ≤ q → q ≤ countIn v s → opAt more s q ≡ opAt log s q

@@ -1,5 +1,5 @@
 -- Causality in a sound log: what a closed vector counts has smaller vectors. From this: some missing op is not early.
-use mathlib.Core.Path.{_≡_, refl, sym, subst}
+use mathlib.Core.Path.{_≡_, refl, sym, ap, subst, _∙_}
 use mathlib.Core.Bool.{Bool, true, false}
 use mathlib.Core.List.{map}
 use Prim.Native.Nat.{ℕ, zero, suc, _+_, _-_, _≤_, _<_}
@@ -7,13 +7,16 @@ use native.Mathlib.Nat.{le-refl, add-zero}
 use native.Mathlib.Omega.{arith}
 use borrow.Author.Tests.{le-leb, leb-true, leb-false, eq-eqb, ne-eqb}
 use lib.Dec.{leb, lit≤}
-use lib.ListN.{replicate}
+use lib.ListN.{length, length-take, replicate, take}
 use Rattle.lists.specs.Lists.{upFrom, sum}
 use Rattle.rules.specs.Op.{Vector, replicas, countIn, vectorOf, seqOf, ownCount}
-use Rattle.rules.specs.File.{Log, opAt, countsOf, within}
+use Rattle.rules.specs.File.{Log, opAt, opsOf, countsOf, within}
 use Rattle.rules.specs.Log.{covered, closedAt, closed}
-use Rattle.rules.proofs.ReplicaLaws.{all-replicas, replica-passes, replica-fails, replica-cases}
-use Rattle.rules.proofs.StructureLaws.{held-in, HeldOps}
+use Rattle.rules.specs.Replay.{opsWithin}
+use Rattle.lists.proofs.ListLaws.{length-concat}
+use Rattle.rules.proofs.FileLaws.{vector-eta}
+use Rattle.rules.proofs.ReplicaLaws.{all-replicas, replica-passes, replica-fails, replica-cases, map-replicas}
+use Rattle.rules.proofs.StructureLaws.{count-held, held-in, HeldOps}
 
 -- a vector nowhere greater than another
 abbrev pub Le : Vector → Vector → Type 0
@@ -50,7 +53,7 @@ none-closed log = all-replicas (closedAt log (replicate 8 0)) (λ s l u. closed-
 unfoldable pub total : Vector → ℕ
 total v = sum (map (countIn v) replicas)
 
-total-less : (v u : Vector) → Le v u → (s : ℕ) → 1 ≤ s → s ≤ 8 → countIn v s < countIn u s → total v < total u
+pub total-less : (v u : Vector) → Le v u → (s : ℕ) → 1 ≤ s → s ≤ 8 → countIn v s < countIn u s → total v < total u
 unfolding total sum replicas upFrom
 total-less v u b =
     let b₁ = b 1 (lit≤ tt) (lit≤ tt) in
@@ -64,6 +67,29 @@ total-less v u b =
     replica-cases (λ s. countIn v s < countIn u s → total v < total u)
     (λ h. omega arith) (λ h. omega arith) (λ h. omega arith) (λ h. omega arith) (λ h. omega arith) (λ h. omega arith) (λ h. omega arith)
     (λ h. omega arith)
+
+pub total-small : (v : Vector) → ((s : ℕ) → 1 ≤ s → s ≤ 8 → countIn v s ≤ 255) → total v ≤ 2040
+unfolding total sum replicas upFrom
+total-small v b =
+    let b₁ = b 1 (lit≤ tt) (lit≤ tt) in
+    let b₂ = b 2 (lit≤ tt) (lit≤ tt) in
+    let b₃ = b 3 (lit≤ tt) (lit≤ tt) in
+    let b₄ = b 4 (lit≤ tt) (lit≤ tt) in
+    let b₅ = b 5 (lit≤ tt) (lit≤ tt) in
+    let b₆ = b 6 (lit≤ tt) (lit≤ tt) in
+    let b₇ = b 7 (lit≤ tt) (lit≤ tt) in
+    let b₈ = b 8 (lit≤ tt) (lit≤ tt) in
+    omega arith
+
+pub total-sum : (v : Vector) → length v ≡ 8 → total v ≡ sum v
+unfolding total
+total-sum v e = ap sum (vector-eta v e)
+
+pub within-length : (log : Log) (v : Vector) → covered log v ≡ true → length (opsWithin log v) ≡ total v
+unfolding opsWithin total
+within-length log v c =
+    length-concat (λ s. take (countIn v s) (opsOf log s)) replicas ∙ ap sum (map-replicas _ (countIn v) (λ s l u.
+    rw length-take (omega (arith, held-in log v c s l u, count-held log s))))
 
 closed-le : (log : Log) (v : Vector) → closed log v ≡ true → (s : ℕ) → 1 ≤ s → s ≤ 8 → 1 ≤ countIn v s
     → Le (vectorOf (opAt log s (countIn v s))) v

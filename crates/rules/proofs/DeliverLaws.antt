@@ -1,7 +1,7 @@
 -- Laws of delivering: what acceptance says, and that an accepted op leaves a sound log.
 use mathlib.Core.Path.{_≡_, refl, _∙_}
 use mathlib.Core.Bool.{Bool, true, false, cond}
-use mathlib.Core.List.{List}
+use mathlib.Core.List.{List, _++_}
 use Prim.Native.Nat.{ℕ, _+_, _≤_}
 use native.Mathlib.Nat.{mul-add, mul-one}
 use native.Mathlib.Omega.{arith}
@@ -10,10 +10,10 @@ use lib.ListN.{length, drop, length-append, length-drop}
 use lib.Seq.{drop-at}
 use Rattle.rules.specs.Op.{Op}
 use Rattle.rules.specs.File.{Log, countsOf, append, endOf, fileEnd, logOf, fileOf, appended}
-use Rattle.rules.specs.Answer.{Answer, accepted, require}
-use Rattle.rules.specs.Deliver.{admitAnswer, isHeld, heldAnswer, deliverAnswer}
+use Rattle.rules.specs.Answer.{Answer, refused, hadIt, done, accepted, require, ifAccepted}
+use Rattle.rules.specs.Deliver.{admitAnswer, isHeld, heldAnswer, deliverAnswer, deliverBuffer}
 use Rattle.rules.specs.Sound.{sound}
-use Rattle.rules.proofs.FileLaws.{WideLog, logOf-fileOf, file-end, length-file, counts-logOf}
+use Rattle.rules.proofs.FileLaws.{InFront, WideLog, logOf-fileOf, file-end, length-file, counts-logOf}
 use Rattle.rules.proofs.AppendLaws.{wide-append, Admits, in-range, sum-append}
 use Rattle.rules.proofs.StructureLaws.{GoodLog}
 use Rattle.rules.proofs.SoundLaws.{sound-file, sound-wide, sound-good, SoundLog, sound-append, sound-log}
@@ -79,6 +79,22 @@ delivered w f r n h =
       h .end,
     )
 
+---- a delivery is never done
+
+not-done : (t : Bool) (k : ℕ) (a : Answer) → (a ≡ done → ⊥) → require t k a ≡ done → ⊥
+unfolding require
+not-done true k a h e = h e
+not-done false k a h e = let z : _≡_ {A = ℕ} 0 1 = cc in omega arith
+
+pub never-done : (w : ℕ) (f : List ℕ) (r : Op) → deliverAnswer w f r ≡ done → ⊥
+unfolding deliverAnswer heldAnswer admitAnswer
+never-done w f r =
+    not-done _ _ _ (not-done _ _ _ (not-done _ _ _ (go (isHeld (logOf w f) r))))
+  where
+    go : (b : Bool) → cond b (heldAnswer (logOf w f) r) (admitAnswer w f r) ≡ done → ⊥
+    go true = not-done _ _ _ (λ e. let z : _≡_ {A = ℕ} 0 1 = cc in omega arith)
+    go false = not-done _ _ _ (not-done _ _ _ (not-done _ _ _ (not-done _ _ _ (λ e. let z : _≡_ {A = ℕ} 0 1 = cc in omega arith))))
+
 ---- an accepted op leaves a sound log
 
 module _ (w : ℕ) (f : List ℕ) (r : Op) (n : ℕ) (h : Admitted w f r n) where
@@ -122,6 +138,36 @@ module _ (w : ℕ) (f : List ℕ) (r : Op) (n : ℕ) (h : Admitted w f r n) wher
   unfolding appended
   appended-past = drop-at (fileOf w (append old r)) rest _ (length-file w (append old r) wide-new ∙ end-new)
 
+  appended-split : appended w f r ≡ fileOf w (append old r) ++ rest
+  unfolding appended
+  appended-split = refl
+
+  pub appended-front : InFront w (appended w f r)
+  appended-front = rw (appended-log, appended-end, appended-past) appended-split
+
   pub appended-sound : sound w (appended w f r) ≡ true
   unfolding appended
   appended-sound = sound-file w (append old r) rest sound-new wide-new
+
+---- a delivery, whatever is answered
+
+module _ (w : ℕ) (f : List ℕ) (r : Op) where
+  pub deliver-sound : sound w f ≡ true → sound w (deliverBuffer w f r) ≡ true
+  unfolding deliverBuffer
+  deliver-sound s = go (deliverAnswer w f r) refl
+    where
+      go : (a : Answer) → deliverAnswer w f r ≡ a → sound w (ifAccepted a (appended w f r) f) ≡ true
+      go (refused n) e = s
+      go hadIt e = s
+      go done e = s
+      go (accepted n) e = appended-sound w f r n (admitted w f r n e)
+
+  pub deliver-length : length (deliverBuffer w f r) ≡ length f
+  unfolding deliverBuffer
+  deliver-length = go (deliverAnswer w f r) refl
+    where
+      go : (a : Answer) → deliverAnswer w f r ≡ a → length (ifAccepted a (appended w f r) f) ≡ length f
+      go (refused n) e = refl
+      go hadIt e = refl
+      go done e = refl
+      go (accepted n) e = appended-length w f r n (admitted w f r n e)

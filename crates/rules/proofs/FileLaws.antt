@@ -5,13 +5,13 @@ use Prim.Native.Nat.{ℕ, zero, suc, _+_, _*_, _-_, _≤_, _<_}
 use native.Mathlib.Nat.{mul-zero, mul-add, div-add-mod', not-suc-le-zero, le-of-suc-le-suc}
 use native.Mathlib.Numerals.{unary-clauses}
 use native.Mathlib.Omega.{arith}
-use lib.ListN.{length, take, drop, getD, set, length-append, length-take, length-drop, length-map}
+use lib.ListN.{length, take, drop, getD, set, length-append, length-take, length-drop, length-map, take-append-drop}
 use lib.Seq.{take-add, drop-drop, take-at, drop-at, drop-cons}
 use lib.Arith.{digits-div, digits-mod}
 use Rattle.rules.specs.Bytes.{byte, wordAt, word}
 use Rattle.lists.specs.Lists.{upFrom, sum, concat}
 use Rattle.rules.specs.Op.{Op, Vector, replicas, countIn}
-use Rattle.rules.specs.File.{Log, opsOf, countsOf, countAt, startAt, headerCounts, startOf, endOf, fileEnd, chunks, chunksOf, logOf, headerEntry, headerOf, fileOf}
+use Rattle.rules.specs.File.{Log, emptyLog, opsOf, countsOf, countAt, startAt, headerCounts, startOf, endOf, fileEnd, chunks, chunksOf, logOf, headerEntry, headerOf, fileOf}
 use Rattle.lists.proofs.ListLaws.{concat-append}
 use Rattle.lists.proofs.RangeLaws.{map-getD}
 use Rattle.lists.proofs.NumberLaws.{mul-step}
@@ -100,7 +100,7 @@ header-drop : (w : ℕ) (c t : List ℕ) → drop 32 (headerOf w c ++ t) ≡ t
 unfolding replicas upFrom headerOf headerEntry concat word
 header-drop w c t = refl
 
-chunks-concat : (w : ℕ) (ops : List Op) (t : List ℕ) → Wide w ops → chunks w (length ops) (concat ops ++ t) ≡ ops
+pub chunks-concat : (w : ℕ) (ops : List Op) (t : List ℕ) → Wide w ops → chunks w (length ops) (concat ops ++ t) ≡ ops
 unfolding chunks concat
 chunks-concat w [] t h = refl
 chunks-concat w (r ∷ rs) t h = rw (
@@ -196,12 +196,17 @@ wide-at w [] i h = tt
 wide-at w (x ∷ log) zero h = h .0
 wide-at w (x ∷ log) (suc i) h = wide-at w log i (h .1)
 
+pub wide-op : (w : ℕ) (ops : List Op) (i : ℕ) → Wide w ops → i < length ops → length (getD ops i []) ≡ w
+wide-op w [] i h l = absurd (not-suc-le-zero l)
+wide-op w (r ∷ ops) zero h l = h .0
+wide-op w (r ∷ ops) (suc i) h l = wide-op w ops i (h .1) (le-of-suc-le-suc l)
+
 pub wide-set : (w : ℕ) (log : Log) (i : ℕ) (ops : List Op) → WideLog w log → Wide w ops → WideLog w (set log i ops)
 wide-set w [] i ops h e = tt
 wide-set w (x ∷ log) zero ops h e = (e, h .1)
 wide-set w (x ∷ log) (suc i) ops h e = (h .0, wide-set w log i ops (h .1) e)
 
-length-ops : (w : ℕ) (ops : List Op) → Wide w ops → length (concat ops) ≡ w * length ops
+pub length-ops : (w : ℕ) (ops : List Op) → Wide w ops → length (concat ops) ≡ w * length ops
 unfolding concat
 length-ops w [] h = sym (mul-zero w)
 length-ops w (r ∷ rs) h = rw (length-append, mul-step, length-ops w rs (h .1), h .0)
@@ -244,6 +249,28 @@ length-file w log h = omega (arith, length-bodies w log h)
 pub file-end : (w : ℕ) (log : Log) (t : List ℕ) → length log ≡ 8 → fileEnd w (fileOf w log ++ t) ≡ endOf w (countsOf log)
 unfolding fileEnd
 file-end w log t e = ap (endOf w) (file-counts w log t e)
+
+---- a file in front of its buffer
+
+-- a buffer is the file of its log, and what lies past it
+abbrev pub InFront : ℕ → List ℕ → Type 0
+InFront w f = f ≡ fileOf w (logOf w f) ++ drop (fileEnd w f) f
+
+module _ (w : ℕ) (f : List ℕ) where
+  pub front-of : take (fileEnd w f) f ≡ fileOf w (logOf w f) → InFront w f
+  front-of e = rw (← e) (sym (take-append-drop (fileEnd w f) f))
+
+  module _ (fits : fileEnd w f ≤ length f) where
+    pub length-front : length (fileOf w (logOf w f)) ≡ fileEnd w f
+    unfolding fileEnd
+    length-front = rw (length-file w (logOf w f) (wide-logOf w f fits), counts-logOf)
+
+    pub front-reads : InFront w f → take (fileEnd w f) f ≡ fileOf w (logOf w f)
+    front-reads e = ap (take (fileEnd w f)) e ∙ take-at (fileOf w (logOf w f)) _ _ length-front
+
+pub empty-end : (w : ℕ) → endOf w (countsOf emptyLog) ≡ 32
+unfolding endOf countsOf emptyLog sum
+empty-end w = rw mul-zero
 
 pub end-header : (w : ℕ) (counts : Vector) → 32 ≤ endOf w counts
 unfolding endOf

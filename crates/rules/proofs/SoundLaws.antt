@@ -5,7 +5,8 @@ use mathlib.Core.List.{List, _++_}
 use mathlib.Core.Path.{_≡_, refl}
 use mathlib.Core.Bool.{true}
 use lib.Dec.{lit≤}
-use Rattle.rules.specs.Log.{soundOps, structural}
+use Rattle.lists.proofs.BoolLaws.{and-right}
+use Rattle.rules.specs.Log.{laid, soundOps, structural}
 use Rattle.rules.specs.Sound.{sound}
 use Rattle.rules.specs.Op.{countIn, Op}
 use Rattle.rules.proofs.FileLaws.{WideLog, wide-logOf}
@@ -40,6 +41,11 @@ module _ (w : ℕ) (f : List ℕ) where
 
   pub sound-wide : sound w f ≡ true → WideLog w (logOf w f)
   sound-wide e = wide-logOf w f (sound-laid e .fits)
+
+-- a buffer that is laid out and holds the log of a sound one is sound
+pub sound-alike : (w : ℕ) (f g : List ℕ) → logOf w g ≡ logOf w f → laid w g ≡ true → sound w f ≡ true → sound w g ≡ true
+unfolding sound structural
+sound-alike w f g e l s = rw (l, e) (and-right (laid w f) _ s)
 
 -- the file of a sound log is sound
 pub sound-file : (w : ℕ) (log : Log) (t : List ℕ) → SoundLog log → WideLog w log → sound w (fileOf w log ++ t) ≡ true

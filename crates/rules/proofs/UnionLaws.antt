@@ -10,11 +10,10 @@ use lib.Seq.{ext-getD}
 use lib.Dec.{leb}
 use Rattle.lists.specs.Lists.{upFrom}
 use Rattle.rules.specs.Op.{Op, replicas, countIn}
-use Rattle.rules.specs.File.{Log, opsOf, opAt, countsOf, Extends}
+use Rattle.rules.specs.File.{Log, opsOf, opAt, countsOf, Extends, Agree}
 use Rattle.rules.specs.Log.{soundOps}
 use Rattle.rules.proofs.FileLaws.{Wide, WideLog, wide-at, log-eta}
 use Rattle.rules.proofs.AppendLaws.{soundOps-more}
-use Rattle.rules.proofs.OfferLaws.{Agree}
 use Rattle.rules.proofs.ReplicaLaws.{replica-cases, map-replicas}
 use Rattle.rules.proofs.StructureLaws.{count-held, GoodLog}
 use Rattle.rules.proofs.SoundLaws.{SoundLog}

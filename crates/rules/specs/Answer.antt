@@ -3,7 +3,7 @@ use Prim.Native.Nat.{ℕ}
 use mathlib.Core.Bool.{Bool, true, false}
 
 -- refused with the document's number; "had it"; judging is done; or accepted, with the number handed back: the new
--- file end, the entries of a path, the bytes of a listing
+-- file end, the entries of a path, the bytes of a listing or of a bundle
 pub data Answer : Type 0 where
   refused : ℕ → Answer
   hadIt : Answer

@@ -1,6 +1,7 @@
 -- The document's worked examples P1 to P12 but P4, as rows of one table that one theorem covers.
 use Prim.Native.Nat.{ℕ, zero, suc, _-_, _<_}
-use lib.ListN.{length, getD, set, replicate}
+use lib.Count.{ones, onesIn}
+use lib.ListN.{length, getD, set, replicate, take}
 use mathlib.Core.Bool.{true}
 use mathlib.Core.List.{List, [], _∷_, _++_, map}
 use mathlib.Core.Path.{_≡_, refl}
@@ -8,12 +9,13 @@ use native.Mathlib.Nat.{le-of-suc-le-suc, not-suc-le-zero}
 use Rattle.rules.specs.Answer.{Answer, refused, hadIt, done, accepted, require}
 use Rattle.rules.specs.Bytes.{wordAt, word}
 use Rattle.lists.specs.Lists.{upFrom, downFrom, sum, greatest, same, concat, all, any, filter, isIn}
-use Rattle.rules.specs.Deliver.{makeAnswer, isHeld, heldAnswer, admitAnswer, deliverAnswer}
+use Rattle.rules.specs.Bundle.{beyondCounts, headByte, headOf, isBeyond, opsBeyond, bundleOf, bundleAnswer, bundleCall, headSize, countsRead, headCounts, bodiesIn, opsBy, wholeBundle, unlessRefused, turnsAnswer, turnsBuffer, openAnswer, openBuffer, openBundle}
+use Rattle.rules.specs.Deliver.{makeAnswer, isHeld, heldAnswer, admitAnswer, deliverAnswer, deliverBuffer}
 use Rattle.rules.specs.Issue.{Request, add, remove, move, opBytes, issued, requestKnown, requestUnmarked, requestClear, issueAnswer, issueOut}
 use Rattle.rules.specs.Tree.{moveKind, slots, slot, slotOf, parentIn, climb, path, depth, atOrBelow}
 use Rattle.rules.specs.Judge.{judgeAnswer}
 use Rattle.rules.specs.Listing.{children, preorder, digits, decimal, lineOf, line, listingIn, listingOf, listingAnswer, listing, listingSize, refusedLine, outline}
-use Rattle.rules.specs.File.{Log, emptyLog, opsOf, opAt, countsOf, append, countAt, startAt, headerCounts, startOf, endOf, fileEnd, chunks, chunksOf, logOf, headerEntry, headerOf, fileOf, within, width}
+use Rattle.rules.specs.File.{Log, emptyLog, opsOf, opAt, countsOf, append, countAt, startAt, headerCounts, startOf, endOf, fileEnd, chunks, chunksOf, logOf, headerEntry, headerOf, fileOf, appended, within, width}
 use Rattle.rules.specs.Log.{covered, closedAt, closed, knownParent, namesKnown, soundOp, soundOps, soundLog, soundHeader, laid, structural}
 use Rattle.rules.specs.Measure.{endAnswer, countsAnswer, countsCall}
 use Rattle.rules.specs.Op.{Op, Vector, replicas, isReplica, countIn, kindOf, replicaOf, nodeOf, parentOf, vectorOf, ownCount, seqOf, nodeNumber, isAdd, isRemove, isMove, wellFormed}
@@ -53,6 +55,10 @@ pub data Row : Type 0 where
   sizes : (file : List ℕ) → View → Answer → Row
   ends : (file : List ℕ) → Answer → Row
   counts : (file out : List ℕ) → Answer → (after : List ℕ) → Row
+  -- the bundle for another's counts, put into lent bytes, is answered, and they hold
+  bundles : (file : List ℕ) → Vector → (out : List ℕ) → Answer → (after : List ℕ) → Row
+  -- opening a bundle at a buffer is answered, and the buffer holds
+  opens : (buffer bundle : List ℕ) → Answer → (after : List ℕ) → Row
   -- the program prints
   prints : (input text : List ℕ) → Row
 
@@ -72,6 +78,8 @@ Holds (lists f view out a after) = listing width f view out ≡ record { answer 
 Holds (sizes f view a) = listingSize width f view ≡ a
 Holds (ends f a) = endAnswer width f ≡ a
 Holds (counts f out a after) = countsCall width f out ≡ record { answer = a; out = after }
+Holds (bundles f v out a after) = bundleCall width f v out ≡ record { answer = a; out = after }
+Holds (opens f b a after) = openBundle width f b ≡ record { answer = a; buffer = after }
 Holds (prints f text) = outline width f ≡ text
 
 abbrev pub AllHold : List Row → Type 0
@@ -87,14 +95,25 @@ vector = three 0
 
 ---- the logs
 
--- P1, by its bodies and by its file
+-- P1's bodies: replica 1 issues the first three, and replica 2, which has the first two, the last
+abbrev pub a₁ : Op
+a₁ = 1 ∷ 1 ∷ 1 ∷ 1 ∷ 0 ∷ 0 ∷ 0 ∷ 0 ∷ 0 ∷ 0 ∷ 0 ∷ 0 ∷ 0 ∷ 0 ∷ []
+
+abbrev pub a₂ : Op
+a₂ = 1 ∷ 1 ∷ 1 ∷ 2 ∷ 0 ∷ 0 ∷ 1 ∷ 0 ∷ 0 ∷ 0 ∷ 0 ∷ 0 ∷ 0 ∷ 0 ∷ []
+
+abbrev pub a₃ : Op
+a₃ = 4 ∷ 1 ∷ 1 ∷ 2 ∷ 1 ∷ 1 ∷ 2 ∷ 0 ∷ 0 ∷ 0 ∷ 0 ∷ 0 ∷ 0 ∷ 0 ∷ []
+
+abbrev pub b₁ : Op
+b₁ = 4 ∷ 2 ∷ 1 ∷ 1 ∷ 1 ∷ 2 ∷ 2 ∷ 0 ∷ 0 ∷ 0 ∷ 0 ∷ 0 ∷ 0 ∷ 0 ∷ []
+
+-- P1, by its bodies and by its file; and before the moves
 unfoldable pub p1 : Log
-p1 = three []
-    ((1 ∷ 1 ∷ 1 ∷ 1 ∷ 0 ∷ 0 ∷ 0 ∷ 0 ∷ 0 ∷ 0 ∷ 0 ∷ 0 ∷ 0 ∷ 0 ∷ [])
-    ∷ (1 ∷ 1 ∷ 1 ∷ 2 ∷ 0 ∷ 0 ∷ 1 ∷ 0 ∷ 0 ∷ 0 ∷ 0 ∷ 0 ∷ 0 ∷ 0 ∷ [])
-    ∷ (4 ∷ 1 ∷ 1 ∷ 2 ∷ 1 ∷ 1 ∷ 2 ∷ 0 ∷ 0 ∷ 0 ∷ 0 ∷ 0 ∷ 0 ∷ 0 ∷ []) ∷ [])
-    ((4 ∷ 2 ∷ 1 ∷ 1 ∷ 1 ∷ 2 ∷ 2 ∷ 0 ∷ 0 ∷ 0 ∷ 0 ∷ 0 ∷ 0 ∷ 0 ∷ []) ∷ [])
-    []
+p1 = three [] (a₁ ∷ a₂ ∷ a₃ ∷ []) (b₁ ∷ []) []
+
+unfoldable pub p1Adds : Log
+p1Adds = three [] (a₁ ∷ a₂ ∷ []) [] []
 
 -- a file by its counts and starts, and the bodies of a log; all below 256
 abbrev pub entryOf : (count start : ℕ) → List ℕ
@@ -118,6 +137,14 @@ emptyFile = fileOf width emptyLog
 abbrev pub emptyIn : ℕ → List ℕ
 emptyIn n = emptyFile ++ replicate (n - 32) 0
 
+-- the same with so many sevens past it
+abbrev pub emptyThen : ℕ → List ℕ
+emptyThen n = emptyFile ++ replicate n 7
+
+-- P1 as a bundle: replica 2's move is judged before replica 1's
+abbrev pub p1Bundle : List ℕ
+p1Bundle = 3 ∷ 3 ∷ 1 ∷ (a₁ ++ (a₂ ++ (b₁ ++ a₃)))
+
 -- the add that replica s issues as its op q, under p
 abbrev pub adds : (s q p : ℕ) → Vector → Op
 adds s q p v = opBytes 1 s (nodeNumber s q) p v
@@ -125,10 +152,6 @@ adds s q p v = opBytes 1 s (nodeNumber s q) p v
 -- the siblings a, b and c by replica s
 abbrev pub siblings : ℕ → (ℕ → Vector) → List Op
 siblings s v = adds s 1 0 (v 0) ∷ adds s 2 0 (v 1) ∷ adds s 3 0 (v 2) ∷ []
-
--- P6: the record that P1's buffer holds as replica 1's second
-abbrev pub p6 : Op
-p6 = adds 1 2 0 (vector 1 0 0)
 
 -- P10 before the three moves; and the whole
 abbrev pub p10Adds : Log
@@ -207,8 +230,10 @@ unfoldable pub table : List Row
 table =
     -- P1
     laidOut p1 p1File
-    ∷ puts (three [] (adds 1 1 0 (vector 0 0 0) ∷ adds 1 2 0 (vector 1 0 0) ∷ []) [] []) 1 (move 258 257) (4 ∷ 1 ∷ 1 ∷ 2 ∷ 1 ∷ 1 ∷ 2 ∷ 0 ∷ 0 ∷ 0 ∷ 0 ∷ 0 ∷ 0 ∷ 0 ∷ [])
-    ∷ puts (three [] (adds 1 1 0 (vector 0 0 0) ∷ adds 1 2 0 (vector 1 0 0) ∷ []) [] []) 2 (move 257 258) (4 ∷ 2 ∷ 1 ∷ 1 ∷ 1 ∷ 2 ∷ 2 ∷ 0 ∷ 0 ∷ 0 ∷ 0 ∷ 0 ∷ 0 ∷ 0 ∷ [])
+    ∷ puts emptyLog 1 (add 0) a₁
+    ∷ puts (three [] (a₁ ∷ []) [] []) 1 (add 0) a₂
+    ∷ puts p1Adds 1 (move 258 257) a₃
+    ∷ puts p1Adds 2 (move 257 258) b₁
     ∷ outcomes p1 (three [] (1 ∷ 1 ∷ 3 ∷ []) (1 ∷ []) [])
     ∷ prints p1File (48 ∷ 32 ∷ 48 ∷ 32 ∷ 107 ∷ 10 ∷ 49 ∷ 32 ∷ 50 ∷ 53 ∷ 56 ∷ 32 ∷ 107 ∷ 10 ∷ 50 ∷ 32 ∷ 50 ∷ 53 ∷ 55 ∷ 32 ∷ 107 ∷ 10 ∷ [])
     -- P2
@@ -223,12 +248,12 @@ table =
     -- P5
     ∷ delivers p1Buffer (adds 1 5 0 (vector 4 0 0)) (refused 5)
     -- P6: the same; then one byte changed: the parent's low byte, the node's, a foreign count, the kind
-    ∷ delivers p1Buffer p6 hadIt
-    ∷ delivers p1Buffer (set p6 5 1) (refused 4)
-    ∷ delivers p1Buffer (set p6 3 3) (refused 4)
-    ∷ delivers p1Buffer (set p6 7 1) (refused 4)
-    ∷ delivers p1Buffer (set p6 0 2) (refused 4)
-    ∷ delivers p1Buffer (set p6 0 4) (refused 4)
+    ∷ delivers p1Buffer a₂ hadIt
+    ∷ delivers p1Buffer (set a₂ 5 1) (refused 4)
+    ∷ delivers p1Buffer (set a₂ 3 3) (refused 4)
+    ∷ delivers p1Buffer (set a₂ 7 1) (refused 4)
+    ∷ delivers p1Buffer (set a₂ 0 2) (refused 4)
+    ∷ delivers p1Buffer (set a₂ 0 4) (refused 4)
     -- P7
     ∷ delivers p1Buffer (opBytes 4 1 257 257 (vector 3 0 0)) (refused 7)
     ∷ issues p1Buffer 1 (move 257 257) (refused 7)
@@ -328,6 +353,47 @@ table =
     ∷ counts p1Buffer (replicate 9 9) (accepted 8) (3 ∷ 1 ∷ 0 ∷ 0 ∷ 0 ∷ 0 ∷ 0 ∷ 0 ∷ 9 ∷ [])
     ∷ counts p1Buffer (replicate 7 9) (refused 8) (replicate 7 9)
     ∷ counts (replicate 31 0) (replicate 7 9) (refused 1) (replicate 7 9)
+    -- a bundle: for a replica that has nothing; for one that has the adds and is ahead of replica 3; for one that has all; for counts that
+    -- are not closed. Too short by one byte; unsound before that
+    ∷ bundles p1File (vector 0 0 0) (replicate 61 9) (accepted 59) (p1Bundle ++ (9 ∷ 9 ∷ []))
+    ∷ bundles p1File (vector 2 0 5) (replicate 31 9) (accepted 31) (3 ∷ 1 ∷ 1 ∷ (b₁ ++ a₃))
+    ∷ bundles p1File (vector 3 1 0) (9 ∷ 9 ∷ []) (accepted 1) (0 ∷ 9 ∷ [])
+    ∷ bundles p1File (vector 0 1 0) (replicate 44 9) (accepted 44) (1 ∷ 3 ∷ (a₁ ++ (a₂ ++ a₃)))
+    ∷ bundles p1File (vector 0 0 0) (replicate 58 9) (refused 8) (replicate 58 9)
+    ∷ bundles (replicate 31 0) (vector 0 0 0) [] (refused 1) []
+    -- opened by a replica that has nothing; by one that has the adds; by one that has all but replica 1's move, where the counts are not
+    -- closed; by one that has all, and no room. What lies past the file stays
+    ∷ opens (emptyThen 58) p1Bundle (accepted 88) (p1File ++ (7 ∷ 7 ∷ []))
+    ∷ opens (fileOf width p1Adds ++ replicate 28 7) p1Bundle (accepted 88) p1File
+    ∷ opens (fileOf width (append p1Adds b₁) ++ replicate 14 7) (1 ∷ 3 ∷ (a₁ ++ (a₂ ++ a₃))) (accepted 88) p1File
+    ∷ opens p1File p1Bundle (accepted 88) p1File
+    -- an empty bundle; a body twice; the last replica
+    ∷ opens p1File (0 ∷ []) (accepted 88) p1File
+    ∷ opens (emptyThen 14) (1 ∷ 2 ∷ (a₁ ++ a₁)) (accepted 46) (fileOf width (append emptyLog a₁))
+    ∷ opens (emptyThen 14) (128 ∷ 1 ∷ adds 8 1 0 (vector 0 0 0)) (accepted 46) (fileOf width (append emptyLog (adds 8 1 0 (vector 0 0 0))))
+    -- 12: no bytes; no count byte for a set bit; a count of 0; a byte too many; a byte too few; a body of another replica; of replica 9; of
+    -- replica 0
+    ∷ opens p1File [] (refused 12) p1File
+    ∷ opens p1File (3 ∷ 1 ∷ []) (refused 12) p1File
+    ∷ opens p1File (1 ∷ 0 ∷ []) (refused 12) p1File
+    ∷ opens p1File (0 ∷ 0 ∷ []) (refused 12) p1File
+    ∷ opens (emptyThen 14) (1 ∷ 1 ∷ take 13 a₁) (refused 12) (emptyThen 14)
+    ∷ opens (emptyThen 14) (2 ∷ 1 ∷ a₁) (refused 12) (emptyThen 14)
+    ∷ opens (emptyThen 14) (1 ∷ 1 ∷ set a₁ 1 9) (refused 12) (emptyThen 14)
+    ∷ opens (emptyThen 14) (1 ∷ 1 ∷ set a₁ 1 0) (refused 12) (emptyThen 14)
+    -- after 1, and before a body that would be 3 or 5
+    ∷ opens (replicate 31 0) [] (refused 1) (replicate 31 0)
+    ∷ opens (emptyThen 14) (2 ∷ 1 ∷ set a₁ 0 9) (refused 12) (emptyThen 14)
+    ∷ opens (emptyThen 28) (3 ∷ 1 ∷ 1 ∷ (a₂ ++ a₁)) (refused 12) (emptyThen 28)
+    -- a body is refused, and nothing changes, past the file too: a wrong kind; another op of a held sequence; a wrong order; a vector that
+    -- is not closed; an unknown parent; no room for the last body; no room for the first that is new
+    ∷ opens (emptyThen 28) (1 ∷ 2 ∷ (a₁ ++ set a₂ 0 9)) (refused 3) (emptyThen 28)
+    ∷ opens p1File (1 ∷ 1 ∷ set a₂ 5 1) (refused 4) p1File
+    ∷ opens (emptyThen 28) (1 ∷ 2 ∷ (a₂ ++ a₁)) (refused 5) (emptyThen 28)
+    ∷ opens p1Buffer (4 ∷ 1 ∷ adds 3 1 0 (vector 0 1 0)) (refused 6) p1Buffer
+    ∷ opens (emptyThen 28) (1 ∷ 2 ∷ (a₁ ++ adds 1 2 258 (vector 1 0 0))) (refused 7) (emptyThen 28)
+    ∷ opens (emptyThen 55) p1Bundle (refused 8) (emptyThen 55)
+    ∷ opens (fileOf width p1Adds) p1Bundle (refused 8) (fileOf width p1Adds)
     ∷ []
 
 -- one row holds, and the others
@@ -337,24 +403,28 @@ _&_ a b = (a, b)
 
 -- every row of the table holds
 pub table-holds : AllHold table
-unfolding ofOps table p1 p1File p1Buffer emptyFile p10 p11 p11All p12 p12All rivals rivals2 rivals3 chain pruned prunedFile prunedBuffer
-    reworked require wordAt word upFrom downFrom sum greatest same concat all any filter isIn replicas isReplica countIn kindOf replicaOf
-    nodeOf parentOf vectorOf ownCount seqOf nodeNumber isAdd isRemove isMove wellFormed emptyLog opsOf opAt countsOf append countAt
-    startAt headerCounts startOf endOf fileEnd chunks chunksOf logOf headerEntry headerOf fileOf within covered closedAt closed isKnown
-    isMarked nodeWithin knowledge knownParent namesKnown soundOp soundOps soundLog soundHeader laid structural sound makeAnswer isHeld
-    heldAnswer admitAnswer deliverAnswer slot slotOf parentIn climb path depth atOrBelow opsWithin addedIn removedIn timestampIn timestamp
-    stamp stamped ofReplica ofKind ofTime byTime ordered start outcomeSlot outcomeOf step replay parentsOf outcomesOf opBytes moveKind
-    issued requestKnown requestUnmarked requestClear issueAnswer issueOut nodes marked shown children preorder digits decimal lineOf line
-    listingIn listingOf listingAnswer listing listingSize refusedLine outline judgeAnswer pathOf pathAnswer pathCall endAnswer
-    countsAnswer countsCall
+unfolding ofOps table p1 p1Adds p1File p1Buffer emptyFile p10 p11 p11All p12 p12All rivals rivals2 rivals3 chain pruned prunedFile
+    prunedBuffer reworked require wordAt word upFrom downFrom sum greatest same concat all any filter isIn replicas isReplica countIn
+    kindOf replicaOf nodeOf parentOf vectorOf ownCount seqOf nodeNumber isAdd isRemove isMove wellFormed emptyLog opsOf opAt countsOf
+    append countAt startAt headerCounts startOf endOf fileEnd chunks chunksOf logOf headerEntry headerOf fileOf within covered closedAt
+    closed isKnown isMarked nodeWithin knowledge knownParent namesKnown soundOp soundOps soundLog soundHeader laid structural sound
+    makeAnswer isHeld heldAnswer admitAnswer deliverAnswer slot slotOf parentIn climb path depth atOrBelow opsWithin addedIn removedIn
+    timestampIn timestamp stamp stamped ofReplica ofKind ofTime byTime ordered start outcomeSlot outcomeOf step replay parentsOf
+    outcomesOf opBytes moveKind issued requestKnown requestUnmarked requestClear issueAnswer issueOut nodes marked shown children
+    preorder digits decimal lineOf line listingIn listingOf listingAnswer listing listingSize refusedLine outline judgeAnswer pathOf
+    pathAnswer pathCall endAnswer countsAnswer countsCall appended deliverBuffer ones onesIn beyondCounts headByte headOf isBeyond
+    opsBeyond bundleOf bundleAnswer bundleCall headSize countsRead headCounts bodiesIn opsBy wholeBundle unlessRefused turnsAnswer
+    turnsBuffer openAnswer openBuffer
 table-holds =
     (refl, refl) & refl & refl & refl & refl & refl & refl & refl & refl & refl & refl & refl & refl & refl & refl
     & refl & refl & refl & refl & refl & refl & refl & refl & refl & refl & refl & refl & refl & refl & refl & refl
-    & (refl, refl) & refl & refl & refl & refl & (refl, refl) & refl & refl & refl & refl & refl & (refl, refl) & refl
-    & refl & refl & refl & refl & refl & refl & (refl, refl) & refl & refl & refl & refl & refl & refl & refl & refl
+    & refl & refl & (refl, refl) & refl & refl & refl & refl & (refl, refl) & refl & refl & refl & refl & refl
+    & (refl, refl) & refl & refl & refl & refl & refl & refl & refl & (refl, refl) & refl & refl & refl & refl
     & refl & refl & refl & refl & refl & refl & refl & refl & refl & refl & refl & refl & refl & refl & refl & refl
-    & refl & refl & refl & refl & refl & refl & refl & refl & (refl, refl) & refl & refl & refl & refl & refl & refl
-    & refl & refl & refl & refl & refl & refl & refl & refl & refl & refl & refl & tt
+    & refl & refl & refl & refl & refl & refl & refl & refl & refl & refl & refl & refl & (refl, refl) & refl & refl
+    & refl & refl & refl & refl & refl & refl & refl & refl & refl & refl & refl & refl & refl & refl & refl & refl
+    & refl & refl & refl & refl & refl & refl & refl & refl & refl & refl & refl & refl & refl & refl & refl & refl
+    & refl & refl & refl & refl & refl & refl & refl & refl & refl & refl & refl & refl & refl & refl & tt
 
 -- what holds of all rows holds of each
 each : (xs : List Row) (d : Row) → AllHold xs → (k : ℕ) → k < length xs → Holds (getD xs k d)

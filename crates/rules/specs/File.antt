@@ -36,6 +36,10 @@ pub record Extends (log more : Log) : Type 0 where
   pub counts : (s : ℕ) → 1 ≤ s → s ≤ 8 → countIn (countsOf log) s ≤ countIn (countsOf more) s
   pub ops : (s q : ℕ) → 1 ≤ s → s ≤ 8 → 1 ≤ q → q ≤ countIn (countsOf log) s → opAt more s q ≡ opAt log s q
 
+-- two logs that agree: an op of a replica and number that both hold is the same in both
+abbrev pub Agree : Log → Log → Type 0
+Agree a b = (s q : ℕ) → 1 ≤ s → s ≤ 8 → 1 ≤ q → q ≤ countIn (countsOf a) s → q ≤ countIn (countsOf b) s → opAt b s q ≡ opAt a s q
+
 ---- layout
 
 -- the bytes of an op; the layout is stated for ops of w bytes

@@ -12,6 +12,7 @@ pub mod Judge
 pub mod Issue
 pub mod Path
 pub mod Measure
+pub mod Bundle
 pub mod Views
 pub mod Listing
 pub mod TreeClaim

@@ -2,8 +2,8 @@
 -- ops, and what each op does to the tree.
 use Prim.Native.Nat.{ℕ, zero, suc, _+_}
 use mathlib.Core.Bool.{cond, _&&_, _||_, not}
-use mathlib.Core.List.{List, [], _∷_, map, foldl}
-use lib.ListN.{length, take, getD, set, replicate}
+use mathlib.Core.List.{List, _∷_, map, foldl}
+use lib.ListN.{take, getD, set, replicate}
 use lib.Dec.{eqb}
 use Rattle.lists.specs.Lists.{upFrom, downFrom, greatest, concat, filter}
 use Rattle.rules.specs.Op.{Op, Vector, replicas, countIn, kindOf, replicaOf, nodeOf, parentOf, vectorOf, seqOf, isAdd, isRemove, isMove}

@@ -1,0 +1,128 @@
+-- What each call adds, and what settles it: the only laws that go by cases on the call.
+use mathlib.Core.Path.{_≡_, refl, sym, _∙_}
+use mathlib.Core.Bool.{true, false}
+use mathlib.Core.List.{List, [], _∷_, _++_}
+use Prim.Native.Nat.{ℕ}
+use native.Mathlib.Omega.{arith}
+use lib.ListN.{length, drop}
+use lib.Seq.{take-at}
+use Rattle.rules.specs.Op.{Op}
+use Rattle.rules.specs.File.{logOf, fileEnd, appended, width, emptyLog}
+use Rattle.rules.specs.Answer.{Answer, refused, hadIt, done, accepted, ifAccepted}
+use Rattle.rules.specs.Deliver.{makeAnswer, makeBuffer, deliverAnswer, deliverBuffer}
+use Rattle.rules.specs.Issue.{issued, issueAnswer, issueBuffer, issueOut}
+use Rattle.rules.specs.Bundle.{bodiesIn, unlessRefused, turnsAnswer, turnsBuffer, turnsTaken, openAnswer, openBuffer}
+use Rattle.lists.proofs.BoolLaws.{never}
+use Rattle.rules.proofs.DeliverLaws.{required, accepted-same, Admitted, admitted, delivered, appended-end}
+use Rattle.rules.proofs.FileLaws.{empty-end, file-end}
+use Rattle.rules.proofs.IssueLaws.{issue-admitted}
+use Rattle.rules.proofs.SoundLaws.{sound-empty}
+use Rattle.rules.proofs.TurnLaws.{OneLog, one-end, turns-end, deliver-alike, turns-alike}
+use Rattle.convergence.specs.Exchange.{Call, make, issue, deliver, openBundle, Site, answer, bufferAfter, begun, added, Adds, reply, outAfter}
+use Rattle.convergence.specs.Lists.{CallsAdd}
+
+---- what a call adds
+
+-- what a call leaves that was not accepted
+if-not : {A : Type 0} (a : Answer) (new old : A) → ifAccepted a true false ≡ false → ifAccepted a new old ≡ old
+if-not (refused n) new old e = refl
+if-not hadIt new old e = refl
+if-not done new old e = refl
+if-not (accepted n) new old e = never (sym e)
+
+adds-one : (f : List ℕ) (r : Op) (n : ℕ) → Admitted width f r n → Adds f (r ∷ []) (appended width f r)
+unfolding deliverBuffer
+adds-one f r n h = let e = delivered width f r n h in (n, e, rw e)
+
+-- bodies in turn
+turns-add : (rs : List Op) (f : List ℕ) (n : ℕ) → turnsAnswer width f rs ≡ accepted n
+    → Adds f (turnsTaken width f rs) (turnsBuffer width f rs)
+unfolding turnsAnswer turnsTaken turnsBuffer unlessRefused deliverBuffer
+turns-add [] f n e = refl
+turns-add (r ∷ rs) f n e = go (deliverAnswer width f r) refl e (λ g. turns-add rs g n)
+  where
+    next : List ℕ
+    next = deliverBuffer width f r
+
+    go : (a : Answer) → deliverAnswer width f r ≡ a → unlessRefused a (turnsAnswer width next rs) ≡ accepted n
+        → ((g : List ℕ) → turnsAnswer width g rs ≡ accepted n → Adds g (turnsTaken width g rs) (turnsBuffer width g rs))
+        → Adds f (ifAccepted a (r ∷ []) [] ++ turnsTaken width next rs) (turnsBuffer width next rs)
+    go (refused m) q e ih = let z : _≡_ {A = ℕ} 0 1 = cc in absurd (omega arith)
+    go hadIt q e ih = let s : next ≡ f = rw q in rw s (ih f (rw s at e))
+    go done q e ih = let s : next ≡ f = rw q in rw s (ih f (rw s at e))
+    go (accepted m) q e ih = (m, q, ih next e)
+
+pub opened : (f b : List ℕ) (n : ℕ) → openAnswer width f b ≡ accepted n → turnsAnswer width f (bodiesIn width b) ≡ accepted n
+unfolding openAnswer
+opened f b n e = required _ _ _ n (required _ _ _ n e .1) .1
+
+adds : (x : Site) (c : Call) (n : ℕ) → answer (x .buffer) c ≡ accepted n
+    → Adds (begun x c .buffer) (added (x .buffer) c) (bufferAfter (x .buffer) c)
+unfolding answer begun added bufferAfter issueBuffer issueOut deliverBuffer openBuffer
+adds x make n e = refl
+adds x (issue out s q) n e =
+    let h = issue-admitted (x .buffer) (length out) s q n e in
+    let r : Op = issued (logOf width (x .buffer)) s q in
+    rw (e, take-at r (drop width out) width (h .long)) (adds-one (x .buffer) r n h)
+adds x (deliver r) n e = (n, e, refl)
+adds x (openBundle b) n e = rw e (turns-add (bodiesIn width b) (x .buffer) n (opened (x .buffer) b n e))
+
+made : (f : List ℕ) (n : ℕ) → makeAnswer f ≡ accepted n → accepted 32 ≡ accepted n
+unfolding makeAnswer
+made f n e = required _ _ _ n e .1
+
+ends : (f : List ℕ) (c : Call) (n : ℕ) → answer f c ≡ accepted n → fileEnd width (bufferAfter f c) ≡ n
+unfolding answer bufferAfter makeBuffer issueBuffer deliverBuffer openBuffer
+ends f make n e =
+    rw e (file-end width emptyLog (drop 32 f) (sound-empty .good .eight) ∙ empty-end width ∙ accepted-same 32 n (made f n e))
+ends f (issue out s q) n e = let h = issue-admitted f (length out) s q n e in rw e (appended-end width f _ n h ∙ h .end)
+ends f (deliver r) n e = let h = admitted width f r n e in rw e (appended-end width f r n h ∙ h .end)
+ends f (openBundle b) n e = rw e (turns-end width (bodiesIn width b) f n (opened f b n e))
+
+keeps : (f : List ℕ) (c : Call) → ifAccepted (answer f c) true false ≡ false → bufferAfter f c ≡ f
+unfolding answer bufferAfter makeBuffer issueBuffer deliverBuffer openBuffer
+keeps f make e = if-not (makeAnswer f) _ f e
+keeps f (issue out s q) e = if-not (issueAnswer width f (length out) s q) _ f e
+keeps f (deliver r) e = if-not (deliverAnswer width f r) _ f e
+keeps f (openBundle b) e = if-not (openAnswer width f b) _ f e
+
+pub calls-add : CallsAdd
+calls-add = record { adds = adds; ends = ends; keeps = keeps }
+
+---- what a call begins with
+
+pub begun-is : (P : Site → Type 0) (x : Site) (c : Call) → P (begun x make) → P x → P (begun x c)
+unfolding begun
+begun-is P x make m k = m
+begun-is P x (issue out s q) m k = k
+begun-is P x (deliver r) m k = k
+begun-is P x (openBundle b) m k = k
+
+pub begun-held : (x y : Site) (c : Call) → x .held ≡ y .held → begun x c .held ≡ begun y c .held
+unfolding begun
+begun-held x y make e = cc
+begun-held x y (issue out s q) e = e
+begun-held x y (deliver r) e = e
+begun-held x y (openBundle b) e = e
+
+---- the log and the buffer's length settle it
+
+-- making asks for the length alone
+pub make-alike : (f g : List ℕ) → length f ≡ length g → reply f make ≡ reply g make
+unfolding reply answer outAfter makeAnswer
+make-alike f g e = rw e
+
+module _ (f g : List ℕ) (x : OneLog width f g) where
+  pub reply-alike : (c : Call) → reply f c ≡ reply g c
+  unfolding reply answer outAfter issueAnswer issueOut openAnswer
+  reply-alike make = make-alike f g (x .size)
+  reply-alike (issue out s q) = rw (x .first, x .second, one-end width f g (x .log), x .log, x .size)
+  reply-alike (deliver r) = rw (deliver-alike width f g x r)
+  reply-alike (openBundle b) = rw (x .first, x .second, turns-alike width (bodiesIn width b) f g x .0)
+
+  pub added-alike : (c : Call) → added f c ≡ added g c
+  unfolding added issueOut issueAnswer
+  added-alike make = refl
+  added-alike (issue out s q) = rw (x .first, x .second, one-end width f g (x .log), x .log, x .size)
+  added-alike (deliver r) = refl
+  added-alike (openBundle b) = turns-alike width (bodiesIn width b) f g x .1
