@@ -8,16 +8,15 @@ use native.Mathlib.Omega.{arith}
 use native.Mathlib.Decide.{ℕ-discrete}
 use lib.ListN.{length, drop, getD, set}
 use borrow.Author.Tests.{eq-eqb, ne-eqb}
-use borrow.Author.Needs.{needs, fits-under}
-use mir.Syntax.{w64}
-use mir.Val.{Fits}
+use borrow.Author.Needs.{needs}
 use Rattle.rules.specs.Op.{vectorOf, kindOf, parentOf, nodeNumber, isAdd, nodeOf, isMove, Op}
 use Rattle.rules.specs.Tree.{slotOf, slot, slots, atOrBelow}
 use Rattle.rules.specs.Replay.{outcomeOf, outcomeSlot, step}
 use Rattle.rules.specs.File.{opAt, logOf}
 use Rattle.rules.proofs.SlotLaws.{slot-below}
 use Rattle.rules.proofs.KnownLaws.{names-add, names-node, known-reads}
-use Rattle.oplog.specs.Places.{placeOf}
+use Rattle.tree.specs.Slots.{opIn, replicaIn, sequenceIn, slotPlace}
+use Rattle.rules.proofs.StructureLaws.{HeldOp}
 use Rattle.oplog.proofs.FieldLaws.{fields-at, small}
 use Rattle.effect.specs.Effects.{Applicable, Slotted, hungBy, moves, notedBy, outcomeBy, stampedAt, tables}
 use Rattle.oplog.proofs.HeldLaws.{held-op}
@@ -118,62 +117,68 @@ module _ (l : List ℕ) (k o i t : ℕ) where
 
 ---- what an op of a structurally sound file names has a slot
 
-module _ (w : ℕ) (f : List ℕ) (s q : ℕ) (p o l : List ℕ) (x : Applicable w f s q p o l) where
+module _ (w : ℕ) (f : List ℕ) (i : ℕ) (p o l : List ℕ) (x : Applicable w f i p o l) where
+  abbrev s : ℕ
+  s = replicaIn i
+
+  abbrev q : ℕ
+  q = sequenceIn i
+
   abbrev r : Op
   r = opAt (logOf w f) s q
+
+  held : HeldOp (logOf w f) s q r
+  held = held-op w f (x .is-structural) s q (x .in-slot .in-file)
 
   node-range : (1 ≤ nodeOf r / 256) × (nodeOf r / 256 ≤ 8) × (1 ≤ nodeOf r % 256)
   unfolding nodeNumber
   node-range = elim (ℕ-discrete (kindOf r) 1) [
     | yes e ↦
-        let h = held-op w f (x .is-structural) s q (x .in-file) in
-        let n : nodeOf r ≡ 256 * s + q = names-add (logOf w f) r (h .names) e .1 ∙ rw (h .origin, h .number) in
-        let b = small w f s q (x .in-file) in
-        (omega arith, omega arith, omega arith)
+        let n : nodeOf r ≡ 256 * s + q = names-add (logOf w f) r (held .names) e .1 ∙ rw (held .origin, held .number) in
+        let b = small w f s q (x .in-slot .in-file) in
+        (omega arith, omega (arith, x .in-slot .in-file .high), omega arith)
     | no ne ↦
-        let h = held-op w f (x .is-structural) s q (x .in-file) in
-        let k = known-reads (logOf w f) (vectorOf r) (nodeOf r) (names-node (logOf w f) r (h .names) ne) .0 in
+        let k = known-reads (logOf w f) (vectorOf r) (nodeOf r) (names-node (logOf w f) r (held .names) ne) .0 in
         (k .low, k .high, k .first)
   ]
 
-  pub own-slot : 255 * (s - 1) + q < length o
-  own-slot = omega (arith, small w f s q (x .in-file), x .in-file .high, x .sized .outcomes)
-
-  pub own-fits : Fits w64 (255 * (s - 1) + q)
-  own-fits = fits-under w64 (255 * (s - 1) + q) slots (omega (arith, own-slot, x .sized .outcomes)) tt
+  pub own-slot : i < length o
+  own-slot =
+      let n = x .in-slot in
+      omega (arith, small w f s q (n .in-file), n .in-file .high, n .some, x .sized .outcomes)
 
   -- what the code has read are the op's fields
-  module _ (at : ℕ) (is : at ≡ placeOf w f s q) (n i : ℕ) (hn : n ≡ nodeOf (drop at f)) (hi : i ≡ slotOf n) where
+  module _ (at : ℕ) (is : at ≡ slotPlace w f i) (n j : ℕ) (hn : n ≡ nodeOf (drop at f)) (hj : j ≡ slotOf n) where
     node-so : n ≡ nodeOf r
-    node-so = hn ∙ sym (fields-at w f s q (x .in-file) at is .node)
+    node-so = hn ∙ sym (fields-at w f s q (x .in-slot .in-file) at is .node)
 
-    slot-so : i < slots
-    slot-so = rw (hi, node-so) (slot-below (nodeOf r) (inr node-range))
+    slot-so : j < slots
+    slot-so = rw (hj, node-so) (slot-below (nodeOf r) (inr node-range))
 
-    pub node-slotted : Slotted p l n i
+    pub node-slotted : Slotted p l n j
     node-slotted = record {
       parents = x .sized .parents;
       small = omega (arith, node-so, node-range .1);
       placed = omega (arith, slot-so, x .sized .placed);
     }
 
-    pub hang-slot : i < length p
+    pub hang-slot : j < length p
     hang-slot = omega (arith, slot-so, x .sized .parents)
 
-    pub note-slot : i < length l
+    pub note-slot : j < length l
     note-slot = omega (arith, slot-so, x .sized .placed)
 
-    module _ (k m u t : ℕ) (hk : k ≡ kindOf (drop at f)) (hm : m ≡ parentOf (drop at f)) (hu : u ≡ outcomeBy p l k n m i t) where
-      pub applied : (p′ l′ : List ℕ) → p′ ≡ hungBy p k u i m → l′ ≡ notedBy l k u i t
-          → tables p′ (set o (255 * (s - 1) + q) u) l′ ≡ step (tables p o l) (stampedAt t r)
-      unfolding step outcomeOf outcomeBy outcomeSlot slot hungBy notedBy isAdd isMove
+    module _ (k m u t : ℕ) (hk : k ≡ kindOf (drop at f)) (hm : m ≡ parentOf (drop at f)) (hu : u ≡ outcomeBy p l k n m j t) where
+      pub applied : (p′ l′ : List ℕ) → p′ ≡ hungBy p k u j m → l′ ≡ notedBy l k u j t
+          → tables p′ (set o i u) l′ ≡ step (tables p o l) (stampedAt t (opIn (logOf w f) i))
+      unfolding step outcomeOf outcomeBy outcomeSlot slot hungBy notedBy isAdd isMove opIn
       applied p′ l′ hp hl =
-          let h = held-op w f (x .is-structural) s q (x .in-file) in
-          let o = fields-at w f s q (x .in-file) at is in
-          let ek : k ≡ kindOf r = hk ∙ sym (o .kind) in
-          let em : m ≡ parentOf r = hm ∙ sym (o .parent) in
-          let g : i ≡ slotOf (nodeOf r) = hi ∙ ap slotOf node-so in
-          rw (hp, hl, hu, ek, em, g, node-so, h .origin, h .number)
+          let y = fields-at w f s q (x .in-slot .in-file) at is in
+          let ek : k ≡ kindOf r = hk ∙ sym (y .kind) in
+          let em : m ≡ parentOf r = hm ∙ sym (y .parent) in
+          let g : j ≡ slotOf (nodeOf r) = hj ∙ ap slotOf node-so in
+          let own : 255 * (s - 1) + q ≡ i = omega (arith, x .in-slot .some) in
+          rw (hp, hl, hu, ek, em, g, node-so, held .origin, held .number, own)
 
 ---- what the code of the effects needs: search effects
 
@@ -183,4 +188,4 @@ pub ruleset hangings = (hang-not, hang-zero, hang-remove, hang-high)
 
 pub ruleset notings = (note-not, note-move, note-zero, note-low, note-high)
 
-pub ruleset effects = (needs, outcomes, hangings, notings, node-slotted, hang-slot, note-slot, own-slot, own-fits, applied)
+pub ruleset effects = (needs, outcomes, hangings, notings, node-slotted, hang-slot, note-slot, own-slot, applied)

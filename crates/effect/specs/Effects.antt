@@ -9,7 +9,7 @@ use Rattle.rules.specs.Op.{Op}
 use Rattle.rules.specs.Log.{structural}
 use Rattle.rules.specs.Tree.{slots, noParent, atOrBelow}
 use Rattle.rules.specs.Replay.{State, Stamped}
-use Rattle.oplog.specs.Places.{InFile}
+use Rattle.tree.specs.Slots.{InSlot}
 
 -- three tables as a state
 abbrev pub tables : List ℕ → List ℕ → List ℕ → State
@@ -27,10 +27,10 @@ pub record Slotted (p l : List ℕ) (node n : ℕ) : Type 0 where
   pub small : node < noParent
   pub placed : n < length l
 
--- op q of replica s of a structurally sound file can be applied to the tables
-pub record Applicable (w : ℕ) (f : List ℕ) (s q : ℕ) (p o l : List ℕ) : Type 0 where
+-- a structurally sound file has an op in a slot, which can be applied to the tables
+pub record Applicable (w : ℕ) (f : List ℕ) (n : ℕ) (p o l : List ℕ) : Type 0 where
   pub is-structural : structural w f ≡ true
-  pub in-file : InFile w f s q
+  pub in-slot : InSlot w f n
   pub sized : Sized p o l
 
 ---- what the effects are

@@ -1,14 +1,15 @@
 use codec::kind_at;
 use codec::node_at;
 use codec::parent_at;
-use oplog::place;
 use tree::below;
 use tree::slot_of;
+use tree::slot_place;
 ghost use mathlib.Core.Path.{_≡_};
 ghost use Prim.Native.Nat.{_<_};
 ghost use lib.ListN.{length};
-ghost use Rattle.rules.specs.File.{logOf, opAt};
+ghost use Rattle.rules.specs.File.{logOf};
 ghost use Rattle.rules.specs.Replay.{step};
+ghost use Rattle.tree.specs.Slots.{opIn};
 ghost use Rattle.effect.specs.Effects.{tables, stampedAt, Slotted, Applicable, outcomeBy, hungBy, notedBy};
 
 // The outcome of an op by its fields.
@@ -87,29 +88,28 @@ fn note_time(placed: &mut [u16], kind: u8, outcome: u8, slot: usize, time: u16)
     }
 }
 
-// Applies the op number q of replica s, and notes its outcome.
+// Applies the op of a slot, and notes its outcome.
 pub fn apply_op(
     file: &[u8],
-    s: usize,
-    q: usize,
+    slot: usize,
     time: u16,
     parents: &mut [u16],
     outcomes: &mut [u8],
     placed: &mut [u16],
     width: usize,
 )
-    requires { ⌜ Applicable width (now file) s q (now parents) (now outcomes) (now placed) ⌝ }
+    requires { ⌜ Applicable width (now file) slot (now parents) (now outcomes) (now placed) ⌝ }
     ensures { λ _. ⌜ tables (now (parents .exit)) (now (outcomes .exit)) (now (placed .exit))
         ≡ step (tables (now (parents .entry)) (now (outcomes .entry)) (now (placed .entry)))
-        (stampedAt time (opAt (logOf width (now (file .entry))) s q)) ⌝ }
+        (stampedAt time (opIn (logOf width (now (file .entry))) slot)) ⌝ }
 {
-    let at = place(file, s, q, width);
+    let at = slot_place(file, slot, width);
     let kind = kind_at(file, at);
     let node = node_at(file, at);
     let parent = parent_at(file, at);
-    let slot = slot_of(node);
-    let outcome = outcome_of(parents, placed, kind, node, parent, slot, time);
-    hang(parents, kind, outcome, slot, parent);
-    note_time(placed, kind, outcome, slot, time);
-    outcomes[255 * (s - 1) + q] = outcome;
+    let named = slot_of(node);
+    let outcome = outcome_of(parents, placed, kind, node, parent, named, time);
+    hang(parents, kind, outcome, named, parent);
+    note_time(placed, kind, outcome, named, time);
+    outcomes[slot] = outcome;
 }

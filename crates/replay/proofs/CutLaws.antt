@@ -1,27 +1,26 @@
 -- Clearing the tables and replaying a cut, as the code has them.
 use mathlib.Core.Path.{_≡_, refl, ap, _∙_}
 use mathlib.Core.Bool.{true}
-use mathlib.Core.List.{List, foldl}
-use Prim.Native.Nat.{ℕ, _≤_}
+use mathlib.Core.List.{List}
+use Prim.Native.Nat.{ℕ, _+_, _-_, _≤_}
 use native.Mathlib.Omega.{arith}
 use lib.ListN.{length, set, replicate, length-replicate}
 use borrow.Author.Needs.{needs}
 use Rattle.lists.proofs.ListLaws.{Filled, fill-none, fill-more, fill-all}
+use Rattle.lists.proofs.RangeLaws.{fold-places}
 use Rattle.rules.specs.Op.{Vector}
-use Rattle.rules.specs.File.{logOf, headerCounts, countsOf}
-use Rattle.rules.specs.Log.{structural, soundHeader, covered, closed}
+use Rattle.rules.specs.File.{logOf, headerCounts}
+use Rattle.rules.specs.Log.{structural, soundHeader}
 use Rattle.rules.specs.Tree.{slots, noParent}
-use Rattle.rules.specs.Replay.{State, outcomesOf, parentsOf, replay, start, step}
+use Rattle.rules.specs.Replay.{State, ordered, outcomesOf, parentsOf, replay, start, step}
 use Rattle.rules.proofs.FileLaws.{counts-logOf}
-use Rattle.rules.proofs.StructureLaws.{laid-reads, structural-good, structural-laid}
-use Rattle.order.specs.Levels.{levels, nothing}
-use Rattle.order.proofs.LevelLaws.{Cut, ordered-levels}
-use Rattle.rules.proofs.CausalLaws.{le-within}
-use Rattle.oplog.specs.Places.{Held}
-use Rattle.oplog.proofs.FieldLaws.{counts-in}
+use Rattle.rules.proofs.StructureLaws.{laid-reads, structural-laid}
 use Rattle.oplog.proofs.HeaderLaws.{laid-header}
 use Rattle.effect.specs.Effects.{tables}
-use Rattle.replay.specs.Tables.{Replayable, ReplayableCut}
+use Rattle.schedule.specs.Schedule.{mostOps, schedule, scheduled}
+use Rattle.schedule.specs.Level.{SchedulableCut}
+use Rattle.schedule.proofs.OrderLaws.{count-is, entered, few-ops, noOp}
+use Rattle.replay.specs.Tables.{Along, ReplayableCut, appliedAlong, opAlong}
 use Rattle.oplog.proofs.HeldLaws.{whole-held, whole-closed}
 
 ---- clearing
@@ -37,41 +36,52 @@ module _ (i : ℕ) (t : List ℕ) (h : slots ≤ i) where
 
 ---- a cut, from cleared tables
 
--- a cut as the laws of the order want it
-cut-of : (w : ℕ) (f : List ℕ) (cut : Vector) → Held w f cut → closed (logOf w f) cut ≡ true → Cut (logOf w f) cut
-unfolding covered
-cut-of w f cut h c = record {
-  is-covered = le-within cut (countsOf (logOf w f)) (λ s l u. omega (arith, h .each s l u, counts-in w f s l u));
-  is-closed = c;
-}
-
 start-tables : tables (start .parents) (start .outcomes) (replicate slots 0) ≡ start
 unfolding start
 start-tables = refl
 
-module _ (w : ℕ) (f : List ℕ) (cut : Vector) (p₀ o₀ : List ℕ) (x : ReplayableCut w f cut p₀ o₀) (p o : List ℕ) (hp : p ≡ start .parents)
-    (ho : o ≡ start .outcomes) where
-  pub cut-asks : Replayable w f cut p o (replicate slots 0)
-  unfolding start
-  cut-asks = record {
+module _ (w : ℕ) (f : List ℕ) (cut : Vector) (p₀ o₀ : List ℕ) (x : ReplayableCut w f cut p₀ o₀) where
+  pub order-asks : SchedulableCut w f cut (replicate mostOps 0) (replicate mostOps 0)
+  order-asks = record {
     is-structural = x .is-structural;
     held = x .held;
-    sized = record { parents = rw hp; outcomes = rw (ho, length-replicate); placed = length-replicate {A = ℕ} slots 0 };
+    is-closed = x .is-closed;
+    order = length-replicate {A = ℕ} mostOps 0;
+    times = length-replicate {A = ℕ} mostOps 0;
   }
 
-  module _ (p′ o′ l′ : List ℕ)
-      (e : tables p′ o′ l′ ≡ foldl step (tables p o (replicate slots 0)) (levels slots (logOf w f) cut 1 nothing)) where
-    replayed : tables p′ o′ l′ ≡ replay (logOf w f) cut
-    unfolding replay
-    replayed =
-        let is = ordered-levels (logOf w f) (structural-good w f (x .is-structural)) cut (cut-of w f cut (x .held) (x .is-closed)) in
-        e ∙ rw (hp, ho, start-tables, is)
+  module _ (r₀ t₀ r t : List ℕ) (n : ℕ) (is : schedule r t n ≡ scheduled (logOf w f) cut r₀ t₀) (p o : List ℕ) (hp : p ≡ start .parents)
+      (ho : o ≡ start .outcomes) where
+    pub along-asks : length r ≡ mostOps → length t ≡ mostOps → Along w f r t 0 n p o (replicate slots 0)
+    unfolding start
+    along-asks lr lt =
+        let few = few-ops w f (x .is-structural) cut (x .held) (x .is-closed) in
+        let many = count-is w f cut r₀ t₀ r t n is in
+        record {
+          is-structural = x .is-structural;
+          order-long = omega (arith, few, many);
+          times-long = omega (arith, few, many);
+          in-slots = λ i h. entered w f cut r₀ t₀ r t n is (x .is-structural) (x .held) i h .in-slot;
+          sized = record { parents = rw hp; outcomes = rw (ho, length-replicate); placed = length-replicate {A = ℕ} slots 0 };
+        }
 
-    pub cut-parents : p′ ≡ replay (logOf w f) cut .parents
-    cut-parents = ap (λ (st : State). st .parents) replayed
+    module _ (p′ o′ l′ : List ℕ) (e : tables p′ o′ l′ ≡ appliedAlong (logOf w f) r t 0 n (tables p o (replicate slots 0))) where
+      replayed : tables p′ o′ l′ ≡ replay (logOf w f) cut
+      unfolding replay appliedAlong opAlong
+      replayed =
+          let xs = ordered (logOf w f) cut in
+          let m : n - 0 ≡ length xs = omega (arith, count-is w f cut r₀ t₀ r t n is) in
+          e ∙ rw (hp, ho, start-tables, m)
+          (fold-places step (opAlong (logOf w f) r t) noOp xs 0 start (λ i h.
+          let y = entered w f cut r₀ t₀ r t n is (x .is-structural) (x .held) i (omega arith) in
+          let z : 0 + i ≡ i = omega arith in
+          rw (z, y .op, y .time)))
 
-    pub cut-outcomes : o′ ≡ replay (logOf w f) cut .outcomes
-    cut-outcomes = ap (λ (st : State). st .outcomes) replayed
+      pub cut-parents : p′ ≡ replay (logOf w f) cut .parents
+      cut-parents = ap (λ (st : State). st .parents) replayed
+
+      pub cut-outcomes : o′ ≡ replay (logOf w f) cut .outcomes
+      cut-outcomes = ap (λ (st : State). st .outcomes) replayed
 
 ---- the cut at the held counts
 
@@ -106,4 +116,4 @@ pub ruleset fills = (fill-none, fill-more, cleared-parents, cleared-outcomes)
 
 pub ruleset wholes = (whole-header, whole-sound, whole-asks, whole-parents, whole-outcomes)
 
-pub ruleset cutting = (needs, fills, cut-asks, cut-parents, cut-outcomes, wholes)
+pub ruleset cutting = (needs, fills, order-asks, along-asks, cut-parents, cut-outcomes, wholes)

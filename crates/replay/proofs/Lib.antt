@@ -1,4 +1,2 @@
-pub mod ReadyLaws
-pub mod DueLaws
-pub mod TurnLaws
+pub mod AlongLaws
 pub mod CutLaws

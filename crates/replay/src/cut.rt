@@ -1,5 +1,7 @@
-use crate::level::replay_levels;
+use crate::along::apply_along;
 use oplog::counts_of;
+use schedule::OPS;
+use schedule::write_order;
 use tree::NO_PARENT;
 use tree::SLOTS;
 ghost use mathlib.Core.Path.{_≡_};
@@ -37,10 +39,23 @@ pub fn replay_cut(file: &[u8], cut: [u8; 8], parents: &mut [u16], outcomes: &mut
     ensures { λ _. ⌜ (now (parents .exit) ≡ replay (logOf width (now (file .entry))) cut .parents)
         × (now (outcomes .exit) ≡ replay (logOf width (now (file .entry))) cut .outcomes) ⌝ }
 {
+    let mut order = [0u16; OPS];
+    let mut times = [0u16; OPS];
+    let n = write_order(file, cut, &mut order, &mut times, width);
     let mut placed = [0u16; SLOTS];
     clear_parents(parents);
     clear_outcomes(outcomes);
-    replay_levels(file, cut, parents, outcomes, &mut placed, width);
+    apply_along(
+        file,
+        &order,
+        &times,
+        0,
+        n,
+        parents,
+        outcomes,
+        &mut placed,
+        width,
+    );
 }
 
 // Replays all ops of a structurally sound file.

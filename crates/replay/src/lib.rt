@@ -1,8 +1,8 @@
-// Replay (the document's judging) of the ops within a cut of a log, level by level, to the parent
-// table and the outcome table.
+// Replay (the document's judging) of the ops within a cut of a log to the parent table and the
+// outcome table: their order is written, and then they are applied along it.
+mod along;
 mod cut;
-mod level;
-mod ready;
 
+pub use along::apply_along;
 pub use cut::replay_all;
 pub use cut::replay_cut;

@@ -28,7 +28,8 @@ use Rattle.rules.specs.Tree.{noParent, parentIn, slots}
 use Rattle.rules.specs.Views.{nodes}
 use Rattle.lists.proofs.FilterLaws.{filter-map-filter, map-filter-concat, none-from}
 use Rattle.tree.proofs.SlotLaws.{node-nonzero, node-slot, seat-node, slot-node}
-use Rattle.order.proofs.TreePathLaws.{named-parent, table-size, whole}
+use Rattle.order.proofs.LevelLaws.{whole-cut}
+use Rattle.order.proofs.TreePathLaws.{named-parent, table-size}
 use Rattle.tree.specs.Slots.{slotNode}
 
 ops-nodes : (p : ℕ → Bool) (g : ℕ → ℕ) (rs : List Op) (n a : ℕ) → length rs ≤ n
@@ -123,8 +124,8 @@ module _ (log : Log) (good : GoodLog log) where
 
   pub unheld-parent : (k : ℕ) → 0 < k → k < slots → held k ≡ false → getD (parentsOf log) k 0 ≡ noParent
   unfolding parentsOf
-  unheld-parent k l u h = is-tree log good (countsOf log) (whole log good) .bare k l u (λ n e q.
-      let w : Known log (countsOf log) n = sym (added-is log good (countsOf log) (whole log good) n) ∙ e in
+  unheld-parent k l u h = is-tree log good (countsOf log) (whole-cut log good) .bare k l u (λ n e q.
+      let w : Known log (countsOf log) n = sym (added-is log good (countsOf log) (whole-cut log good) n) ∙ e in
       let m : slotNode k ≡ n = rw (← q) (node-slot n (named-valid log (countsOf log) n (inr w))) in
       never (sym (rw m at h) ∙ w))
 

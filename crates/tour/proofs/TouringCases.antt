@@ -71,7 +71,7 @@ tour-starts f n o a = record {
   few = omega arith;
   low = omega arith;
   high = omega arith;
-  left = rw (drop-replicate slots 0);
+  left = rw (drop-replicate 0 slots (suc slots));
   kept = refl;
 }
 

@@ -10,3 +10,6 @@ pub use slots::SLOTS;
 pub use slots::slot_in;
 pub use slots::slot_node;
 pub use slots::slot_of;
+pub use slots::slot_place;
+pub use slots::slot_replica;
+pub use slots::slot_sequence;

@@ -1,8 +1,10 @@
 use codec::widen16;
+use oplog::place;
 ghost use mathlib.Core.Path.{_≡_};
-ghost use Prim.Native.Nat.{_<_};
+ghost use Prim.Native.Nat.{_+_, _<_, _≤_};
+ghost use lib.ListN.{length};
 ghost use Rattle.rules.specs.Tree.{slots, slotOf};
-ghost use Rattle.tree.specs.Slots.{slotIn, slotNode};
+ghost use Rattle.tree.specs.Slots.{slotIn, slotNode, replicaIn, sequenceIn, InSlot, slotPlace};
 
 // How many slots a table has, and the parent entry of a slot without an added node.
 pub const SLOTS: usize = 2041;
@@ -30,6 +32,29 @@ pub fn slot_in(node: u16) -> usize
     0
 }
 
+// The replica and the sequence of the op that has a slot.
+pub fn slot_replica(slot: usize) -> usize
+    requires { ⌜ 1 ≤ slot ⌝ }
+    ensures { λ r. ⌜ r ≡ replicaIn slot ⌝ }
+{
+    (slot - 1) / 255 + 1
+}
+
+pub fn slot_sequence(slot: usize) -> usize
+    requires { ⌜ 1 ≤ slot ⌝ }
+    ensures { λ r. ⌜ r ≡ sequenceIn slot ⌝ }
+{
+    (slot - 1) % 255 + 1
+}
+
+// Where the op of a slot starts.
+pub fn slot_place(file: &[u8], slot: usize, width: usize) -> usize
+    requires { ⌜ InSlot width (now file) slot ⌝ }
+    ensures { λ r. ⌜ (r ≡ slotPlace width (now (file .entry)) slot) × (r + width ≤ length (now (file .entry))) ⌝ }
+{
+    place(file, slot_replica(slot), slot_sequence(slot), width)
+}
+
 // The node of a slot.
 pub fn slot_node(slot: usize) -> u16
     requires { ⌜ slot < slots ⌝ }
@@ -38,6 +63,5 @@ pub fn slot_node(slot: usize) -> u16
     if slot == 0 {
         return 0;
     }
-    let before = slot - 1;
-    (256 * (before / 255 + 1) + (before % 255 + 1)) as u16
+    (256 * slot_replica(slot) + slot_sequence(slot)) as u16
 }

@@ -19,7 +19,4 @@ apply-op-spec =
     (λ c. search effects)
     (λ c. search effects)
     (λ c. search effects)
-    (λ c. search effects)
-    (λ c. search effects)
-    (λ c. search effects)
     (λ c. search effects))

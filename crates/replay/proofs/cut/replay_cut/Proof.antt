@@ -7,8 +7,13 @@ pub replay-cut-spec : {M : Type 1} → statement M
 replay-cut-spec =
     tie.close
     (tie.spec
+    (λ c. search cutting)
+    (λ c. search cutting)
     (λ c κs. search cutting)
     (λ c κs. search cutting)
+    (λ c κs. search cutting)
+    (λ c. search cutting)
+    (λ c. search cutting)
     (λ c. search cutting)
     (λ c κs. search cutting)
     (λ c. search cutting)

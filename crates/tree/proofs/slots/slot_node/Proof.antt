@@ -8,10 +8,9 @@ slot-node-spec =
     tie.close
     (tie.spec
     (λ c. search slotting)
+    (λ c κs. search slotting)
     (λ c. search slotting)
-    (λ c. search slotting)
-    (λ c. search slotting)
-    (λ c. search slotting)
+    (λ c κs. search slotting)
     (λ c. search slotting)
     (λ c. search slotting)
     (λ c. search slotting))

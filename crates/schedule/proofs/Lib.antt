@@ -1,0 +1,4 @@
+pub mod ReadyLaws
+pub mod ClassLaws
+pub mod WritingLaws
+pub mod OrderLaws
