@@ -3,7 +3,7 @@ use Prim.Native.Nat.{ℕ}
 use Rattle.rules.specs.Answer.{Answer, refused, hadIt, done, accepted}
 use Rattle.codec.specs.declared.answer.Answer.the-variants.{Refused, HadIt, Done, Accepted}
 use Rattle.codec.specs.declared.answer.Refusal.{Refusal}
-use Rattle.codec.specs.declared.answer.Refusal.the-variants.{Unsound, Length, Malformed, Conflict, Early, NotClosed, Unknown, NoRoom, Exhausted, Cycle, Marked}
+use Rattle.codec.specs.declared.answer.Refusal.the-variants.{Unsound, Length, Malformed, Conflict, Early, NotClosed, Unknown, NoRoom, Exhausted, Cycle, Marked, BadBundle}
 use Rattle.codec.specs.declared.answer.Answer as code
 
 -- the document's number of each refusal
@@ -19,6 +19,7 @@ numberOf NoRoom = 8
 numberOf Exhausted = 9
 numberOf Cycle = 10
 numberOf Marked = 11
+numberOf BadBundle = 12
 
 -- what each answer says: a refusal by its number, and the number that an accepted call hands back
 abbrev pub answerOf : code.Answer → Answer

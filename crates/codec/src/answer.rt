@@ -26,6 +26,8 @@ pub enum Refusal {
     Cycle,
     // 11: the node or the parent of new work is marked.
     Marked,
+    // 12: a bundle that has no whole head, or disagrees with it.
+    BadBundle,
 }
 
 // What a call answers.
@@ -35,7 +37,7 @@ pub enum Answer {
     HadIt,
     // Judging is done.
     Done,
-    // The new file end, the entries of a path, or the bytes of a listing.
+    // The new file end, the entries of a path, or the bytes of a listing or a bundle.
     Accepted(usize),
 }
 

@@ -86,7 +86,7 @@ fn answer_read(file: &[u8], counts: [u8; 8], fields: Fields, op: &[u8]) -> Answe
 }
 
 // Delivers an op that reads to a sound log.
-fn deliver_read(buf: &mut [u8], fields: Fields, op: &[u8]) -> Answer
+pub fn deliver_read(buf: &mut [u8], fields: Fields, op: &[u8]) -> Answer
     requires { ⌜ Readable (now buf) (now op) fields ⌝ }
     ensures { λ r. ⌜ record { answer = answerOf r; buffer = now (buf .exit) }
         ≡ rules.deliver width (now (buf .entry)) (now (op .entry)) ⌝ }

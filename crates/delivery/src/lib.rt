@@ -5,3 +5,4 @@ mod delivering;
 pub use adding::accept;
 pub use adding::last_test;
 pub use delivering::deliver_next;
+pub use delivering::deliver_read;

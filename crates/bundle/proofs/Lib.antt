@@ -1,0 +1,4 @@
+pub mod BodyCases
+pub mod MakeCases
+pub mod CopyLaws
+pub mod OpenCases
