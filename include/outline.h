@@ -10,11 +10,13 @@
  * Words. A log lies at the front of a buffer that the caller lends: 32 bytes of
  * header, then 14 bytes for each op. A replica is a number from 1 to 8; it
  * issues at most 255 ops. An op adds, removes or moves a node. The root is node
- * 0; the node that is added by op q of replica s is node 256 * s + q.
+ * 0; the node that is added by op q of replica s is node 256 * s + q. A bundle
+ * has all ops of a log that another lacks, in one piece.
  *
  * Memory. Lent memory is a pointer and a length, in elements (bytes, or
  * two-byte entries where the pointer is to uint16_t). The pointer must be valid
- * for that length and aligned for its type; with length 0 it may be NULL. Two
+ * for that length and aligned for its type; with length 0 it may be NULL. The
+ * counts of outline_bundle_make have no length: they are always eight bytes. Two
  * pieces of memory that are lent to one call must not overlap, but for two that
  * are both only read. Nothing is kept after a call, nothing is allocated, and
  * there is no global state, so any number of threads may call at once with
@@ -25,11 +27,12 @@
  *
  * Answers. Every call but outline_is_sound and outline_version answers one
  * number.
- *   1 to 10   refused, for the reason below; all lent memory is unchanged
+ *   1 to 12   refused, for the reason below; all lent memory is unchanged
  *   128       OUTLINE_HAD_IT: the delivered op was there already; unchanged
  *   129       OUTLINE_DONE: judging is done
  *   256 ..    256 and a value: the end of the file, the entries of a path, the
- *             bytes of a listing, how many counts; see outline_value()
+ *             bytes of a listing or a bundle, how many counts; see
+ *             outline_value()
  * No other number is answered. The numbers up to 127 are kept for refusals and
  * those up to 255 for answers without a value.
  */
@@ -46,24 +49,25 @@ extern "C" {
 
 /* The version of this header; outline_version() answers that of the library. */
 #define OUTLINE_VERSION_MAJOR 0
-#define OUTLINE_VERSION_MINOR 2
+#define OUTLINE_VERSION_MINOR 3
 #define OUTLINE_VERSION_PATCH 0
-#define OUTLINE_VERSION_TEXT "0.2.0"
+#define OUTLINE_VERSION_TEXT "0.3.0"
 #define OUTLINE_VERSION \
     (10000 * OUTLINE_VERSION_MAJOR + 100 * OUTLINE_VERSION_MINOR + OUTLINE_VERSION_PATCH)
 
 /* Why a call is refused. */
-#define OUTLINE_UNSOUND 1    /* the buffer does not hold a sound log */
-#define OUTLINE_LENGTH 2     /* an op of not 14 bytes, or too little lent for an op or a table */
-#define OUTLINE_MALFORMED 3  /* no replica from 1 to 8, or an op out of form */
-#define OUTLINE_CONFLICT 4   /* another op of this replica and sequence is held */
-#define OUTLINE_EARLY 5      /* the op counts ops that are not held yet: deliver those first */
-#define OUTLINE_NOT_CLOSED 6 /* the op counts an op, but not all that this one counts */
-#define OUTLINE_UNKNOWN 7    /* a node that the op does not know, or a move of a node to itself */
-#define OUTLINE_NO_ROOM 8    /* the buffer, or what is lent for an answer, is too short */
-#define OUTLINE_EXHAUSTED 9  /* the replica has issued its 255 ops */
-#define OUTLINE_CYCLE 10     /* the new parent lies below the node */
-#define OUTLINE_MARKED 11    /* the parent of new work, or the node of a move, is removed */
+#define OUTLINE_UNSOUND 1     /* the buffer does not hold a sound log */
+#define OUTLINE_LENGTH 2      /* an op of not 14 bytes, or too little lent for an op or a table */
+#define OUTLINE_MALFORMED 3   /* no replica from 1 to 8, or an op out of form */
+#define OUTLINE_CONFLICT 4    /* another op of this replica and sequence is held */
+#define OUTLINE_EARLY 5       /* the op counts ops that are not held yet: deliver those first */
+#define OUTLINE_NOT_CLOSED 6  /* the op counts an op, but not all that this one counts */
+#define OUTLINE_UNKNOWN 7     /* a node that the op does not know, or a move of a node to itself */
+#define OUTLINE_NO_ROOM 8     /* the buffer, or what is lent for an answer, is too short */
+#define OUTLINE_EXHAUSTED 9   /* the replica has issued its 255 ops */
+#define OUTLINE_CYCLE 10      /* the new parent lies below the node */
+#define OUTLINE_MARKED 11     /* the parent of new work, or the node of a move, is removed */
+#define OUTLINE_BAD_BUNDLE 12 /* a bundle without a whole head, or that disagrees with its head */
 
 #define OUTLINE_HAD_IT 128
 #define OUTLINE_DONE 129
@@ -78,6 +82,7 @@ extern "C" {
 #define OUTLINE_TABLE 2041            /* entries of a table of outline_judge */
 #define OUTLINE_LONGEST_PATH 2041     /* entries of the longest path */
 #define OUTLINE_LONGEST_LISTING 24492 /* bytes that are enough for every listing */
+#define OUTLINE_LARGEST_BUNDLE 28569  /* bytes of the largest bundle */
 
 /* Kinds of ops. */
 #define OUTLINE_ADD 1
@@ -136,6 +141,35 @@ size_t outline_counts(const uint8_t *file, size_t file_len, uint8_t *out, size_t
  * In the order that outline_causal_order gives no op of a log is early.
  */
 size_t outline_deliver(uint8_t *buf, size_t buf_len, const uint8_t *op, size_t op_len);
+
+/*
+ * Makes a bundle for another replica: all ops of the log in a buffer beyond the
+ * eight counts that the other tells (outline_counts). A replica of which the
+ * other holds as many or more contributes nothing.
+ *   value n      the first n bytes of `out` are the bundle
+ *   1, 8         unsound; `out` too short
+ * Bytes past the first n keep their content. If refused, `out` is unchanged.
+ * The log is only read. OUTLINE_LARGEST_BUNDLE bytes always do.
+ */
+size_t outline_bundle_make(const uint8_t *file, size_t file_len, const uint8_t counts[8],
+                           uint8_t *out, size_t out_len);
+
+/*
+ * Opens a bundle at the log in a buffer: delivers its ops in turn. Those that
+ * are held already are passed by.
+ *   value end    accepted: the log has all ops of the bundle and ends at `end`
+ *   1, 12        unsound; a bundle without a whole head or with a count of 0,
+ *                or whose length or ops' replicas disagree with its head
+ *   3, 4, 5,     the number that outline_deliver answers for the first op that
+ *   6, 7, 8      is refused
+ * in this order. If accepted, the first `end` bytes are the log; bytes past them
+ * keep their content. If refused, the whole buffer is unchanged. The bundle is
+ * only read. A bundle that was made for counts which this log has reached or
+ * passed is accepted if the two logs agree on the ops that both hold and the
+ * buffer has room (OUTLINE_LARGEST bytes always do).
+ */
+size_t outline_bundle_open(uint8_t *buf, size_t buf_len, const uint8_t *bundle,
+                           size_t bundle_len);
 
 /*
  * Issues an add of a new node under a parent, which is 0 or a node of the log.
@@ -241,6 +275,7 @@ static inline const char *outline_text(size_t answer) {
     case OUTLINE_EXHAUSTED: return "the replica has issued its 255 ops";
     case OUTLINE_CYCLE: return "the new parent lies below the node";
     case OUTLINE_MARKED: return "the node or the parent is removed";
+    case OUTLINE_BAD_BUNDLE: return "a bundle that is not whole, or disagrees with its head";
     case OUTLINE_HAD_IT: return "the op was there already";
     case OUTLINE_DONE: return "done";
     default: return "no answer of this library";

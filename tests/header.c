@@ -18,6 +18,8 @@ static void expect_at(int line, const char *what, bool holds) {
 static uint8_t log_a[OUTLINE_LARGEST], log_b[OUTLINE_LARGEST];
 static uint16_t parents[OUTLINE_TABLE], path[OUTLINE_LONGEST_PATH], places[OUTLINE_MOST_OPS + 1];
 static uint8_t outcomes[OUTLINE_TABLE], text[OUTLINE_LONGEST_LISTING], op[OUTLINE_OP];
+static uint8_t bundle[OUTLINE_LARGEST_BUNDLE + 1];
+static const uint8_t nothing[OUTLINE_REPLICAS] = {0};
 
 static size_t add(uint8_t *log, uint8_t replica, uint16_t parent) {
     return outline_issue_add(log, OUTLINE_LARGEST, replica, parent, op, sizeof op);
@@ -31,6 +33,10 @@ static size_t deliver(uint8_t *log, const uint8_t *bytes) {
     return outline_deliver(log, OUTLINE_LARGEST, bytes, OUTLINE_OP);
 }
 
+static size_t open_bundle(uint8_t *log, size_t length) {
+    return outline_bundle_open(log, OUTLINE_LARGEST, bundle, length);
+}
+
 static void versions(void) {
     char said[32];
     snprintf(said, sizeof said, "%d.%d.%d", OUTLINE_VERSION_MAJOR, OUTLINE_VERSION_MINOR,
@@ -40,16 +46,16 @@ static void versions(void) {
 }
 
 static void numbers(void) {
-    EXPECT(OUTLINE_UNSOUND == 1 && OUTLINE_CYCLE == 10 && OUTLINE_MARKED == 11);
+    EXPECT(OUTLINE_UNSOUND == 1 && OUTLINE_MARKED == 11 && OUTLINE_BAD_BUNDLE == 12);
     EXPECT(OUTLINE_HAD_IT == 128 && OUTLINE_DONE == 129 && OUTLINE_VALUE == 256);
-    EXPECT(outline_refused(OUTLINE_UNSOUND) && outline_refused(OUTLINE_MARKED));
+    EXPECT(outline_refused(OUTLINE_UNSOUND) && outline_refused(OUTLINE_BAD_BUNDLE));
     EXPECT(!outline_refused(OUTLINE_HAD_IT) && !outline_refused(OUTLINE_DONE));
     EXPECT(!outline_refused(OUTLINE_VALUE));
-    EXPECT(outline_value(OUTLINE_MARKED) == 0 && outline_value(OUTLINE_DONE) == 0);
+    EXPECT(outline_value(OUTLINE_BAD_BUNDLE) == 0 && outline_value(OUTLINE_DONE) == 0);
     EXPECT(outline_value(VALUE(0)) == 0 && outline_value(VALUE(28592)) == 28592);
     const char *none = outline_text(0);
     for (size_t a = 0; a < 300; a++) {
-        bool named = (a >= 1 && a <= 11) || a == OUTLINE_HAD_IT || a == OUTLINE_DONE || a >= 256;
+        bool named = (a >= 1 && a <= 12) || a == OUTLINE_HAD_IT || a == OUTLINE_DONE || a >= 256;
         EXPECT(outline_text(a) != NULL && (strcmp(outline_text(a), none) != 0) == named);
         for (size_t b = 0; b < a && a <= OUTLINE_VALUE; b++)
             EXPECT(!named || strcmp(outline_text(a), outline_text(b)) != 0);
@@ -216,6 +222,54 @@ static void measures(void) {
     EXPECT(memcmp(text, "0 0 k\n1 1793 k\n", 15) == 0);
 }
 
+/* Bundles made with just enough lent; opened wholly, or with nothing changed. */
+static void bundles(void) {
+    static uint8_t before[OUTLINE_LARGEST];
+    uint8_t counts[OUTLINE_REPLICAS];
+    outline_make(log_a, sizeof log_a);
+    for (int i = 0; i < 2; i++) add(log_a, 1, 0);
+    memcpy(log_b, log_a, sizeof log_b);
+    move(log_a, 1, 258, 257);
+    move(log_b, 2, 257, 258);
+    deliver(log_a, op);
+    memset(bundle, 9, sizeof bundle);
+    EXPECT(outline_bundle_make(log_a, 87, nothing, bundle, sizeof bundle) == OUTLINE_UNSOUND);
+    EXPECT(outline_bundle_make(log_a, 88, nothing, bundle, 58) == OUTLINE_NO_ROOM);
+    EXPECT(bundle[0] == 9);
+    EXPECT(outline_bundle_make(log_a, 88, nothing, bundle, sizeof bundle) == VALUE(59));
+    EXPECT(memcmp(bundle, "\3\3\1\1\1\1\1", 7) == 0 && bundle[59] == 9);
+    EXPECT(memcmp(bundle + 31, op, sizeof op) == 0); /* 2:1 is judged before 1:3 */
+    /* Opened where three of the four are held, all, and none. */
+    EXPECT(open_bundle(log_b, 59) == VALUE(88) && memcmp(log_a, log_b, sizeof log_b) == 0);
+    EXPECT(open_bundle(log_b, 59) == VALUE(88));
+    outline_make(log_b, sizeof log_b);
+    EXPECT(outline_bundle_open(log_b, 88, bundle, 59) == VALUE(88));
+    EXPECT(memcmp(log_a, log_b, 88) == 0);
+    /* A last op without room, and one that is malformed: those before it are taken back. */
+    memset(log_b, 9, sizeof log_b);
+    outline_make(log_b, sizeof log_b);
+    memcpy(before, log_b, sizeof before);
+    EXPECT(outline_bundle_open(log_b, 87, bundle, 59) == OUTLINE_NO_ROOM);
+    bundle[45] = 5;
+    EXPECT(open_bundle(log_b, 59) == OUTLINE_MALFORMED);
+    /* No head, not a whole one, a count of 0, another length, another replica. */
+    for (size_t length = 0; length < 59; length++)
+        EXPECT(open_bundle(log_b, length) == OUTLINE_BAD_BUNDLE);
+    EXPECT(open_bundle(log_b, 60) == OUTLINE_BAD_BUNDLE);
+    EXPECT(outline_bundle_open(log_b, 31, bundle, 60) == OUTLINE_UNSOUND);
+    bundle[46] = 2;
+    EXPECT(open_bundle(log_b, 59) == OUTLINE_BAD_BUNDLE);
+    EXPECT(outline_bundle_open(log_b, sizeof log_b, nothing, 2) == OUTLINE_BAD_BUNDLE);
+    EXPECT(memcmp(before, log_b, sizeof log_b) == 0);
+    /* For what it has itself, and for one that is ahead: nothing. */
+    outline_counts(log_a, sizeof log_a, counts, sizeof counts);
+    EXPECT(outline_bundle_make(log_a, 88, counts, bundle, 1) == VALUE(1) && bundle[0] == 0);
+    counts[0] = 255;
+    EXPECT(outline_bundle_make(log_a, 88, counts, bundle, 0) == OUTLINE_NO_ROOM);
+    EXPECT(outline_bundle_make(log_a, 88, counts, bundle, 1) == VALUE(1) && bundle[0] == 0);
+    EXPECT(open_bundle(log_b, 1) == VALUE(32) && memcmp(before, log_b, sizeof log_b) == 0);
+}
+
 /* Length 0 with NULL. */
 static void nulls(void) {
     uint8_t *none = NULL;
@@ -224,6 +278,8 @@ static void nulls(void) {
     EXPECT(!outline_is_sound(none, 0) && outline_end(none, 0) == OUTLINE_UNSOUND);
     EXPECT(outline_counts(none, 0, none, 0) == OUTLINE_UNSOUND);
     EXPECT(outline_deliver(none, 0, none, 0) == OUTLINE_UNSOUND);
+    EXPECT(outline_bundle_make(none, 0, nothing, none, 0) == OUTLINE_UNSOUND);
+    EXPECT(outline_bundle_open(none, 0, none, 0) == OUTLINE_UNSOUND);
     EXPECT(outline_issue_add(none, 0, 1, 0, none, 0) == OUTLINE_UNSOUND);
     EXPECT(outline_issue_remove(none, 0, 1, 257, none, 0) == OUTLINE_UNSOUND);
     EXPECT(outline_issue_move(none, 0, 1, 257, 0, none, 0) == OUTLINE_UNSOUND);
@@ -237,6 +293,8 @@ static void nulls(void) {
     add(log_a, 1, 0);
     EXPECT(outline_counts(log_a, sizeof log_a, none, 0) == OUTLINE_NO_ROOM);
     EXPECT(outline_deliver(log_a, sizeof log_a, none, 0) == OUTLINE_LENGTH);
+    EXPECT(outline_bundle_make(log_a, sizeof log_a, nothing, none, 0) == OUTLINE_NO_ROOM);
+    EXPECT(outline_bundle_open(log_a, sizeof log_a, none, 0) == OUTLINE_BAD_BUNDLE);
     EXPECT(outline_issue_add(log_a, sizeof log_a, 1, 0, none, 0) == OUTLINE_LENGTH);
     EXPECT(outline_issue_remove(log_a, sizeof log_a, 1, 257, none, 0) == OUTLINE_LENGTH);
     EXPECT(outline_issue_move(log_a, sizeof log_a, 1, 257, 0, none, 0) == OUTLINE_LENGTH);
@@ -247,7 +305,7 @@ static void nulls(void) {
     EXPECT(outline_causal_order(log_a, sizeof log_a, no_entries, 0) == OUTLINE_NO_ROOM);
 }
 
-/* A full log, its replicas taking turns, is handed over in one pass; in file order it is not. */
+/* A full log, its replicas taking turns: one pass or bundle hands it over, file order does not. */
 static void handing_over(void) {
     size_t last = 0, accepted = 0, early = 0;
     outline_make(log_a, sizeof log_a);
@@ -275,6 +333,11 @@ static void handing_over(void) {
     for (size_t at = OUTLINE_HEADER; at < OUTLINE_LARGEST; at += OUTLINE_OP)
         early += deliver(log_b, log_a + at) == OUTLINE_EARLY;
     EXPECT(early > 0);
+    EXPECT(outline_bundle_make(log_a, sizeof log_a, nothing, bundle, sizeof bundle) ==
+           VALUE(OUTLINE_LARGEST_BUNDLE));
+    outline_make(log_b, sizeof log_b);
+    EXPECT(open_bundle(log_b, OUTLINE_LARGEST_BUNDLE) == VALUE(OUTLINE_LARGEST));
+    EXPECT(memcmp(log_a, log_b, sizeof log_a) == 0);
     EXPECT(outline_listing(log_a, sizeof log_a, false, text, sizeof text) ==
            outline_listing_size(log_a, sizeof log_a, false));
 }
@@ -288,6 +351,7 @@ int main(void) {
     removed();
     clashes();
     measures();
+    bundles();
     nulls();
     handing_over();
     if (failures == 0) puts("header: all as said");

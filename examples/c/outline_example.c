@@ -1,7 +1,7 @@
 /*
  * Two machines, each with a log of its own. One makes two headings and the
  * other gets them; then, apart, each moves a heading below the other's. They
- * meet, hand each other their ops, and hold the same file and the same tree.
+ * meet, hand each other a bundle, and hold the same file and the same tree.
  * Then one heading is removed, and takes no new work.
  */
 #include "outline.h"
@@ -54,23 +54,19 @@ static void take_away(struct machine *m, uint16_t node) {
 }
 
 /*
- * Hands over what one log has and another lacks, in an order in which no op is
- * early. Between machines the counts go one way and then the ops the other way.
+ * Hands over what one log has and another lacks, in one bundle. Between machines
+ * the counts go one way and then the bundle the other way.
  */
 static void hand_over(const struct machine *from, struct machine *to) {
-    static uint16_t places[OUTLINE_MOST_OPS];
+    static uint8_t bundle[OUTLINE_LARGEST_BUNDLE];
     uint8_t had[OUTLINE_REPLICAS];
     value_of(outline_counts(to->log, to->end, had, sizeof had));
-    size_t ops = value_of(outline_causal_order(from->log, from->end, places, OUTLINE_MOST_OPS));
-    for (size_t i = 0; i < ops; i++) {
-        const uint8_t *op = from->log + places[i];
-        uint8_t replica = outline_op_replica(op), sequence = outline_op_sequence(op);
-        if (sequence <= had[replica - 1]) continue;
-        size_t answer = outline_deliver(to->log, sizeof to->log, op, OUTLINE_OP);
-        printf("machine %d gets op %d of machine %d: %s\n", to->replica, sequence, replica,
-               outline_text(answer));
-        if (answer != OUTLINE_HAD_IT) to->end = value_of(answer);
-    }
+    size_t length =
+        value_of(outline_bundle_make(from->log, from->end, had, bundle, sizeof bundle));
+    size_t end = value_of(outline_bundle_open(to->log, sizeof to->log, bundle, length));
+    printf("machine %d opens a bundle of machine %d, of %zu bytes: %zu new\n", to->replica,
+           from->replica, length, (end - to->end) / OUTLINE_OP);
+    to->end = end;
 }
 
 static void show(const struct machine *m) {

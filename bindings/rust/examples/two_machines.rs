@@ -1,6 +1,6 @@
 //! Two machines, each with a log of its own. One makes two headings and the
 //! other gets them; then, apart, each moves a heading below the other's. They
-//! meet, hand each other their ops, and hold the same file and the same tree.
+//! meet, hand each other a bundle, and hold the same file and the same tree.
 //! Then one heading is removed, and takes no new work.
 
 use outline::{Kind, Log, Node, Outcome, Refusal, Replica, View};
@@ -34,19 +34,18 @@ impl Machine {
         }
     }
 
-    /// Gets what it lacks, as over a wire: it sends its counts, and ops come
-    /// back in an order in which none is early.
+    /// Gets what it lacks, as over a wire: it sends its counts, and a bundle of
+    /// all ops beyond them comes back.
     fn get_from(&mut self, other: &Machine) -> Result<(), Refusal> {
         let counts = self.log.vector();
-        for op in other.log.ops_beyond(&counts) {
-            let delivery = self.log.deliver(op.as_bytes())?;
-            println!(
-                "machine {} gets op {} of machine {}: {delivery:?}",
-                self.replica,
-                op.sequence(),
-                op.replica()
-            );
-        }
+        let bundle = other.log.bundle_for(&counts);
+        let new = self.log.open_bundle(&bundle)?;
+        println!(
+            "machine {} opens a bundle of machine {}, of {} bytes: {new} new",
+            self.replica,
+            other.replica,
+            bundle.as_bytes().len()
+        );
         Ok(())
     }
 

@@ -26,7 +26,8 @@ pub enum Refusal {
     NotClosed = 6,
     /// A node that is not known, or a move of a node to itself.
     Unknown = 7,
-    /// The buffer, or what is lent for a path or a listing, is too short.
+    /// The buffer, or what is lent for a path, a listing or a bundle, is too
+    /// short.
     NoRoom = 8,
     /// The replica has issued its 255 ops.
     Exhausted = 9,
@@ -34,6 +35,8 @@ pub enum Refusal {
     Cycle = 10,
     /// The parent of new work, or the node of a move, is removed.
     Marked = 11,
+    /// The bundle has no whole head, or does not agree with its head.
+    BadBundle = 12,
 }
 
 impl Refusal {
@@ -50,6 +53,7 @@ impl Refusal {
         Refusal::Exhausted,
         Refusal::Cycle,
         Refusal::Marked,
+        Refusal::BadBundle,
     ];
 
     /// The number by which the format's rules name it.
@@ -88,6 +92,7 @@ impl fmt::Display for Refusal {
             Refusal::Exhausted => "the replica has issued its 255 ops",
             Refusal::Cycle => "the new parent lies below the node",
             Refusal::Marked => "the node or the parent is removed",
+            Refusal::BadBundle => "the bundle is not whole, or does not agree with its head",
         })
     }
 }

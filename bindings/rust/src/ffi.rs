@@ -3,7 +3,7 @@
 //!
 //! Each call asks of its pointers what a slice of that length has, that memory
 //! which it may write overlaps no other, and nothing else. So a slice for every
-//! pointer and length is enough.
+//! pointer and length is enough, and an array for a pointer without a length.
 
 #![allow(unsafe_code)]
 
@@ -22,6 +22,19 @@ mod c {
         ) -> usize;
         pub fn outline_deliver(buf: *mut u8, buf_len: usize, op: *const u8, op_len: usize)
             -> usize;
+        pub fn outline_bundle_make(
+            file: *const u8,
+            file_len: usize,
+            counts: *const [u8; 8],
+            out: *mut u8,
+            out_len: usize,
+        ) -> usize;
+        pub fn outline_bundle_open(
+            buf: *mut u8,
+            buf_len: usize,
+            bundle: *const u8,
+            bundle_len: usize,
+        ) -> usize;
         pub fn outline_issue_add(
             buf: *mut u8,
             buf_len: usize,
@@ -103,6 +116,21 @@ pub fn deliver(buf: &mut [u8], op: &[u8]) -> Answer {
     let (op, op_len) = (op.as_ptr(), op.len());
     // SAFETY: pointers and lengths are those of slices, which do not overlap.
     Answer(unsafe { c::outline_deliver(buf.as_mut_ptr(), buf.len(), op, op_len) })
+}
+
+#[inline]
+pub fn bundle_make(file: &[u8], counts: &[u8; 8], out: &mut [u8]) -> Answer {
+    let (out, out_len) = (out.as_mut_ptr(), out.len());
+    // SAFETY: pointers and lengths are those of slices, which do not overlap, and
+    // the counts are eight.
+    Answer(unsafe { c::outline_bundle_make(file.as_ptr(), file.len(), counts, out, out_len) })
+}
+
+#[inline]
+pub fn bundle_open(buf: &mut [u8], bundle: &[u8]) -> Answer {
+    let (bundle, bundle_len) = (bundle.as_ptr(), bundle.len());
+    // SAFETY: pointers and lengths are those of slices, which do not overlap.
+    Answer(unsafe { c::outline_bundle_open(buf.as_mut_ptr(), buf.len(), bundle, bundle_len) })
 }
 
 #[inline]

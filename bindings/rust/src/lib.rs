@@ -41,9 +41,11 @@
 //! # Machines that meet
 //!
 //! Two logs in one place [`merge`](Log::merge). Over a wire, a machine sends the
-//! counts of what it [holds](Log::vector), gets the [ops beyond
-//! them](Log::ops_beyond), and [delivers](Log::deliver) them in the order in
-//! which they come: it is causal, and no op is refused as early.
+//! counts of what it [holds](Log::vector), gets a [bundle](Log::bundle_for) of
+//! all that it lacks, and [opens](Log::open_bundle) it: wholly, or not at all.
+//! One by one, the same are the [ops beyond](Log::ops_beyond) the counts, which
+//! are [delivered](Log::deliver) as they come: their order is causal, and no op
+//! is refused as early.
 //!
 //! ```
 //! use outline::{Log, Node, Outcome, Refusal, Replica};
@@ -58,10 +60,11 @@
 //! let lost = mine.move_to(me, b, a)?;
 //! yours.move_to(you, a, b)?;
 //!
-//! for op in mine.ops_beyond(&yours.vector()) {
-//!     yours.deliver(op)?;
+//! let bundle = mine.bundle_for(&yours.vector());
+//! yours.open_bundle(&bundle)?;
+//! for op in yours.ops_beyond(&mine.vector()) {
+//!     mine.deliver(op)?;
 //! }
-//! mine.merge(&yours)?;
 //! assert_eq!(mine, yours);
 //! assert_eq!(mine.tree().outcome(&lost), Some(Outcome::WouldCloseCircle));
 //! assert_eq!(mine.parent(a), Some(b));
@@ -78,8 +81,9 @@
 //! | [`Node`] | the id of a node of a movable tree |
 //! | [`Log::vector`] | the heads, the version vector |
 //! | [`Log::as_bytes`], [`Log::from_bytes`] | save and load, export and import of a snapshot |
-//! | [`Log::ops_beyond`] | the changes since some heads, the updates since a version vector |
-//! | [`Log::deliver`] | applying a change, importing an update; an early op is refused and not kept |
+//! | [`Log::bundle_for`], [`Log::open_bundle`] | export and import of the updates since a version vector |
+//! | [`Log::ops_beyond`] | the changes since some heads |
+//! | [`Log::deliver`] | applying a change; an early op is refused and not kept |
 //! | [`Log::merge`] | merging |
 //!
 //! # What is refused
@@ -105,6 +109,7 @@
 #![warn(missing_docs)]
 
 mod answer;
+mod bundle;
 mod ffi;
 mod log;
 mod node;
@@ -115,6 +120,7 @@ mod tree;
 mod view;
 
 pub use answer::{Delivery, Refusal};
+pub use bundle::Bundle;
 pub use log::{Log, Ops};
 pub use node::Node;
 pub use op::{Kind, Op};

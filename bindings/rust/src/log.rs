@@ -1,7 +1,7 @@
 //! A log that is always sound.
 
 use crate::plain::{self, HEADER, LARGEST, TABLE};
-use crate::{Children, Delivery, Descendants, Lines, Listing, Node, Op, Path};
+use crate::{Bundle, Children, Delivery, Descendants, Lines, Listing, Node, Op, Path};
 use crate::{Refusal, Replica, Tree, Vector, View};
 use core::fmt;
 use core::iter::FusedIterator;
@@ -80,7 +80,7 @@ impl Log {
     }
 
     /// How many ops of each replica it holds: what it tells others, so that
-    /// they hand it [what it lacks](Log::ops_beyond).
+    /// they hand it [what it lacks](Log::bundle_for).
     pub fn vector(&self) -> Vector {
         // The low bytes of the counts in the header; the high ones are 0.
         Vector::from(core::array::from_fn(|i| self.bytes[4 * i + 1]))
@@ -165,6 +165,63 @@ impl Log {
         plain::deliver(&mut self.bytes, op.as_ref())
     }
 
+    /// Makes a bundle of all ops that a log of this vector lacks, to be sent in
+    /// one piece and [opened](Log::open_bundle) there. Of a replica of which the
+    /// other holds as many ops, or more, there is nothing in it.
+    ///
+    /// ```
+    /// use outline::{Log, Node, Refusal, Replica};
+    /// let me = Replica::try_from(1)?;
+    /// let mut here = Log::new();
+    /// here.add(me, Node::ROOT)?;
+    /// let mut there = here.clone();
+    /// here.add(me, Node::ROOT)?;
+    /// here.add(me, Node::ROOT)?;
+    ///
+    /// // The other machine sends its eight counts, and gets a bundle of two ops.
+    /// let counts: [u8; 8] = there.vector().into();
+    /// let bundle = here.bundle_for(&counts.into());
+    /// assert_eq!(bundle.as_bytes().len(), 2 + 2 * 14);
+    /// assert_eq!(there.open_bundle(&bundle), Ok(2));
+    /// assert_eq!(here, there);
+    /// # Ok::<(), Refusal>(())
+    /// ```
+    pub fn bundle_for(&self, vector: &Vector) -> Bundle {
+        let counts = (*vector).into();
+        Bundle::new(|out| plain::bundle_make(self.as_bytes(), &counts, out).expect(ROOM))
+    }
+
+    /// Takes all ops of a bundle, and says how many were new; those that are
+    /// held already are passed by. A bundle that was made for a vector which
+    /// this log has reached or passed is never refused, if the two logs agree on
+    /// what both hold.
+    ///
+    /// # Errors
+    ///
+    /// [`Refusal::BadBundle`] if the bytes are no bundle; else what
+    /// [`deliver`](Log::deliver) answers for the first op that is refused. Not
+    /// one op has been taken then.
+    ///
+    /// ```
+    /// use outline::{Log, Node, Refusal, Replica, Vector};
+    /// let (me, mut here) = (Replica::try_from(1)?, Log::new());
+    /// here.add(me, Node::ROOT)?;
+    /// here.add(me, Node::ROOT)?;
+    /// let bundle = here.bundle_for(&Vector::default());
+    ///
+    /// let mut there = Log::new();
+    /// assert_eq!(there.open_bundle(&bundle), Ok(2));
+    /// assert_eq!(there.open_bundle(bundle.as_bytes()), Ok(0));
+    /// assert_eq!(there.open_bundle(b"?"), Err(Refusal::BadBundle));
+    /// assert_eq!(here, there);
+    /// # Ok::<(), Refusal>(())
+    /// ```
+    pub fn open_bundle(&mut self, bundle: impl AsRef<[u8]>) -> Result<usize, Refusal> {
+        let before = self.len();
+        plain::bundle_open(&mut self.bytes, bundle.as_ref())?;
+        Ok(self.len() - before)
+    }
+
     /// Takes all ops that another log holds and this one lacks, and says how
     /// many these were. After both have merged the other they are equal.
     ///
@@ -188,14 +245,8 @@ impl Log {
         if !self.agrees_with(other) {
             return Err(Refusal::Conflict);
         }
-        // Logs that agree take each other's ops in causal order: none is
-        // refused.
-        let missing = other.ops_beyond(&self.vector());
-        let count = missing.len();
-        for op in missing {
-            self.deliver(op)?;
-        }
-        Ok(count)
+        // The bundle for a log that agrees opens wholly.
+        self.open_bundle(other.bundle_for(&self.vector()))
     }
 
     /// Whether no replica and sequence stands for two different ops.

@@ -48,6 +48,8 @@ pub const LARGEST: usize = 28_592;
 pub const LONGEST_PATH: usize = 2041;
 /// Bytes that are enough for every listing.
 pub const LONGEST_LISTING: usize = 24_492;
+/// Bytes of the largest bundle.
+pub const LARGEST_BUNDLE: usize = 28_569;
 /// The root of the tree.
 pub const ROOT: u16 = 0;
 /// The parent entry of a slot without a node, in a table of [`judge`].
@@ -179,6 +181,67 @@ pub fn counts(file: &[u8]) -> Result<[u8; Replica::COUNT], Refusal> {
 #[inline]
 pub fn deliver(buf: &mut [u8], op: &[u8]) -> Result<Delivery, Refusal> {
     ffi::deliver(buf, op).delivery()
+}
+
+/// Makes a bundle of all ops of a log beyond another's counts, for the log that
+/// told them, and answers how many bytes that are.
+///
+/// A replica of which the other holds as many ops, or more, contributes nothing.
+///
+/// # Errors
+///
+/// [`Unsound`](Refusal::Unsound), then [`NoRoom`](Refusal::NoRoom).
+///
+/// ```
+/// use outline::{plain, Refusal};
+/// let mut buf = [0; 60];
+/// let mut op = [0; plain::OP];
+/// plain::make(&mut buf)?;
+/// plain::issue_add(&mut buf, 1, plain::ROOT, &mut op)?;
+/// plain::issue_add(&mut buf, 1, plain::ROOT, &mut op)?;
+/// let mut bundle = [9; 20];
+/// let other = [1, 0, 0, 0, 0, 0, 0, 0];
+/// assert_eq!(plain::bundle_make(&buf, &other, &mut bundle), Ok(16));
+/// assert_eq!(bundle[..2], [0b1, 1]);
+/// assert_eq!(bundle[2..16], op);
+/// assert_eq!(plain::bundle_make(&buf, &[0; 8], &mut bundle), Err(Refusal::NoRoom));
+/// # Ok::<(), Refusal>(())
+/// ```
+#[inline]
+pub fn bundle_make(
+    file: &[u8],
+    counts: &[u8; Replica::COUNT],
+    out: &mut [u8],
+) -> Result<usize, Refusal> {
+    ffi::bundle_make(file, counts, out).value()
+}
+
+/// Opens a bundle at the log in a buffer: delivers its ops in turn, and answers
+/// where the log ends with them. Ops that are held already are passed by.
+///
+/// # Errors
+///
+/// [`Unsound`](Refusal::Unsound), then [`BadBundle`](Refusal::BadBundle), then
+/// what [`deliver`] answers for the first op that is refused. No byte of the
+/// buffer has changed then.
+///
+/// ```
+/// use outline::{plain, Refusal};
+/// let (mut one, mut two) = ([0; 60], [0; 60]);
+/// plain::make(&mut one)?;
+/// plain::make(&mut two)?;
+/// plain::issue_add(&mut one, 1, plain::ROOT, &mut [0; plain::OP])?;
+/// plain::issue_add(&mut one, 1, plain::ROOT, &mut [0; plain::OP])?;
+/// let mut bundle = [0; plain::LARGEST_BUNDLE];
+/// let length = plain::bundle_make(&one, &plain::counts(&two)?, &mut bundle)?;
+/// assert_eq!(plain::bundle_open(&mut two, &bundle[..length]), Ok(60));
+/// assert_eq!(one, two);
+/// assert_eq!(plain::bundle_open(&mut two, &[]), Err(Refusal::BadBundle));
+/// # Ok::<(), Refusal>(())
+/// ```
+#[inline]
+pub fn bundle_open(buf: &mut [u8], bundle: &[u8]) -> Result<usize, Refusal> {
+    ffi::bundle_open(buf, bundle).value()
 }
 
 /// Issues an add of a new node under a parent, the root or a node of the log.

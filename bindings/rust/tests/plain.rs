@@ -110,6 +110,46 @@ fn removed_nodes_take_no_new_work() {
 }
 
 #[test]
+fn bundles() {
+    let buf = two_nodes();
+    let mut out = [7; 40];
+    let nothing = [0; 8];
+    assert_eq!(
+        plain::bundle_make(&buf[..59], &nothing, &mut out),
+        Err(Refusal::Unsound)
+    );
+    assert_eq!(
+        plain::bundle_make(&buf, &nothing, &mut out[..29]),
+        Err(Refusal::NoRoom)
+    );
+    assert_eq!(out, [7; 40]);
+    assert_eq!(plain::bundle_make(&buf, &nothing, &mut out), Ok(30));
+    assert_eq!(out[..2], [1, 2]);
+    assert_eq!(out[2..30], buf[32..60]);
+    assert_eq!(out[30..], [7; 10]);
+
+    let mut other = empty(70);
+    let before = other.clone();
+    assert_eq!(
+        plain::bundle_open(&mut other[..31], &out[..30]),
+        Err(Refusal::Unsound)
+    );
+    assert_eq!(
+        plain::bundle_open(&mut other, &out[..31]),
+        Err(Refusal::BadBundle)
+    );
+    assert_eq!(
+        plain::bundle_open(&mut other[..59], &out[..30]),
+        Err(Refusal::NoRoom)
+    );
+    assert_eq!(other, before);
+    assert_eq!(plain::bundle_open(&mut other, &out[..30]), Ok(60));
+    assert_eq!(other[..60], buf[..60]);
+    assert_eq!(other[60..], [0xa5; 10]);
+    assert_eq!(plain::bundle_open(&mut other[..60], &out[..30]), Ok(60));
+}
+
+#[test]
 fn exhausted() {
     let mut buf = empty(plain::LARGEST);
     let mut op = [0; 14];

@@ -12,9 +12,12 @@ use Rattle.rules.specs.Path.{pathAnswer, pathOf, pathCall}
 use Rattle.rules.proofs.DeliverLaws.{admitted, required, accepted-same}
 use Rattle.rules.proofs.IssueLaws.{allowed}
 use Rattle.rules.proofs.SoundLaws.{sound-laid}
+use Rattle.rules.proofs.TurnLaws.{turns-end, turns-length, turns-sound}
 use Rattle.order.proofs.TourLaws.{sound-listing}
 use Rattle.rules.specs.Answer.{Answer, refused, hadIt, done, accepted}
+use Rattle.rules.specs.Bundle.{bodiesIn, bundleAnswer, bundleCall, bundleOf, openAnswer, turnsAnswer, turnsBuffer}
 use Rattle.rules.specs.Deliver.{makeAnswer, deliverAnswer}
+use Rattle.rules.specs.Op.{Vector}
 use Rattle.rules.specs.Issue.{Request, issueAnswer}
 use Rattle.rules.specs.Judge.{judge, judgeAnswer}
 use borrow.Author.Tests.{leb-true}
@@ -89,6 +92,26 @@ unfolding countsCall countsAnswer
 counts-fits f out =
     fits-if (countsAnswer width f (length out))
     (λ m e. omega (arith, accepted-same 8 m (required _ _ _ m (required _ _ _ m e .1) .1)))
+
+pub bundle-fits : (f : List ℕ) (v : Vector) (out : List ℕ) → length out ≤ 9223372036854775807 → fits (bundleCall width f v out .answer)
+unfolding bundleCall bundleAnswer
+bundle-fits f v out h =
+    fits-if (bundleAnswer width f v (length out))
+    (λ m e.
+    let c = required _ _ _ m (required _ _ _ m e .1) in
+    let room : length (bundleOf (logOf width f) v) ≤ length out = leb-true _ _ (c .0) in
+    omega (arith, room, accepted-same _ m (c .1)))
+
+pub open-fits : (f b : List ℕ) → length f ≤ 9223372036854775807 → fits (openAnswer width f b)
+unfolding openAnswer
+open-fits f b h =
+    fits-if (openAnswer width f b)
+    (λ m e.
+    let ops = bodiesIn width b in
+    let c = required _ _ _ m e in
+    let t : turnsAnswer width f ops ≡ accepted m = required _ _ _ m (c .1) .1 in
+    let inside = sound-laid width (turnsBuffer width f ops) (turns-sound width ops f (c .0)) .fits in
+    omega (arith, inside, turns-end width ops f m t, turns-length width ops f))
 
 -- an answer that fits and accepts a value
 pub value-fits : (a : Answer) (n : ℕ) → a ≡ accepted n → fits a → n ≤ 9223372036854775807

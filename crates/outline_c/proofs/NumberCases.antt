@@ -8,7 +8,9 @@ use Rattle.codec.specs.Answers.{answerOf, numberOf}
 use Rattle.codec.specs.declared.answer.Answer.the-variants.{Refused, HadIt, Done, Accepted}
 use Rattle.codec.specs.declared.answer.Refusal.{Refusal}
 use Rattle.rules.specs.Answer.{Answer}
+use Rattle.rules.specs.Bundle.{bundleCall, openBundle}
 use Rattle.rules.specs.Deliver.{Result, make, deliver}
+use Rattle.rules.specs.Op.{Vector}
 use Rattle.rules.specs.Issue.{Issued, Request, issue}
 use Rattle.rules.specs.Judge.{Judgement, judge}
 use Rattle.rules.specs.Listing.{listing, listingSize}
@@ -19,7 +21,7 @@ use Rattle.rules.specs.Views.{View}
 use Rattle.outline_c.specs.Number.{number, ofResult, ofIssued, ofJudgement, ofWritten}
 use Rattle.outline_c.specs.Fits.{fits}
 use Rattle.outline_c.proofs.FitLaws.{make-fits, deliver-fits, issue-fits, judge-fits, path-fits, listing-fits}
-use Rattle.outline_c.proofs.FitLaws.{size-fits, end-fits, counts-fits, value-fits}
+use Rattle.outline_c.proofs.FitLaws.{size-fits, end-fits, counts-fits, bundle-fits, open-fits, value-fits}
 use Rattle.codec.specs.declared.answer.Answer as code
 
 ---- the number of an answer
@@ -107,6 +109,15 @@ module _ (a : Answer) where
 
   pub counted-fits : (f out o : List ℕ) → record { answer = a; out = o } ≡ countsCall width f out → fits a
   counted-fits f out o e = rw (ap (λ (x : Written). x .answer) e) (counts-fits f out)
+
+  pub bundled-fits :
+      (f : List ℕ) (v : Vector) (out o : List ℕ) → record { answer = a; out = o } ≡ bundleCall width f v out →
+      length out ≤ 9223372036854775807 → fits a
+  bundled-fits f v out o e h = rw (ap (λ (x : Written). x .answer) e) (bundle-fits f v out h)
+
+  pub opened-fits :
+      (f bundle b : List ℕ) → record { answer = a; buffer = b } ≡ openBundle width f bundle → length f ≤ 9223372036854775807 → fits a
+  opened-fits f bundle b e h = rw (ap (λ (x : Result). x .answer) e) (open-fits f bundle h)
 
 ---- what the code of numbers needs: search numbering
 pub ruleset answers = (refused-number, had-it-number, done-number, accepted-number, accepted-fits)

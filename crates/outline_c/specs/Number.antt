@@ -29,9 +29,9 @@ ofJudgement x = (number (x .answer), x .parents, x .outcomes)
 abbrev pub ofWritten : Written → ℕ × List ℕ
 ofWritten x = (number (x .answer), x .out)
 
--- 0.2.0, as 10000 * major + 100 * minor + patch
+-- 0.3.0, as 10000 * major + 100 * minor + patch
 abbrev pub version : ℕ
-version = 200
+version = 300
 
 -- the view that a caller asks for
 unfoldable pub viewFor : Bool → View

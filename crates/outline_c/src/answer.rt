@@ -21,6 +21,7 @@ fn refusal_number(why: Refusal) -> usize
         Refusal::Exhausted => 9,
         Refusal::Cycle => 10,
         Refusal::Marked => 11,
+        Refusal::BadBundle => 12,
     }
 }
 

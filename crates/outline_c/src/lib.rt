@@ -1,8 +1,11 @@
 // The calls of the library for programs in other languages: each answers one number, and lent
 // memory is a pointer and a length. include/outline.h declares them for C.
 mod answer;
+mod bundles;
 mod calls;
 
+pub use bundles::outline_bundle_make;
+pub use bundles::outline_bundle_open;
 pub use calls::outline_counts;
 pub use calls::outline_deliver;
 pub use calls::outline_end;
