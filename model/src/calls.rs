@@ -22,7 +22,7 @@ pub fn deliver(buffer: &mut [u8], op: &[u8]) -> Answer {
     answer(try_deliver(buffer, op))
 }
 
-fn try_deliver(buffer: &mut [u8], bytes: &[u8]) -> Result<Answer, u8> {
+pub(crate) fn try_deliver(buffer: &mut [u8], bytes: &[u8]) -> Result<Answer, u8> {
     let log = open(buffer)?;
     let op = Op::read(bytes)?;
     if let Some(held) = log.get(op.index(), op.sequence()) {

@@ -1,5 +1,6 @@
 //! The cases of the vectors, section by section. All are deterministic.
 
+mod bundle;
 pub mod damage;
 mod deliver;
 pub mod examples;
@@ -51,6 +52,10 @@ impl Script {
         self.push(Case::Deliver(op.to_vec()))
     }
 
+    pub fn open(&mut self, bundle: &[u8]) -> &str {
+        self.push(Case::OpenBundle(bundle.to_vec()))
+    }
+
     pub fn buffer(&self) -> &[u8] {
         &self.machine.buffer
     }
@@ -62,6 +67,7 @@ impl Script {
             "judge" => judge::write(self),
             "issue" => issue::write(self),
             "view" => view::write(self),
+            "bundle" => bundle::write(self),
             _ => return false,
         }
         true

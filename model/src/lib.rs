@@ -5,6 +5,7 @@
 
 #![forbid(unsafe_code)]
 
+pub mod bundle;
 pub mod calls;
 pub mod cases;
 pub mod log;
@@ -14,6 +15,7 @@ pub mod script;
 pub mod tree;
 pub mod view;
 
+pub use bundle::{make_bundle, open_bundle};
 pub use calls::{
     deliver, file_end, held_counts, is_sound, issue_add, issue_move, issue_remove, judge, make,
 };
@@ -31,7 +33,8 @@ pub enum Answer {
     HadIt,
     /// Judging is done.
     Done,
-    /// Entries of a path, bytes of a listing or of a file, or how many counts.
+    /// Entries of a path, bytes of a listing, of a file or of a bundle, or how
+    /// many counts.
     Count(usize),
     /// Refused with this number; nothing changed.
     Refused(u8),
@@ -50,4 +53,5 @@ pub mod refusal {
     pub const REPLICA_FULL: u8 = 9;
     pub const BELOW_ITSELF: u8 = 10;
     pub const MARKED: u8 = 11;
+    pub const BUNDLE: u8 = 12;
 }

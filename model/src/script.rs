@@ -2,7 +2,8 @@
 //! The grammar is in README.md.
 
 use crate::{
-    deliver, issue_add, issue_move, issue_remove, judge, listing, make, outline, path, Answer, View,
+    deliver, issue_add, issue_move, issue_remove, judge, listing, make, make_bundle, open_bundle,
+    outline, path, Answer, Vector, View,
 };
 
 /// Limits of the grammar.
@@ -11,6 +12,7 @@ pub const MAX_BUFFER: usize = 40_000;
 pub const MAX_TABLE: u16 = 2_100;
 pub const MAX_LISTING: u16 = 24_000;
 pub const MAX_RECORD: u8 = 40;
+pub const MAX_BUNDLE: u16 = 28_600;
 
 /// Bytes with at most this length are printed in full.
 const SHORT: usize = 64;
@@ -32,6 +34,8 @@ pub enum Case {
     Listing(View, u16),
     Outline,
     Resize(u16),
+    MakeBundle(Vector, u16),
+    OpenBundle(Vec<u8>),
 }
 
 impl Case {
@@ -65,6 +69,11 @@ impl Case {
             }
             Case::Outline => start(&mut line, 0x09, &[]),
             Case::Resize(length) => numbers(&mut line, 0x0a, &[*length]),
+            Case::MakeBundle(counts, room) => {
+                start(&mut line, 0x0b, counts);
+                line.extend(room.to_be_bytes());
+            }
+            Case::OpenBundle(bundle) => start(&mut line, 0x0c, bundle),
         }
         line
     }
@@ -84,6 +93,7 @@ impl Case {
                 Case::Path(_, room) => *room <= MAX_TABLE,
                 Case::Listing(_, room) => *room <= MAX_LISTING,
                 Case::Resize(length) => usize::from(*length) <= MAX_BUFFER,
+                Case::MakeBundle(_, room) => *room <= MAX_BUNDLE,
                 _ => true,
             }
     }
@@ -148,6 +158,10 @@ impl Machine {
             }
             Case::Listing(view, room) => with_bytes(*room, |out| listing(buffer, *view, out)),
             Case::Outline => ("o".into(), vec![outline(buffer)]),
+            Case::MakeBundle(counts, room) => {
+                with_bytes(*room, |out| make_bundle(buffer, *counts, out))
+            }
+            Case::OpenBundle(bundle) => (text(open_bundle(buffer, bundle)), vec![]),
         }
     }
 }

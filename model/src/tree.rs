@@ -96,7 +96,7 @@ fn op_slot(op: &Op) -> usize {
 }
 
 /// Ops with their timestamps, in the order of judging.
-fn judging_order(log: &Log) -> Vec<(usize, &Op)> {
+pub(crate) fn judging_order(log: &Log) -> Vec<(usize, &Op)> {
     let timestamps = timestamps(log);
     let mut order: Vec<(usize, &Op)> = log.ops().map(|op| (timestamps[op_slot(op)], op)).collect();
     // The higher replica comes first.

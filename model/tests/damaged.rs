@@ -17,6 +17,18 @@ fn every_call(buffer: &[u8], op: &[u8], node: u16) {
     for issue in [Issue::Add(node), Issue::Remove(node), Issue::Move(node, 0)] {
         agrees(issue_checked(&mut buffer.to_vec(), 1, issue).0);
     }
+    let bundles = [
+        vec![],
+        vec![0],
+        [&[1, 1], op].concat(),
+        [&[64, 1], op].concat(),
+    ];
+    for bundle in bundles {
+        agrees(open_checked(&mut buffer.to_vec(), &bundle));
+    }
+    for room in [0, 100, 1000] {
+        agrees(bundle_in(buffer, [0, 1, 0, 1, 0, 1, 0, 255], room).0);
+    }
     agrees(judge_in(buffer, 2041, 2041).0);
     agrees(path_in(buffer, node, 30).0);
     agrees(listing_in(buffer, View::Keeping, 400).0);

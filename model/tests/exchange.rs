@@ -28,6 +28,9 @@ struct Tally {
     marked: usize,
     /// Deliveries of adds and moves that name a node with a mark here.
     unmet: usize,
+    /// Bundles that were opened, and that were refused.
+    opened: usize,
+    shut: usize,
 }
 
 impl Side {
@@ -58,6 +61,24 @@ impl Side {
             self.tally.unmet += usize::from(marked);
             self.held.push(op.to_vec());
         }
+    }
+
+    /// Opening joins the list with the ops of the bundle that it lacks.
+    fn open(&mut self, bundle: &[u8]) {
+        if !matches!(open_checked(&mut self.buffer, bundle), Accepted(_)) {
+            self.tally.shut += 1;
+            return;
+        }
+        self.tally.opened += 1;
+        for op in bundled(bundle) {
+            if !self.held.contains(&op) {
+                self.held.push(op);
+            }
+        }
+    }
+
+    fn counts(&self) -> Vector {
+        std::array::from_fn(|index| self.count(index as u8 + 1) as u8)
     }
 
     /// Whether a remove of the node is held.
@@ -125,7 +146,8 @@ impl Meeting {
             0 => self.sides[at].make(),
             1..=3 => self.refused(rng, at),
             4..=25 => self.issue(rng, at),
-            26..=35 => self.meet(rng, at),
+            26..=30 => self.meet(rng, at),
+            31..=35 => self.meet_by_bundle(rng, at),
             _ if self.issued.is_empty() => {}
             36 => {
                 let issued = &self.issued[rng.below(self.issued.len())];
@@ -171,6 +193,23 @@ impl Meeting {
         for op in self.sides[from].held.clone() {
             self.sides[at].deliver(&op);
         }
+    }
+
+    /// One side opens what another has beyond its counts, be these true, older
+    /// or any; now and then the bundle is damaged on its way.
+    fn meet_by_bundle(&mut self, rng: &mut Rng, at: usize) {
+        let from = rng.below(self.sides.len());
+        let counts = self.sides[at].counts();
+        let counts = match rng.below(4) {
+            0 => counts.map(|count| rng.below(usize::from(count) + 1) as u8),
+            1 => std::array::from_fn(|_| rng.below(6) as u8),
+            _ => counts,
+        };
+        let mut bundle = bundle_checked(&self.sides[from].buffer, counts);
+        if rng.one_in(6) {
+            bundle = damage::record(rng, &bundle);
+        }
+        self.sides[at].open(&bundle);
     }
 }
 
@@ -283,6 +322,8 @@ fn random_lists_then_rounds() {
             all.removes += tally.removes;
             all.marked += tally.marked;
             all.unmet += tally.unmet;
+            all.opened += tally.opened;
+            all.shut += tally.shut;
         }
         for i in 0..meeting.sides.len() {
             for j in 0..i {
@@ -302,6 +343,7 @@ fn random_lists_then_rounds() {
     assert!(all.adds > 1000 && all.moves > 1000, "{all:?}");
     assert!(all.removes > 300 && all.marked > 300, "{all:?}");
     assert!(all.unmet > 300, "{all:?}");
+    assert!(all.opened > 1000 && all.shut > 300, "{all:?}");
 }
 
 /// Parts of one large world, as two sides came to hold them.

@@ -182,6 +182,66 @@ fn judging_views_and_paths() {
     assert!(seen[2] > 300 && seen[3] > 300, "{seen:?}");
 }
 
+/// The bodies beyond the counts, the one to be judged next first.
+fn bundle(bodies: &[Body], counts: &[u8]) -> Vec<u8> {
+    let stamps = timestamps(bodies);
+    let lacks = |body: &Body| own(body).1 > usize::from(counts[own(body).0 - 1]);
+    let mut left: Vec<usize> = (0..bodies.len()).filter(|&i| lacks(&bodies[i])).collect();
+    let mut head = vec![0];
+    for replica in 1..=8 {
+        let count = left.iter().filter(|&&i| own(&bodies[i]).0 == replica);
+        match count.count() {
+            0 => {}
+            count => {
+                head[0] += 2u8.pow(replica as u32 - 1);
+                head.push(count as u8);
+            }
+        }
+    }
+    // Whether one is judged before another.
+    let before = |i: usize, j: usize| {
+        stamps[i] < stamps[j]
+            || stamps[i] == stamps[j] && bodies[i][0] < bodies[j][0]
+            || stamps[i] == stamps[j] && bodies[i][0] == bodies[j][0] && bodies[i][1] > bodies[j][1]
+    };
+    while !left.is_empty() {
+        let first = |&i: &usize| left.iter().all(|&j| j == i || before(i, j));
+        let next = left.iter().copied().find(first).expect("a first one");
+        head.extend(&bodies[next]);
+        left.retain(|&i| i != next);
+    }
+    head
+}
+
+#[test]
+fn bundles() {
+    let mut lengths = 0;
+    for seed in 0..400 {
+        let rng = &mut Rng::new(1300 + seed);
+        let style = rng.pick(&[
+            world::Style::mixed as fn(usize, usize) -> world::Style,
+            world::Style::moves,
+        ]);
+        let style = style(1 + rng.below(8), rng.below(60));
+        let ops = world::World::random(rng, style).ops;
+        let file = file_of(&ops);
+        let bodies = bodies(&file);
+        let held = log_of(&ops).held();
+        for _ in 0..6 {
+            let counts = match rng.below(4) {
+                0 => [0; 8],
+                1 => held.map(|count| count.wrapping_add(rng.byte() % 3).wrapping_sub(1)),
+                2 => std::array::from_fn(|_| rng.below(12) as u8),
+                _ => held.map(|count| rng.below(usize::from(count) + 1) as u8),
+            };
+            let expected = bundle(&bodies, &counts);
+            assert_eq!(bundle_checked(&file, counts), expected);
+            lengths += expected.len();
+        }
+    }
+    assert!(lengths > 400_000, "{lengths}");
+}
+
 /// What is known of a node in a context, by all ops within it.
 fn knowledge(context: &[u8], node: u16, body: &dyn Fn(usize, usize) -> Body) -> Knowledge {
     let count = |replica: usize| usize::from(context[replica - 1]);

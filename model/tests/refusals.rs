@@ -25,6 +25,12 @@ fn assert_unsound(buffer: &[u8]) {
             assert_eq!(issue_in(&mut buffer, replica, issue, room).0, Refused(1));
         }
     }
+    for bundle in [&[][..], &[0], &[1, 1]] {
+        assert_eq!(open_checked(&mut buffer, bundle), Refused(1));
+    }
+    for room in [0, 1] {
+        assert_eq!(bundle_in(&buffer, [255; 8], room).0, Refused(1));
+    }
     for (parents, outcomes) in [(2041, 2041), (0, 2041), (2041, 0)] {
         assert_eq!(judge_in(&buffer, parents, outcomes).0, Refused(1));
     }

@@ -4,7 +4,7 @@ use outline_model::cases::Script;
 use outline_model::script::{Case, Machine};
 use outline_model::View;
 
-const SECTIONS: [&str; 4] = ["deliver", "judge", "issue", "view"];
+const SECTIONS: [&str; 5] = ["deliver", "judge", "issue", "view", "bundle"];
 
 fn section(name: &str) -> Script {
     let mut script = Script::default();
@@ -25,6 +25,9 @@ fn lines_by_hand() {
     assert_eq!(judged, "r 1 66566 000102 61662 eeee 61662 eeee");
     assert_eq!(run(Case::Add(1, 0, 1)), "r 1 66566 000102 239 ee");
     assert!(run(Case::Outline).ends_with(" 7265667573656420310a"));
+    let made = run(Case::MakeBundle([0; 8], 1));
+    assert_eq!(made, "r 1 66566 000102 239 ee");
+    assert_eq!(run(Case::OpenBundle(vec![0])), "r 1 66566 000102");
 }
 
 #[test]
@@ -42,6 +45,12 @@ fn case_bytes() {
         (Case::Listing(View::Skipping, 1), "08010001"),
         (Case::Outline, "09"),
         (Case::Resize(40_000), "0a9c40"),
+        (
+            Case::MakeBundle([1, 2, 3, 4, 5, 6, 7, 255], 28_600),
+            "0b01020304050607ff6fb8",
+        ),
+        (Case::OpenBundle(vec![]), "0c"),
+        (Case::OpenBundle(vec![1, 2]), "0c0102"),
     ];
     for (case, line) in cases {
         assert_eq!(case.line(), line);
@@ -56,10 +65,10 @@ fn sections_are_of_good_size_and_repeat() {
         assert_eq!(script.cases, section(name).cases);
         assert_eq!(script.cases.len(), script.answers.len());
         let bytes: usize = script.cases.iter().map(|line| line.len() + 1).sum();
-        let most = if name == "deliver" {
-            1_500_000
-        } else {
-            1_000_000
+        let most = match name {
+            "deliver" => 1_500_000,
+            "bundle" => 400_000,
+            _ => 1_000_000,
         };
         assert!(bytes < most && script.cases.len() > 1000);
         assert!(script.cases.iter().all(|line| line.len() <= 80_000));
@@ -96,6 +105,31 @@ fn sections_reach_every_answer() {
         "view",
         &["r 1 ", "r 7 ", "r 8 ", "a 22638 ", "a 2041 ", "o "],
     );
+    let owned = refusals(&[1, 3, 4, 5, 6, 7, 8, 12]);
+    let mut bundle: Vec<&str> = owned.iter().map(String::as_str).collect();
+    bundle.extend(["a 1 ", "a 28569 ", "a 32 ", "a 28592 "]);
+    reaches("bundle", &bundle);
+}
+
+/// The calls of bundles alone: there are enough of each answer.
+#[test]
+fn bundles_reach_every_answer_often() {
+    let script = section("bundle");
+    let count = |call: &str, answer: &str| {
+        let lines = script.cases.iter().zip(&script.answers);
+        let both =
+            |(case, line): &(&String, &String)| case.starts_with(call) && line.starts_with(answer);
+        lines.filter(both).count()
+    };
+    for (answer, least) in [("a ", 200), ("r 1 ", 30), ("r 8 ", 30)] {
+        assert!(count("0b", answer) > least, "making: {answer}");
+        assert!(count("0c", answer) > least, "opening: {answer}");
+    }
+    for number in [3, 4, 5, 6, 7, 12] {
+        let answer = format!("r {number} ");
+        assert!(count("0c", &answer) > 20, "opening: {answer}");
+        assert_eq!(count("0b", &answer), 0);
+    }
 }
 
 #[test]

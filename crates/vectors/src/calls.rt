@@ -25,6 +25,7 @@ fn refused(why: Refusal) {
         Refusal::Exhausted => text(b"9"),
         Refusal::Cycle => text(b"10"),
         Refusal::Marked => text(b"11"),
+        Refusal::BadBundle => text(b"12"),
     }
 }
 
@@ -191,6 +192,43 @@ fn listing(file: &[u8], line: &[u8]) {
     listing_part(file, line[1] != 0, &mut out, n);
 }
 
+fn bundle_into(file: &[u8], counts: [u8; 8], out: &mut [u8]) {
+    answered(bundle::make(file, counts, out));
+    memory(file);
+    memory(out);
+}
+
+fn bundle_part(file: &[u8], counts: [u8; 8], out: &mut [u8], n: usize) {
+    if out.len() < n {
+        return;
+    }
+    bundle_into(file, counts, &mut out[..n]);
+}
+
+fn make_bundle(file: &[u8], line: &[u8]) {
+    if line.len() < 11 {
+        return;
+    }
+    let mut out = [238u8; 28600];
+    let counts = [
+        line[1],
+        line[2],
+        line[3],
+        line[4],
+        line[5],
+        line[6],
+        line[7],
+        line[8],
+    ];
+    let n = widen16(word_at(line, 9));
+    bundle_part(file, counts, &mut out, n);
+}
+
+fn open_bundle(buf: &mut [u8], bytes: &[u8]) {
+    answered(bundle::open(buf, bytes));
+    memory(buf);
+}
+
 // What the program `outline` prints for the buffer.
 fn outline(input: &[u8]) {
     let mut out = [0u8; LONGEST];
@@ -255,7 +293,15 @@ fn dispatch(call: u8, line: &[u8], lent: &mut [u8]) {
             outline(lent);
             return;
         }
-        0 | 10..=255 => {
+        11 => {
+            make_bundle(lent, line);
+            return;
+        }
+        12 => {
+            open_bundle(lent, &line[1..]);
+            return;
+        }
+        0 | 10 | 13..=255 => {
             text(b"l");
             memory(lent);
             return;

@@ -2,6 +2,7 @@
 //! docs/PERFORMANCE.md.
 
 mod callgrind;
+mod meeting;
 mod pick;
 mod report;
 mod work;

@@ -1,6 +1,7 @@
 //! What is measured: every call on logs of each shape and size.
 
 use crate::callgrind;
+use crate::meeting::{hand_over, Meeting};
 use crate::pick::{last, names};
 use outline::plain;
 use outline_bench::careful;
@@ -72,11 +73,19 @@ pub enum Call {
     Path,
     Keeping,
     Skipping,
+    /// A bundle of all ops of a log.
+    BundleMake,
+    /// The same opened at an empty log.
+    BundleOpen,
     /// All ops of a log delivered to an empty one, in causal order.
     Exchange,
+    /// Two logs that meet by one bundle each way.
+    Bundles,
+    /// The same two op by op, in causal order.
+    OpByOp,
 }
 
-pub const CALLS: [Call; 10] = [
+pub const CALLS: [Call; 14] = [
     Call::Make,
     Call::Deliver,
     Call::Add,
@@ -86,7 +95,11 @@ pub const CALLS: [Call; 10] = [
     Call::Path,
     Call::Keeping,
     Call::Skipping,
+    Call::BundleMake,
+    Call::BundleOpen,
     Call::Exchange,
+    Call::Bundles,
+    Call::OpByOp,
 ];
 
 impl Call {
@@ -101,7 +114,11 @@ impl Call {
             Call::Path => "path",
             Call::Keeping => "listing, keeping",
             Call::Skipping => "listing, skipping",
+            Call::BundleMake => "bundle_make",
+            Call::BundleOpen => "bundle_open",
             Call::Exchange => "a whole exchange",
+            Call::Bundles => "two logs meet, by bundles",
+            Call::OpByOp => "two logs meet, op by op",
         }
     }
 
@@ -110,9 +127,14 @@ impl Call {
         matches!(self, Call::Deliver | Call::Add | Call::Remove | Call::Move)
     }
 
-    /// Whether the call changes the buffer.
-    fn changes(self) -> bool {
-        self.adds() || self == Call::Exchange
+    /// Whether the call fills an empty log.
+    fn fills(self) -> bool {
+        matches!(self, Call::BundleOpen | Call::Exchange)
+    }
+
+    /// Whether two logs meet.
+    fn meets(self) -> bool {
+        matches!(self, Call::Bundles | Call::OpByOp)
     }
 }
 
@@ -127,8 +149,9 @@ pub struct Work {
     call: Call,
     file: Vec<u8>,
     buffer: Vec<u8>,
-    /// What an exchange hands over.
+    /// What an exchange or a bundle hands over.
     offered: Vec<u8>,
+    meeting: Meeting,
     op: Vec<u8>,
     replica: u8,
     node: u16,
@@ -150,10 +173,14 @@ impl Work {
         }
         let log = examples::log_of(&ops);
         let mut file = log.bytes();
-        let offered = file.clone();
-        if call == Call::Exchange {
+        let offered = match call {
+            Call::BundleOpen => examples::bundle_for(&file, [0; REPLICAS]),
+            _ => file.clone(),
+        };
+        if call.fills() {
+            let length = file.len();
             file = examples::file_of(&[]);
-            file.resize(offered.len(), 0);
+            file.resize(length, 0);
         }
         file.resize((file.len() + OP_LEN).min(MAX_FILE), 0);
         let counts = log.held();
@@ -164,13 +191,18 @@ impl Work {
             buffer: file.clone(),
             file,
             offered,
+            meeting: if call.meets() {
+                Meeting::new(size)
+            } else {
+                Meeting::default()
+            },
             op,
             replica: replica as u8 + 1,
             node,
             parent,
             out: vec![0; OP_LEN],
             words: vec![0; SLOTS],
-            bytes: vec![0; plain::LONGEST_LISTING],
+            bytes: vec![0; plain::LARGEST_BUNDLE],
         }
     }
 
@@ -178,8 +210,11 @@ impl Work {
     /// accepted.
     #[inline]
     pub fn once(&mut self, side: Side) -> bool {
-        if self.call.changes() {
+        if self.call.adds() || self.call.fills() {
             self.buffer.copy_from_slice(&self.file);
+        }
+        if self.call.meets() {
+            self.meeting.part();
         }
         let buffer = black_box(&mut self.buffer[..]);
         match (self.call, side) {
@@ -233,13 +268,21 @@ impl Work {
             (Call::Skipping, Side::Rust) => {
                 accepted(|| careful::listing(buffer, View::Skipping, &mut self.bytes))
             }
-            (Call::Exchange, Side::Library) => callgrind::count(|| {
-                outline::Log::from_bytes(&self.offered).is_ok_and(|from| {
-                    let mut ops = from.ops();
-                    ops.all(|op| plain::deliver(buffer, op.as_bytes()).is_ok())
-                })
+            (Call::BundleMake, Side::Library) => callgrind::count(|| {
+                plain::bundle_make(buffer, &[0; REPLICAS], &mut self.bytes).is_ok()
             }),
-            (Call::Exchange, Side::Rust) => accepted(|| careful::exchange(&self.offered, buffer)),
+            (Call::BundleMake, Side::Rust) => {
+                accepted(|| careful::make_bundle(buffer, [0; REPLICAS], &mut self.bytes))
+            }
+            (Call::BundleOpen, Side::Library) => {
+                callgrind::count(|| plain::bundle_open(buffer, &self.offered).is_ok())
+            }
+            (Call::BundleOpen, Side::Rust) => {
+                accepted(|| careful::open_bundle(buffer, &self.offered))
+            }
+            (Call::Exchange, _) => callgrind::count(|| hand_over(&self.offered, buffer, side)),
+            (Call::Bundles, _) => callgrind::count(|| self.meeting.by_bundles(side)),
+            (Call::OpByOp, _) => callgrind::count(|| self.meeting.op_by_op(side)),
         }
     }
 
@@ -254,6 +297,7 @@ impl Work {
             left.push((
                 accepted,
                 self.buffer.clone(),
+                self.meeting.buffers.clone(),
                 self.out.clone(),
                 self.words.clone(),
                 self.bytes.clone(),
@@ -278,6 +322,7 @@ pub fn all() -> impl Iterator<Item = (Call, Shape, usize)> {
             let some = move |&size: &usize| match (call, shape) {
                 (Call::Make, _) => shape == Shape::Flat && size == 0,
                 (Call::Exchange, _) => shape == Shape::Interleaved && size > 0,
+                (Call::Bundles | Call::OpByOp, _) => shape == Shape::Random && size == 1000,
                 (_, Shape::Interleaved) => false,
                 _ => size > 0 || shape == Shape::Flat,
             };

@@ -1,10 +1,10 @@
 //! The measured Rust answers and leaves behind what the model does.
 
 use outline_bench::careful;
-use outline_model::cases::world::{full, Style, World};
+use outline_model::cases::world::{full, part, Style, World};
 use outline_model::cases::{damage, examples};
 use outline_model::rng::Rng;
-use outline_model::{Answer, Op, View, MAX_FILE, SLOTS};
+use outline_model::{Answer, Op, Vector, View, MAX_FILE, SLOTS};
 
 fn both<T: Clone + PartialEq + std::fmt::Debug, U: Clone + PartialEq + std::fmt::Debug>(
     one: &[T],
@@ -87,6 +87,18 @@ fn all_calls(rng: &mut Rng, buffer: &[u8], ops: &[Op]) {
         |p, o| careful::judge(buffer, p, o),
         |p, o| outline_model::judge(buffer, p, o),
     );
+    for bundle in [
+        vec![],
+        vec![0],
+        examples::bundle_of(&ops[..ops.len().min(9)]),
+    ] {
+        open(buffer, &bundle);
+    }
+    make(
+        buffer,
+        counts_near(rng, [3; 8]),
+        rng.pick(&[0, 1, 300, 30_000]),
+    );
     for view in [View::Keeping, View::Skipping] {
         let text = vec![7u8; rng.pick(&[24_492, 100, 20, 0])];
         both(
@@ -95,6 +107,40 @@ fn all_calls(rng: &mut Rng, buffer: &[u8], ops: &[Op]) {
             |b, o| careful::listing(b, view, o),
             |b, o| outline_model::listing(b, view, o),
         );
+    }
+}
+
+fn make(file: &[u8], counts: Vector, room: usize) {
+    both(
+        file,
+        &vec![7u8; room],
+        |f, o| careful::make_bundle(f, counts, o),
+        |f, o| outline_model::make_bundle(f, counts, o),
+    );
+}
+
+/// Opens at both, and hands the answer back.
+fn open(buffer: &[u8], bundle: &[u8]) -> Answer {
+    let mut answer = Answer::Done;
+    both(
+        buffer,
+        bundle,
+        |b, o| careful::open_bundle(b, o),
+        |b, o| {
+            answer = outline_model::open_bundle(b, o);
+            answer
+        },
+    );
+    answer
+}
+
+/// A bit more or less than these, or any below them.
+fn counts_near(rng: &mut Rng, counts: Vector) -> Vector {
+    match rng.below(4) {
+        0 => counts,
+        1 => [0; 8],
+        2 => counts.map(|count| count.saturating_add(rng.byte() % 3)),
+        _ => counts.map(|count| rng.below(usize::from(count) + 1) as u8),
     }
 }
 
@@ -178,6 +224,103 @@ fn exchanges() {
     }
     let unsound = Answer::Refused(outline_model::refusal::UNSOUND);
     assert_eq!(careful::exchange(&[], &mut [0; 40]), unsound);
+}
+
+/// Bundles for counts that are reached and others, made with more and less lent
+/// than they need, and opened as made, in another order and damaged.
+#[test]
+fn bundles() {
+    let mut rng = Rng::new(4);
+    let mut seen = [0; 13];
+    for round in 0..3000 {
+        let style = [Style::moves, Style::mixed][round % 2](1 + round % 8, rng.below(50));
+        let world = World::random(&mut rng, style).ops;
+        let lost = rng.pick(&[5, 20, 60]);
+        let (from, to) = (part(&mut rng, &world, lost), part(&mut rng, &world, lost));
+        let counts = counts_near(&mut rng, examples::log_of(&to).held());
+        let file = examples::file_of(&from);
+        let mut bundle = examples::bundle_for(&file, counts);
+        let length = bundle.len();
+        for room in [0, length - 1, length, length + 9] {
+            make(&file, counts, room);
+        }
+        let mut ops = from;
+        match rng.below(8) {
+            0 => {
+                rng.shuffle(&mut ops);
+                ops.truncate(8);
+                bundle = examples::bundle_of(&ops);
+            }
+            1..=3 => bundle = damage::record(&mut rng, &bundle),
+            // A count of a vector, where there is one.
+            4 if length > 14 => bundle[length - 1 - round % 8] ^= 1,
+            _ => {}
+        }
+        let mut room = 14 * (world.len() - to.len());
+        if rng.one_in(4) {
+            room = rng.below(room + 1);
+        }
+        let mut buffer = examples::file_of(&to);
+        buffer.resize(buffer.len() + room, 9);
+        match open(&buffer, &bundle) {
+            Answer::Refused(number) => seen[usize::from(number)] += 1,
+            _ => seen[0] += 1,
+        }
+    }
+    for number in [0, 3, 4, 5, 6, 7, 8, 12] {
+        assert!(seen[number] > 10, "{seen:?}");
+    }
+}
+
+/// Every byte of a bundle changed, and every length.
+#[test]
+fn damaged_bundles() {
+    for ops in examples::small_logs() {
+        let half = part(&mut Rng::new(5), &ops, 3);
+        let counts = examples::log_of(&half).held();
+        let bundle = examples::bundle_for(&examples::file_of(&ops), counts);
+        let mut buffer = examples::file_of(&half);
+        buffer.resize(buffer.len() + 14 * ops.len(), 9);
+        for damaged in damage::changed(&bundle).chain(damage::cut(&bundle)) {
+            open(&buffer, &damaged);
+            open(&buffer, &[damaged, vec![1]].concat());
+        }
+    }
+    // Any head with any number of bytes behind it.
+    let buffer = examples::file_of(&[]);
+    for bits in 0..=255 {
+        for rest in 0..=9 {
+            for count in [0, 1, 255] {
+                open(&buffer, &[vec![bits], vec![count; rest]].concat());
+            }
+        }
+    }
+}
+
+#[test]
+fn large_bundles() {
+    let mut rng = Rng::new(6);
+    for ops in [
+        full(&mut rng, Style::moves),
+        full(&mut rng, Style::mixed),
+        examples::longest_chain(),
+    ] {
+        let file = examples::file_of(&ops);
+        for room in [28_569, 28_568, 28_600] {
+            make(&file, [0; 8], room);
+        }
+        let held = [0, 1000, 2000, 2040].map(|held| &ops[..held]);
+        for held in held {
+            let counts = examples::log_of(held).held();
+            let bundle = examples::bundle_for(&file, counts);
+            make(&file, counts, bundle.len());
+            let mut buffer = examples::file_of(held);
+            buffer.resize(MAX_FILE, 9);
+            assert_eq!(open(&buffer, &bundle), Answer::Accepted(MAX_FILE));
+            buffer.pop();
+            open(&buffer, &bundle);
+        }
+    }
 }
 
 /// Every count of every vector, one more and one less.

@@ -3,7 +3,7 @@
 use crate::lent::{Guards, Lent};
 use crate::raw;
 use outline::{plain, Delivery, Refusal};
-use outline_model::{Answer, View};
+use outline_model::{Answer, Vector, View};
 
 #[derive(Clone, Debug)]
 pub enum Call {
@@ -45,9 +45,14 @@ pub enum Call {
     Counts {
         room: usize,
     },
+    BundleMake {
+        counts: Vector,
+        room: usize,
+    },
+    BundleOpen(Vec<u8>),
 }
 
-pub const NAMES: [&str; 12] = [
+pub const NAMES: [&str; 14] = [
     "make",
     "deliver",
     "issue_add",
@@ -60,6 +65,8 @@ pub const NAMES: [&str; 12] = [
     "is_sound",
     "end",
     "counts",
+    "bundle_make",
+    "bundle_open",
 ];
 
 impl Call {
@@ -78,6 +85,8 @@ impl Call {
             Call::IsSound => 9,
             Call::End => 10,
             Call::Counts { .. } => 11,
+            Call::BundleMake { .. } => 12,
+            Call::BundleOpen(_) => 13,
         }
     }
 }
@@ -118,6 +127,8 @@ pub trait Side {
     fn is_sound(file: &[u8]) -> Outcome;
     fn end(file: &[u8]) -> Outcome;
     fn counts(file: &[u8], out: &mut [u8]) -> Outcome;
+    fn bundle_make(file: &[u8], counts: &Vector, out: &mut [u8]) -> Outcome;
+    fn bundle_open(buf: &mut [u8], bundle: &[u8]) -> Outcome;
 }
 
 pub struct Library;
@@ -198,6 +209,14 @@ impl Side for Library {
     fn counts(file: &[u8], out: &mut [u8]) -> Outcome {
         numbered(raw::counts(file, out))
     }
+
+    fn bundle_make(file: &[u8], counts: &Vector, out: &mut [u8]) -> Outcome {
+        value(plain::bundle_make(file, counts, out))
+    }
+
+    fn bundle_open(buf: &mut [u8], bundle: &[u8]) -> Outcome {
+        value(plain::bundle_open(buf, bundle))
+    }
 }
 
 impl From<Answer> for Outcome {
@@ -258,6 +277,14 @@ impl Side for Model {
 
     fn counts(file: &[u8], out: &mut [u8]) -> Outcome {
         outline_model::held_counts(file, out).into()
+    }
+
+    fn bundle_make(file: &[u8], counts: &Vector, out: &mut [u8]) -> Outcome {
+        outline_model::make_bundle(file, *counts, out).into()
+    }
+
+    fn bundle_open(buf: &mut [u8], bundle: &[u8]) -> Outcome {
+        outline_model::open_bundle(buf, bundle).into()
     }
 }
 
@@ -346,6 +373,18 @@ pub fn run<S: Side>(call: &Call, buffer: &mut Lent<u8>, guards: Guards, salt: us
         Call::Counts { room } => {
             bytes.push(lender.bytes(room));
             S::counts(buf, bytes[0].get_mut())
+        }
+        Call::BundleMake { ref counts, room } => {
+            let counts = lender.copy(counts);
+            let eight = counts.get().try_into().expect("as many as were lent");
+            let mut out = lender.bytes(room);
+            let outcome = S::bundle_make(buf, eight, out.get_mut());
+            bytes.extend([counts, out]);
+            outcome
+        }
+        Call::BundleOpen(ref bundle) => {
+            bytes.push(lender.copy(bundle));
+            S::bundle_open(buf, bytes[0].get())
         }
     };
     After {

@@ -1,10 +1,11 @@
 //! What is called: files, sound and damaged, short and full, and calls on them.
 
 use crate::call::Call;
-use outline_model::cases::world::{full, Style, World};
+use outline::plain::LARGEST_BUNDLE;
+use outline_model::cases::world::{full, part, Style, World};
 use outline_model::cases::{damage, examples};
 use outline_model::rng::Rng;
-use outline_model::{Kind, Op, View, MAX_FILE, SLOTS};
+use outline_model::{Kind, Log, Op, Vector, View, MAX_FILE, OP_LEN, SLOTS};
 
 /// A buffer with a log at its front, and ops to call it with.
 pub struct Input {
@@ -146,8 +147,9 @@ impl Input {
         20 + rng.below(60)
     }
 
-    pub fn call(&self, rng: &mut Rng) -> Call {
-        match rng.below(100) {
+    /// A call on the buffer as the calls before have left it.
+    pub fn call(&self, rng: &mut Rng, buffer: &[u8]) -> Call {
+        match rng.below(112) {
             0 => Call::Make,
             1..=35 => Call::Deliver(self.record(rng)),
             36 => Call::IsSound,
@@ -184,6 +186,8 @@ impl Input {
                     rng.below(9)
                 },
             },
+            91..=95 => bundle_make(rng, buffer),
+            96..=102 => Call::BundleOpen(self.bundle(rng, buffer)),
             _ => Call::Listing {
                 view: view(rng),
                 room: if self.is_large() || rng.one_in(4) {
@@ -222,6 +226,47 @@ impl Input {
         op.bytes().to_vec()
     }
 
+    /// A bundle to open: made by the model for the buffer's counts or others, or
+    /// of ops in any order, or noise; some are damaged. The model takes as long
+    /// for an op of a bundle as for a delivery, so few have many ops.
+    fn bundle(&self, rng: &mut Rng, buffer: &[u8]) -> Vec<u8> {
+        let bundle = match rng.below(16) {
+            0 => (0..rng.below(60)).map(|_| rng.byte()).collect(),
+            1 => examples::bundle_of(&self.some(rng)),
+            2..=4 => {
+                let count = 1 + rng.below(4);
+                let records: Vec<Vec<u8>> = (0..count).map(|_| self.record(rng)).collect();
+                examples::bundle_with(&bodies(&records))
+            }
+            5 => examples::bundle_for(buffer, some_counts(rng, buffer)),
+            _ => {
+                let more = (1 + rng.below(14)).min(self.ops.len() - self.held);
+                let mut ops = self.ops[..self.held + more].to_vec();
+                if rng.one_in(4) {
+                    ops = part(rng, &ops, 200);
+                }
+                // Where there is nothing new, at least something that is held.
+                let counts = match more {
+                    0 => less(rng, held(buffer)),
+                    _ => some_counts(rng, buffer),
+                };
+                examples::bundle_for(&examples::file_of(&ops), counts)
+            }
+        };
+        match rng.below(5) {
+            0 if !bundle.is_empty() => damage::record(rng, &bundle),
+            _ => bundle,
+        }
+    }
+
+    /// Some ops of the world, each once or more, in any order.
+    fn some(&self, rng: &mut Rng) -> Vec<Op> {
+        if self.ops.is_empty() {
+            return vec![];
+        }
+        (0..rng.below(9)).map(|_| rng.pick(&self.ops)).collect()
+    }
+
     /// A node number: mostly one of the world.
     fn node(&self, rng: &mut Rng) -> u16 {
         if rng.one_in(8) {
@@ -233,6 +278,59 @@ impl Input {
         }
         rng.pick(&self.ops).node
     }
+}
+
+/// Those that can stand in a bundle: 14 bytes, and one of the replicas.
+fn bodies(records: &[Vec<u8>]) -> Vec<[u8; OP_LEN]> {
+    let body = |record: &Vec<u8>| record[..].try_into().ok();
+    let right = |body: &[u8; OP_LEN]| (1..=8).contains(&body[1]);
+    records.iter().filter_map(body).filter(right).collect()
+}
+
+/// Counts to make a bundle for that is opened at this buffer: true ones, a bit
+/// less, which has ops that are held, or a bit more; rarely any below.
+fn some_counts(rng: &mut Rng, buffer: &[u8]) -> Vector {
+    let held = held(buffer);
+    let is_large = held.iter().any(|&count| count > 40);
+    match rng.below(8) {
+        0 if !is_large || rng.one_in(8) => below(rng, held),
+        1 if !is_large || rng.one_in(20) => [0; 8],
+        2 => held.map(|count| count.saturating_add(rng.byte() % 2)),
+        3 | 4 => less(rng, held),
+        _ => held,
+    }
+}
+
+fn held(buffer: &[u8]) -> Vector {
+    Log::open(buffer).map_or([0; 8], |log| log.held())
+}
+
+fn less(rng: &mut Rng, counts: Vector) -> Vector {
+    counts.map(|count| count.saturating_sub(rng.byte() % 3))
+}
+
+/// Any counts up to these.
+fn below(rng: &mut Rng, counts: Vector) -> Vector {
+    counts.map(|count| rng.below(usize::from(count) + 1) as u8)
+}
+
+/// With exactly enough lent, or a bit less or more, or anything.
+fn bundle_make(rng: &mut Rng, buffer: &[u8]) -> Call {
+    let counts = match rng.below(6) {
+        0 => std::array::from_fn(|_| rng.byte()),
+        1 => [0; 8],
+        2 => below(rng, [255; 8]),
+        _ => some_counts(rng, buffer),
+    };
+    let length = examples::bundle_for(buffer, counts).len();
+    let room = match rng.below(8) {
+        0 => rng.below(100),
+        1 => length.saturating_sub(1 + rng.below(20)),
+        2 => LARGEST_BUNDLE + rng.below(40),
+        3 | 4 => length + rng.below(40),
+        _ => length,
+    };
+    Call::BundleMake { counts, room }
 }
 
 fn view(rng: &mut Rng) -> View {

@@ -54,7 +54,7 @@ fn number(word: &str) -> Result<u64, String> {
 /// How often each call gave each answer: refusals by number, had it, done, a value.
 #[derive(Default)]
 struct Tally {
-    counts: [[u64; 15]; NAMES.len()],
+    counts: [[u64; 16]; NAMES.len()],
     full: u64,
 }
 
@@ -62,9 +62,9 @@ impl Tally {
     fn add(&mut self, call: &Call, outcome: Outcome) {
         let column = match outcome {
             Outcome::Refused(number) => usize::from(number),
-            Outcome::HadIt => 12,
-            Outcome::Done => 13,
-            Outcome::Value(_) => 14,
+            Outcome::HadIt => 13,
+            Outcome::Done => 14,
+            Outcome::Value(_) => 15,
         };
         self.counts[call.index()][column] += 1;
     }
@@ -75,7 +75,7 @@ impl Tally {
 
     fn print(&self) {
         print!("{:<14}", "call");
-        for column in 1..=11 {
+        for column in 1..=12 {
             print!("{:>8}", format!("ref {column}"));
         }
         println!("{:>8}{:>8}{:>8}", "had it", "done", "value");
@@ -118,7 +118,7 @@ fn main() {
         let mut ours = Lent::new(&input.buffer, guards, |i| (i ^ salt) as u8);
         let mut theirs = ours.clone();
         for _ in 0..input.calls(&mut rng) {
-            let call = input.call(&mut rng);
+            let call = input.call(&mut rng, ours.get());
             if options.without.as_deref() == Some(NAMES[call.index()]) {
                 continue;
             }

@@ -1,7 +1,7 @@
 //! Small logs that the document or its traps name.
 
-use crate::op::{node_number, MAX_SEQUENCE, REPLICAS};
-use crate::{Kind, Log, Op, Vector};
+use crate::op::{node_number, MAX_SEQUENCE, OP_LEN, REPLICAS};
+use crate::{make_bundle, Answer, Kind, Log, Op, Vector};
 
 /// Counts of the first replicas; the rest are 0.
 pub fn v(counts: &[u8]) -> Vector {
@@ -46,6 +46,36 @@ pub fn log_of(ops: &[Op]) -> Log {
 
 pub fn file_of(ops: &[Op]) -> Vec<u8> {
     log_of(ops).bytes()
+}
+
+/// The bundle of these ops, in this order.
+pub fn bundle_of(ops: &[Op]) -> Vec<u8> {
+    let bodies: Vec<[u8; OP_LEN]> = ops.iter().map(Op::bytes).collect();
+    bundle_with(&bodies)
+}
+
+/// The bundle of these bodies, in this order; they may be out of form but for
+/// the replica.
+pub fn bundle_with(bodies: &[[u8; OP_LEN]]) -> Vec<u8> {
+    let mut bundle = vec![0];
+    for index in 0..REPLICAS {
+        let of_replica = |body: &&[u8; OP_LEN]| usize::from(body[1]) == index + 1;
+        let count = bodies.iter().filter(of_replica).count();
+        if count > 0 {
+            bundle[0] |= 1 << index;
+            bundle.push(count as u8);
+        }
+    }
+    [bundle, bodies.concat()].concat()
+}
+
+/// What the bundle of a log for these counts is; nothing if it is not sound.
+pub fn bundle_for(file: &[u8], counts: Vector) -> Vec<u8> {
+    let mut bundle = vec![0; 1 + REPLICAS + OP_LEN * REPLICAS * MAX_SEQUENCE];
+    match make_bundle(file, counts, &mut bundle) {
+        Answer::Count(length) => bundle[..length].to_vec(),
+        _ => vec![],
+    }
 }
 
 pub fn p1() -> Vec<Op> {

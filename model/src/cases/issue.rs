@@ -340,20 +340,20 @@ fn visit(script: &mut Script, file: &mut Vec<u8>, calls: impl FnOnce(&mut Script
     *file = script.buffer()[..end].to_vec();
 }
 
-fn empty() -> Vec<u8> {
+pub(super) fn empty() -> Vec<u8> {
     let mut buffer = vec![0; 4000];
     make(&mut buffer);
     buffer
 }
 
-fn issue_here(script: &mut Script, rng: &mut Rng, replica: u8) {
+pub(super) fn issue_here(script: &mut Script, rng: &mut Rng, replica: u8) {
     let node = some_node(rng, script.buffer());
     let parent = some_node(rng, script.buffer());
     let case = pick_sort(rng);
     script.push(each(replica, node, parent, ROOM)[case].clone());
 }
 
-fn issue_there(rng: &mut Rng, buffer: &mut [u8], replica: u8) {
+pub(super) fn issue_there(rng: &mut Rng, buffer: &mut [u8], replica: u8) {
     let node = some_node(rng, buffer);
     let parent = some_node(rng, buffer);
     let out = &mut [0; OP_LEN];
@@ -386,7 +386,7 @@ fn some_node(rng: &mut Rng, buffer: &[u8]) -> u16 {
     }
 }
 
-fn ops(buffer: &[u8]) -> Vec<Op> {
+pub(super) fn ops(buffer: &[u8]) -> Vec<Op> {
     Log::open(buffer).map_or(vec![], |log| log.ops().copied().collect())
 }
 

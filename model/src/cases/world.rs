@@ -1,6 +1,6 @@
 //! Random sound logs: replicas that hear of each other now and then.
 
-use crate::op::{join, node_number, replica_index, MAX_SEQUENCE, REPLICAS};
+use crate::op::{at_most, join, node_number, replica_index, MAX_SEQUENCE, REPLICAS};
 use crate::rng::Rng;
 use crate::{Kind, Op, Vector};
 
@@ -138,4 +138,29 @@ impl World {
 /// A full log: every replica has issued all it can.
 pub fn full(rng: &mut Rng, style: fn(usize, usize) -> Style) -> Vec<Op> {
     World::random(rng, style(REPLICAS, REPLICAS * MAX_SEQUENCE)).ops
+}
+
+/// What a replica holds of these ops, given in an order in which each comes
+/// after all it counts: it lost one in so many, and so all that count that one.
+pub fn part(rng: &mut Rng, ops: &[Op], lost_one_in: usize) -> Vec<Op> {
+    let mut held = [0; REPLICAS];
+    let mut part = vec![];
+    for op in ops {
+        if at_most(&op.vector, &held) && !rng.one_in(lost_one_in) {
+            held[op.index()] += 1;
+            part.push(*op);
+        }
+    }
+    part
+}
+
+/// What these replicas hold together: their own ops, and all that these count.
+pub fn held_by(ops: &[Op], replicas: &[u8]) -> Vec<Op> {
+    let mut held = [0; REPLICAS];
+    for op in ops.iter().filter(|op| replicas.contains(&op.replica)) {
+        held = join(&held, &op.vector);
+        held[op.index()] = op.sequence() as u8;
+    }
+    let within = |op: &&Op| op.sequence() <= usize::from(held[op.index()]);
+    ops.iter().filter(within).copied().collect()
 }

@@ -8,6 +8,7 @@ use outline_model::*;
 pub use Answer::{Accepted, Count, Done, HadIt, Refused};
 
 pub const FULL: usize = 28_592;
+pub const MAX_BUNDLE: usize = 28_569;
 
 /// The file in a buffer of this length; what follows it is 0x5a.
 pub fn in_buffer(file: &[u8], length: usize) -> Vec<u8> {
@@ -46,6 +47,73 @@ pub fn deliver_checked(buffer: &mut [u8], op: &[u8]) -> Answer {
         other => panic!("{other:?}"),
     }
     answer
+}
+
+/// Makes a bundle with so many bytes lent, and hands it back.
+pub fn bundle_in(file: &[u8], counts: Vector, room: usize) -> (Answer, Vec<u8>) {
+    let mut out = vec![0xee; room];
+    let answer = make_bundle(file, counts, &mut out);
+    let written = match answer {
+        Count(count) => count,
+        Refused(1 | 8) => 0,
+        other => panic!("{other:?}"),
+    };
+    assert!(out[written..].iter().all(|&byte| byte == 0xee));
+    out.truncate(written);
+    (answer, out)
+}
+
+/// The bundle of a sound file.
+pub fn bundle_checked(file: &[u8], counts: Vector) -> Vec<u8> {
+    let (answer, bundle) = bundle_in(file, counts, MAX_BUNDLE);
+    assert_eq!(answer, Count(bundle.len()));
+    bundle
+}
+
+pub fn open_checked(buffer: &mut [u8], bundle: &[u8]) -> Answer {
+    let before = buffer.to_vec();
+    let answer = open_bundle(buffer, bundle);
+    match answer {
+        Accepted(end) => check_opened(&before, buffer, &bundled(bundle), end),
+        Refused(1 | 3..=8 | 12) => assert_eq!(buffer, before),
+        other => panic!("{other:?}"),
+    }
+    answer
+}
+
+/// The buffer is the old file with the ops that it lacked, and nothing else
+/// changed.
+fn check_opened(before: &[u8], after: &[u8], ops: &[Vec<u8>], end: usize) {
+    let mut bodies = bodies(before);
+    for op in ops {
+        if !bodies.contains(op) {
+            bodies.push(op.clone());
+        }
+    }
+    let file = layout(&bodies);
+    assert_eq!(file.len(), end);
+    assert_eq!(after[..end], file);
+    assert_eq!(after[end..], before[end..]);
+    assert!(Log::open(after).is_some());
+}
+
+/// The bodies of a bundle whose head is right.
+pub fn bundled(bundle: &[u8]) -> Vec<Vec<u8>> {
+    let head = 1 + bundle[0].count_ones() as usize;
+    bundle[head..].chunks(14).map(<[u8]>::to_vec).collect()
+}
+
+/// The bundle of these bodies in this order, of at most 255 of each replica.
+pub fn bundle_from(bodies: &[Vec<u8>]) -> Vec<u8> {
+    let mut bundle = vec![0];
+    for replica in 1..=8 {
+        let count = bodies.iter().filter(|body| body[1] == replica).count();
+        if count > 0 {
+            bundle[0] += 1 << (replica - 1);
+            bundle.push(count as u8);
+        }
+    }
+    [bundle, bodies.concat()].concat()
 }
 
 /// An op to be issued.

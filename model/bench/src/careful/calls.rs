@@ -26,18 +26,27 @@ pub fn deliver(buffer: &mut [u8], op: &[u8]) -> Answer {
 
 pub fn try_deliver(buffer: &mut [u8], bytes: &[u8]) -> Result<Answer, u8> {
     let log = Log::open(buffer).ok_or(refusal::UNSOUND)?;
+    let Some(op) = new_op(&log, bytes)? else {
+        return Ok(Answer::HadIt);
+    };
+    let layout = log.layout;
+    append(buffer, layout, op.index(), op.0)
+}
+
+/// Tests 2 to 7 of a delivered op; nothing if it is held already.
+#[inline(always)]
+pub fn new_op<'a>(log: &Log, bytes: &'a [u8]) -> Result<Option<Op<'a>>, u8> {
     let op = Op::read(bytes)?;
     if op.sequence() <= usize::from(log.layout.counts[op.index()]) {
         let held = log.op(op.index(), op.sequence());
         return if held.0 == op.0 {
-            Ok(Answer::HadIt)
+            Ok(None)
         } else {
             Err(refusal::CONFLICT)
         };
     }
     log.test(op)?;
-    let layout = log.layout;
-    append(buffer, layout, op.index(), op.0)
+    Ok(Some(op))
 }
 
 /// Test 8, then the op is put in its place.

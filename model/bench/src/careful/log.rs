@@ -5,7 +5,8 @@ use outline_model::refusal;
 pub const REPLICAS: usize = 8;
 pub const HEADER: usize = 32;
 pub const OP: usize = 14;
-const MOST: usize = 255;
+pub const MOST: usize = 255;
+pub const LARGEST: usize = HEADER + OP * REPLICAS * MOST;
 
 pub type Vector = [u8; REPLICAS];
 
@@ -146,6 +147,16 @@ impl Layout {
         }
         self.end + OP
     }
+
+    /// The layout after an op of a replica was put in.
+    pub fn with_one_more(mut self, index: usize) -> Layout {
+        self.counts[index] += 1;
+        for start in &mut self.starts[index + 1..] {
+            *start += OP;
+        }
+        self.end += OP;
+        self
+    }
 }
 
 impl<'a> Log<'a> {
@@ -154,6 +165,11 @@ impl<'a> Log<'a> {
         let layout = Layout::read(bytes)?;
         let log = Log { bytes, layout };
         log.is_sound().then_some(log)
+    }
+
+    /// A log that is known to be sound.
+    pub fn known(bytes: &'a [u8], layout: Layout) -> Log<'a> {
+        Log { bytes, layout }
     }
 
     /// Along a replica vectors rise, so a count that has not changed since the

@@ -70,6 +70,37 @@ pub fn replay(log: &Log, parents: &mut [u16; SLOTS], outcomes: &mut [u8; SLOTS])
     }
 }
 
+/// The slots of all ops in judging order, at the front of the table.
+pub fn judging_order<'a>(log: &Log, slots: &'a mut [u16; SLOTS]) -> &'a [u16] {
+    let counts = &log.layout.counts;
+    let mut done = [0u8; REPLICAS];
+    let mut count = 0;
+    loop {
+        // The ready ops, the higher replica first, with their kinds.
+        let mut ready = [(0u8, 0usize); REPLICAS];
+        let mut many = 0;
+        for index in (0..REPLICAS).rev() {
+            if done[index] < counts[index] {
+                let op = log.op(index, usize::from(done[index]) + 1);
+                if at_most(op.vector(), &done) {
+                    ready[many] = (op.kind(), index);
+                    many += 1;
+                }
+            }
+        }
+        if many == 0 {
+            return &slots[..count];
+        }
+        for kind in [ADD, REMOVE, UP, DOWN] {
+            for &(_, index) in ready[..many].iter().filter(|next| next.0 == kind) {
+                done[index] += 1;
+                slots[count] = (255 * index + usize::from(done[index])) as u16;
+                count += 1;
+            }
+        }
+    }
+}
+
 /// Which slots have a marked node, with 1: every remove marks, whenever it comes.
 pub fn marks(log: &Log) -> [u8; SLOTS] {
     let mut marks = [0; SLOTS];
