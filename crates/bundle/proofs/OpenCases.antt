@@ -193,12 +193,12 @@ module _ (f b : List ℕ) (x : Openable f b) where
   whole : Whole width b
   whole = whole-reads width b (x .is-whole)
 
-  pub open-some : 1 ≤ length b
+  open-some : 1 ≤ length b
   unfolding headSize
   open-some = let w = whole .head in omega arith
 
   module _ (len : ℕ) (hl : len ≡ reachOf (length f)) where
-    pub open-reaches : Reaches width len f
+    open-reaches : Reaches width len f
     unfolding reachOf
     open-reaches = elim (decLe (length f) (largest width)) [
       | yes l ↦

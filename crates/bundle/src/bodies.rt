@@ -54,7 +54,7 @@ fn write_along(file: &[u8], counts: [u8; 8], order: &[u16], n: usize, out: &mut 
 }
 
 // Writes all ops beyond the other's counts in the order of replay.
-pub fn write_bodies(file: &[u8], counts: [u8; 8], out: &mut [u8])
+pub(crate) fn write_bodies(file: &[u8], counts: [u8; 8], out: &mut [u8])
     requires { ⌜ WholeRoom (now file) counts (now out) ⌝ }
     ensures { λ _. ⌜ now (out .exit) ≡ concat (opsBeyond (logOf width (now (file .entry))) counts) ⌝ }
 {

@@ -18,7 +18,7 @@ use Rattle.rules.specs.Bytes.{byte}
 use Rattle.rules.specs.Op.{Vector}
 
 -- halving once more
-pub half-above : (h z : ℕ) → h / 2 ^ suc z ≡ h / 2 / 2 ^ z
+half-above : (h z : ℕ) → h / 2 ^ suc z ≡ h / 2 / 2 ^ z
 half-above h z = ap (λ (x : ℕ). h / x) (pow-succ' 2 z) ∙ sym (div-div-eq-div-mul h 2 (2 ^ z))
 
 ---- reading: bit z is the lowest that is set of k bits

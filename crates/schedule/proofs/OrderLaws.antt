@@ -74,7 +74,7 @@ module _ (w : ℕ) (f : List ℕ) (st : structural w f ≡ true) (next : Vector)
       ap concat (map-downFrom _ (λ s. map entryOf (readyOp (logOf w f) t next k s)) 8 (λ s l u. due-is k s lk l u))
       ∙ sym (map-concat entryOf (readyOp (logOf w f) t next k) (downFrom 8))
 
-  pub level-entries : levelEntries (classesOf (logOf w f) next) next t ≡ map entryOf (level (logOf w f) t next)
+  level-entries : levelEntries (classesOf (logOf w f) next) next t ≡ map entryOf (level (logOf w f) t next)
   unfolding levelEntries level
   level-entries =
       ap concat (map-upFrom _ (λ k. map entryOf (levelKind (logOf w f) t next k)) 4 1 (λ k l u. class-entries k l))
@@ -157,7 +157,7 @@ module _ (log : Log) (cut : Vector) (o t : List ℕ) where
 ---- the loop over the levels
 
 -- a cut as the laws of the order want it
-pub cut-of : (w : ℕ) (f : List ℕ) (cut : Vector) → Held w f cut → closed (logOf w f) cut ≡ true → Cut (logOf w f) cut
+cut-of : (w : ℕ) (f : List ℕ) (cut : Vector) → Held w f cut → closed (logOf w f) cut ≡ true → Cut (logOf w f) cut
 unfolding covered
 cut-of w f cut h c = record {
   is-covered = le-within cut (countsOf (logOf w f)) (λ s l u. omega (arith, h .each s l u, counts-in w f s l u));
