@@ -12,8 +12,8 @@ pub extern "C" fn outline_bundle_make(file: &[u8], counts: &[u8; 8], out: &mut [
     ensures { λ r. ⌜ (r, now (out .exit))
         ≡ ofWritten (bundleCall width (now (file .entry)) (now (counts .entry)) (now (out .entry))) ⌝ }
 {
-    let beyond = *counts;
-    number(make(file, beyond, out))
+    let others = *counts;
+    number(make(file, others, out))
 }
 
 // Opens a bundle at the log in a buffer.

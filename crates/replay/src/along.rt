@@ -7,7 +7,7 @@ ghost use Rattle.replay.specs.Tables.{Along, appliedAlong};
 
 // Applies the ops whose slots a table has from one place to another, with the timestamps beside
 // them.
-pub fn apply_along(
+pub(crate) fn apply_along(
     file: &[u8],
     order: &[u16],
     times: &[u16],

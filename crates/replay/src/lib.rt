@@ -3,6 +3,5 @@
 mod along;
 mod cut;
 
-pub use along::apply_along;
 pub use cut::replay_all;
 pub use cut::replay_cut;

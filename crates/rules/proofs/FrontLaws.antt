@@ -21,9 +21,8 @@ use Rattle.rules.specs.Op.{replicas}
 use Rattle.rules.specs.Sound.{sound}
 use Rattle.rules.proofs.FileLaws.{end-header}
 use Rattle.rules.proofs.ReplicaLaws.{map-replicas}
-use Rattle.rules.proofs.SoundLaws.{sound-structural}
+use Rattle.rules.proofs.SoundLaws.{sound-alike, sound-structural}
 use Rattle.rules.proofs.StructureLaws.{structural-laid}
-use Rattle.rules.proofs.SoundLaws.{sound-alike}
 
 ---- the header and the log
 

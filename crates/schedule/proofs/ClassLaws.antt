@@ -13,7 +13,7 @@ use Rattle.rules.specs.File.{Log, logOf}
 use Rattle.vector.proofs.VectorLaws.{Built, build-none, build-more, build-all}
 use Rattle.oplog.specs.Places.{InFile, placeOf}
 use Rattle.oplog.proofs.FieldLaws.{fields-at, in-file-of}
-use Rattle.schedule.specs.Level.{Bottom, HeldAt, Top, classAt, classOf, classesOf}
+use Rattle.schedule.specs.Level.{Bottom, HeldAt, Highest, Lowest, Top, classAt, classOf, classesOf}
 use Rattle.schedule.proofs.ReadyLaws.{held-at}
 
 ---- the class of a kind
@@ -71,8 +71,15 @@ module _ (v : Vector) where
     ];
   }
 
-  pub top-ends : (i : ℕ) → Top v (8 - i) → 8 ≤ i → Top v 0
-  top-ends i t h = record { most = omega arith; above = λ s l u. t .above s (omega (arith, l)) u }
+  pub top-found : (i : ℕ) → Top v (8 - i) → i < 8 → (getD v (7 - i) 0 ≡ 0 → ⊥) → Highest v (8 - i)
+  unfolding countIn
+  top-found i t h nz = record { top = t; some = λ _. let e : 8 - i - 1 ≡ 7 - i = omega arith in rw e (omega (arith, nz)) }
+
+  pub top-ends : (i : ℕ) → Top v (8 - i) → 8 ≤ i → Highest v 0
+  top-ends i t h = record {
+    top = record { most = omega arith; above = λ s l u. t .above s (omega (arith, l)) u };
+    some = λ l. absurd (omega (arith, l));
+  }
 
   pub bottom-starts : Bottom v 1
   bottom-starts = record { least = le-refl 1; most = omega arith; below = λ s l u. absurd (omega (arith, l, u)) }
@@ -88,13 +95,20 @@ module _ (v : Vector) where
     ];
   }
 
-  pub bottom-ends : (i : ℕ) → Bottom v (i + 1) → 8 ≤ i → Bottom v 9
-  bottom-ends i t h = record { least = omega arith; most = le-refl 9; below = λ s l u. t .below s l (omega (arith, u, t .most)) }
+  pub bottom-found : (i : ℕ) → Bottom v (i + 1) → i < 8 → (getD v i 0 ≡ 0 → ⊥) → Lowest v (i + 1)
+  unfolding countIn
+  bottom-found i t h nz = record { bottom = t; some = λ _. let e : i + 1 - 1 ≡ i = omega arith in rw e (omega (arith, nz)) }
+
+  pub bottom-ends : (i : ℕ) → Bottom v (i + 1) → 8 ≤ i → Lowest v 9
+  bottom-ends i t h = record {
+    bottom = record { least = omega arith; most = le-refl 9; below = λ s l u. t .below s l (omega (arith, u, t .most)) };
+    some = λ l. absurd (omega (arith, l));
+  }
 
 ---- what the code of the classes needs: search classing
 
 pub ruleset classes = (class-known, class-zero, class-high, class-none, class-in-file, class-so, classes-all, held-at)
 
-pub ruleset bounds = (top-starts, top-on, top-ends, bottom-starts, bottom-on, bottom-ends)
+pub ruleset bounds = (top-starts, top-on, top-found, top-ends, bottom-starts, bottom-on, bottom-found, bottom-ends)
 
 pub ruleset classing = (needs, build-none, build-more, classes, bounds)

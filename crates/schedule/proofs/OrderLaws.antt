@@ -34,7 +34,7 @@ use Rattle.oplog.proofs.FieldLaws.{counts-in, in-file-of, small}
 use Rattle.oplog.proofs.HeldLaws.{held-op, count-small}
 use Rattle.tree.specs.Slots.{InSlot, opIn, replicaIn, sequenceIn}
 use Rattle.schedule.specs.Schedule.{Entry, Schedule, entryOf, mostOps, put, schedule, scheduled}
-use Rattle.schedule.specs.Level.{RoomFor, SchedulableCut, classAt, classEntries, classesOf, dueEntry, levelEntries}
+use Rattle.schedule.specs.Level.{Room, SchedulableCut, classAt, classEntries, classesOf, dueEntry, levelEntries}
 use Rattle.schedule.proofs.ReadyLaws.{next-held}
 use Rattle.schedule.proofs.ClassLaws.{class-is}
 use Rattle.schedule.proofs.WritingLaws.{Left, left-all, left-none, left-on, left-room}
@@ -222,8 +222,8 @@ module _ (w : ℕ) (f : List ℕ) (cut : Vector) (o₀ t₀ : List ℕ) (x : Sch
             levels-turn (logOf w f) cut time done u
             ∙ rw (c, level-entries w f (x .is-structural) next next-asks time, is)
 
-        pub level-asks : RoomFor classes next time o t n
-        level-asks = record { room = left-room _ _ o t n _ (h .rest) _ _ turn }
+        pub level-asks : Room o t n (levelEntries classes next time)
+        level-asks = left-room _ _ o t n _ (h .rest) _ _ turn
 
         pub order-on : (o′ t′ : List ℕ) (n′ : ℕ) → schedule o′ t′ n′ ≡ foldl put (schedule o t n) (levelEntries classes next time)
             → (after : Vector) → after ≡ advanced done next → AtTime (logOf w f) cut o₀ t₀ o′ t′ n′ (time + 1) after

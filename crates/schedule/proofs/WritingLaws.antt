@@ -16,7 +16,7 @@ use Rattle.lists.proofs.RangeLaws.{concat-none}
 use Rattle.rules.specs.Op.{countIn, Vector}
 use Rattle.rules.specs.Tree.{slot}
 use Rattle.schedule.specs.Schedule.{Entry, Schedule, schedule, put}
-use Rattle.schedule.specs.Level.{Bottom, IsReplica, Room, RoomAt, RoomFor, RoomIn, Top, classEntries, dueEntry, levelEntries}
+use Rattle.schedule.specs.Level.{Bottom, Highest, IsReplica, Lowest, Room, RoomAt, RoomIn, Top, classEntries, dueEntry, levelEntries}
 
 ---- one entry
 
@@ -184,16 +184,16 @@ module _ (classes next : Vector) (time : ℕ) where
     pub some : 1 ≤ k
     pub rest : Left y all o t n (levelFrom k)
 
-  pub level-starts : (o t : List ℕ) (n : ℕ) → RoomFor classes next time o t n
+  pub level-starts : (o t : List ℕ) (n : ℕ) → Room o t n (levelEntries classes next time)
       → AtClass (schedule o t n) (levelEntries classes next time) o t n 1
   unfolding levelEntries levelFrom
-  level-starts o t n x = record { some = le-refl 1; rest = left-all _ _ o t n (x .room) refl }
+  level-starts o t n x = record { some = le-refl 1; rest = left-all _ _ o t n x refl }
 
   module _ (y : Schedule) (all : List Entry) (o t : List ℕ) (n k : ℕ) (h : AtClass y all o t n k) where
-    pub class-asks : k < 5 → (high low : ℕ) → Top classes high → Bottom classes low → RoomIn classes next high low time k o t n
+    pub class-asks : k < 5 → (high low : ℕ) → Highest classes high → Lowest classes low → RoomIn classes next high low time k o t n
     class-asks u high low a b = record {
-      top = a;
-      bottom = b;
+      top = a .top;
+      bottom = b .bottom;
       some = h .some;
       room = left-room y all o t n _ (h .rest) _ _ (level-turn k u);
     }

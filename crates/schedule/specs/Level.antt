@@ -61,6 +61,15 @@ pub record Bottom (classes : Vector) (low : ℕ) : Type 0 where
   pub most : low ≤ 9
   pub below : (s : ℕ) → 1 ≤ s → s < low → countIn classes s ≡ 0
 
+-- and that replica itself has one, if it is a replica
+pub record Highest (classes : Vector) (high : ℕ) : Type 0 where
+  pub top : Top classes high
+  pub some : 1 ≤ high → 1 ≤ countIn classes high
+
+pub record Lowest (classes : Vector) (low : ℕ) : Type 0 where
+  pub bottom : Bottom classes low
+  pub some : low ≤ 8 → 1 ≤ countIn classes low
+
 -- both tables have room for more entries behind the first n
 pub record Room (o t : List ℕ) (n : ℕ) (es : List Entry) : Type 0 where
   pub order : n + length es ≤ length o
@@ -75,9 +84,6 @@ pub record RoomIn (classes next : Vector) (high low time class : ℕ) (o t : Lis
   pub bottom : Bottom classes low
   pub some : 1 ≤ class
   pub room : Room o t n (classEntries classes next time class)
-
-pub record RoomFor (classes next : Vector) (time : ℕ) (o t : List ℕ) (n : ℕ) : Type 0 where
-  pub room : Room o t n (levelEntries classes next time)
 
 -- a closed cut of a structurally sound file, and tables for all ops that a log can have
 pub record SchedulableCut (w : ℕ) (f : List ℕ) (cut : Vector) (o t : List ℕ) : Type 0 where

@@ -4,7 +4,7 @@ use oplog::place;
 ghost use mathlib.Core.Path.{_≡_};
 ghost use Rattle.rules.specs.File.{logOf};
 ghost use Rattle.oplog.specs.Places.{Held};
-ghost use Rattle.schedule.specs.Level.{HeldAt, Top, Bottom, classOf, classAt, classesOf};
+ghost use Rattle.schedule.specs.Level.{HeldAt, Highest, Lowest, classOf, classAt, classesOf};
 
 // The class of a kind, in the order in which ops of one timestamp are judged: adds, removes,
 // upward moves, downward moves. Any other kind is in none of them.
@@ -57,7 +57,7 @@ pub fn classes_of(file: &[u8], next: [u8; 8], width: usize) -> [u8; 8]
 
 // The highest replica whose op is of some class, or 0.
 pub fn highest(classes: [u8; 8]) -> usize
-    ensures { λ r. ⌜ Top classes r ⌝ }
+    ensures { λ r. ⌜ Highest classes r ⌝ }
 {
     for i in 0..8usize {
         if classes[7 - i] != 0 {
@@ -69,7 +69,7 @@ pub fn highest(classes: [u8; 8]) -> usize
 
 // The lowest replica whose op is of some class, or 9.
 pub fn lowest(classes: [u8; 8]) -> usize
-    ensures { λ r. ⌜ Bottom classes r ⌝ }
+    ensures { λ r. ⌜ Lowest classes r ⌝ }
 {
     for i in 0..8usize {
         if classes[i] != 0 {

@@ -10,7 +10,7 @@ ghost use mathlib.Core.List.{foldl};
 ghost use Rattle.rules.specs.File.{logOf};
 ghost use Rattle.rules.specs.Tree.{slot};
 ghost use Rattle.schedule.specs.Schedule.{schedule, put, scheduled};
-ghost use Rattle.schedule.specs.Level.{IsReplica, RoomAt, RoomIn, RoomFor, dueEntry, classEntries, levelEntries, SchedulableCut};
+ghost use Rattle.schedule.specs.Level.{IsReplica, Room, RoomAt, RoomIn, dueEntry, classEntries, levelEntries, SchedulableCut};
 
 // The most ops that a log has: 255 of each replica.
 pub const OPS: usize = 2040;
@@ -82,7 +82,7 @@ fn write_level(
     times: &mut [u16],
     n: usize,
 ) -> usize
-    requires { ⌜ RoomFor classes next time (now order) (now times) n ⌝ }
+    requires { ⌜ Room (now order) (now times) n (levelEntries classes next time) ⌝ }
     ensures { λ r. ⌜ schedule (now (order .exit)) (now (times .exit)) r
         ≡ foldl put (schedule (now (order .entry)) (now (times .entry)) n) (levelEntries classes next time) ⌝ }
 {
