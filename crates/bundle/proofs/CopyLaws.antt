@@ -1,30 +1,28 @@
 -- The copy in which a bundle's bodies are tried: deliveries to the front of a buffer are answered as those to the whole, and leave
 -- its front.
-use Prim.Native.Nat.{ℕ, _+_, _*_, _-_, _≤_, _<_}
+use Prim.Native.Nat.{ℕ, _+_, _≤_, _<_}
 use borrow.Author.Tests.{le-leb, leb-false}
 use lib.Dec.{leb, eqb}
 use lib.ListN.{length, take, drop, take-append-drop}
 use lib.Seq.{drop-append-le, take-at}
 use mathlib.Core.Bool.{Bool, true, false, cond}
-use mathlib.Core.List.{List, [], _∷_, _++_, append-assoc, map}
+use mathlib.Core.List.{List, [], _∷_, _++_, append-assoc}
 use mathlib.Core.Logic.{_⊎_, ⊎-elim}
 use mathlib.Core.Path.{_≡_, refl, sym, ap, _∙_}
-use native.Mathlib.Nat.{mul-le-mul-left}
 use native.Mathlib.Omega.{arith}
-use Rattle.lists.specs.Lists.{sum, upFrom}
 use Rattle.lists.proofs.ListLaws.{drop-past}
-use Rattle.lists.proofs.NumberLaws.{mul-step}
 use Rattle.rules.specs.Answer.{Answer, refused, hadIt, done, accepted, require, ifAccepted}
 use Rattle.rules.specs.Bundle.{turnsAnswer, turnsBuffer}
 use Rattle.rules.specs.Deliver.{admitAnswer, deliverAnswer, deliverBuffer, heldAnswer, isHeld}
-use Rattle.rules.specs.File.{append, appended, countsOf, endOf, fileEnd, fileOf, headerCounts, largest, logOf}
+use Rattle.rules.specs.File.{append, appended, countsOf, fileEnd, fileOf, largest, logOf}
 use Rattle.rules.specs.Log.{closed, covered, namesKnown}
-use Rattle.rules.specs.Op.{Op, Vector, countIn, replicaOf, replicas, seqOf, vectorOf, wellFormed}
+use Rattle.rules.specs.Op.{Op, Vector, countIn, replicaOf, seqOf, vectorOf, wellFormed}
 use Rattle.rules.specs.Sound.{sound}
 use Rattle.rules.proofs.AppendLaws.{replica-formed}
-use Rattle.rules.proofs.CausalLaws.{Le, total, total-less, total-sum}
+use Rattle.rules.proofs.CausalLaws.{end-room}
 use Rattle.rules.proofs.DeliverLaws.{admitted, appended-end, appended-length, appended-past, appended-sound}
-use Rattle.rules.proofs.FileLaws.{count-map, counts-logOf, length-counts}
+use Rattle.rules.proofs.FileLaws.{counts-logOf}
+use Rattle.rules.proofs.IssueLaws.{counts-eight}
 use Rattle.rules.proofs.SoundLaws.{sound-good}
 use Rattle.bundle.specs.Opening.{Reaches}
 use Rattle.rules.proofs.FrontLaws.{end-front, front-length, log-front, sound-front}
@@ -42,22 +40,13 @@ tests-alike l false b held next t u h = refl
 module _ (w n : ℕ) (f : List ℕ) (x : Reaches w n f) (r : Op) where
   -- a log that lacks a well-formed op is not full
   not-full : wellFormed r ≡ true → isHeld (logOf w f) r ≡ false → fileEnd w f + w ≤ largest w
-  unfolding isHeld fileEnd endOf total sum replicas upFrom seqOf countIn
+  unfolding isHeld fileEnd seqOf
   not-full formed e =
       let i = replica-formed r formed in
-      let u : Vector = headerCounts f in
-      let full : Vector = map (λ (_ : ℕ). 255) replicas in
       let good = sound-good w f (x .is-sound) in
-      let s : ℕ = replicaOf r in
-      let lacks : countIn u s < seqOf r = rw (counts-logOf w f) at (leb-false (seqOf r) (countIn (countsOf (logOf w f)) s) e) in
-      let full-at : (k : ℕ) → 1 ≤ k → k ≤ 8 → countIn full k ≡ 255 = count-map (λ (_ : ℕ). 255) in
-      let few : countIn u s < countIn full s = rw (full-at s (i .0) (i .1)) (omega (arith, i .2)) in
-      let below : Le u full = λ k l h. rw (full-at k l h) (rw (counts-logOf w f) at (good .counts k l h)) in
-      let less : total u < total full = total-less u full below s (i .0) (i .1) few in
-      let all-in : total full ≡ 2040 = refl in
-      let m : total u ≡ sum u = total-sum u (length-counts f) in
-      let fits : w * (sum u + 1) ≤ w * 2040 = mul-le-mul-left w (omega arith) in
-      omega (arith, mul-step w (sum u))
+      let v : Vector = countsOf (logOf w f) in
+      let lacks : countIn v (replicaOf r) < seqOf r = leb-false (seqOf r) (countIn v (replicaOf r)) e in
+      rw (counts-logOf w f) at (end-room w v (counts-eight (logOf w f) good) (good .counts) (replicaOf r) (i .0) (i .1) (omega (arith, i .2)))
 
   room-alike : wellFormed r ≡ true → isHeld (logOf w f) r ≡ false → leb (fileEnd w f + w) n ≡ leb (fileEnd w f + w) (length f)
   room-alike formed e = ⊎-elim

@@ -16,12 +16,12 @@ use Rattle.lists.proofs.BoolLaws.{never, tested}
 use Rattle.rules.specs.Answer.{Answer, refused, hadIt, done, accepted, require}
 use Rattle.rules.specs.Bundle.{bodiesIn, headCounts, headSize, openAnswer, openBuffer, openBundle, turnsAnswer, turnsBuffer, unlessRefused, wholeBundle}
 use Rattle.rules.specs.Deliver.{Result, deliver, deliverAnswer, deliverBuffer}
-use Rattle.rules.specs.File.{chunks, endOf, fileEnd, headerCounts, largest, startOf, width}
+use Rattle.rules.specs.File.{chunks, fileEnd, headerCounts, largest, startOf, width}
 use Rattle.rules.specs.Op.{Op}
 use Rattle.rules.specs.Sound.{sound}
 use Rattle.rules.proofs.DeliverLaws.{deliver-length, deliver-sound}
 use Rattle.rules.proofs.BundleLaws.{Whole, whole-reads}
-use Rattle.rules.proofs.CausalLaws.{total, total-small, total-sum}
+use Rattle.rules.proofs.CausalLaws.{end-most}
 use Rattle.rules.proofs.FileLaws.{counts-at, length-counts}
 use Rattle.rules.proofs.SoundLaws.{sound-laid}
 use Rattle.oplog.proofs.HeaderLaws.{end-is}
@@ -182,12 +182,9 @@ reach-small n r e = elim (decLe n (largest width)) [
 
 -- the file lies within the largest
 end-within : (f : List ℕ) → sound width f ≡ true → fileEnd width f ≤ largest width
-unfolding fileEnd endOf
+unfolding fileEnd
 end-within f s =
-    let few : total (headerCounts f) ≤ 2040 =
-    total-small (headerCounts f) (λ k l u. rw (counts-at f k l u) (sound-laid width f s .counts k l u)) in
-    let all-in : total (headerCounts f) ≡ sum (headerCounts f) = total-sum (headerCounts f) (length-counts f) in
-    omega arith
+    end-most width (headerCounts f) (length-counts f) (λ k l u. rw (counts-at f k l u) (sound-laid width f s .counts k l u))
 
 module _ (f b : List ℕ) (x : Openable f b) where
   whole : Whole width b

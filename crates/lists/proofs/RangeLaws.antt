@@ -1,5 +1,5 @@
 -- Laws of the numbers from a on, and of those from n down to 1.
-use Rattle.lists.specs.Lists.{all, concat, downFrom, upFrom}
+use Rattle.lists.specs.Lists.{all, concat, downFrom, sum, upFrom}
 use Rattle.lists.proofs.BoolLaws.{and-left, and-right, never}
 use mathlib.Core.Bool.{Bool, _&&_, false, true}
 use mathlib.Core.List.{List, [], _++_, _∷_, append-nil, foldl, map}
@@ -10,7 +10,7 @@ use native.Mathlib.Numerals.{add-one}
 use native.Mathlib.Omega.{arith}
 use lib.ListN.{getD, length}
 use lib.Arith.{lt-of-le-ne}
-use native.Mathlib.Decide.{ℕ-discrete}
+use native.Mathlib.Decide.{decLt, ℕ-discrete}
 
 upFrom-cons : (a n : ℕ) → upFrom a (suc n) ≡ a ∷ upFrom (suc a) n
 unfolding upFrom
@@ -44,6 +44,24 @@ pub concat-none : {A : Type 0} (F : ℕ → List A) (n : ℕ) → ((i : ℕ) →
 unfolding downFrom concat
 concat-none F zero e = refl
 concat-none F (suc n) e = rw (e (suc n) (omega arith) (le-refl _)) (concat-none F n (λ i l u. e i l (omega arith)))
+
+-- a sum of no greater numbers is no greater, and less if one of them is
+module _ (f g : ℕ → ℕ) where
+  pub sum-le : (n a : ℕ) → ((i : ℕ) → a ≤ i → i < a + n → f i ≤ g i) → sum (map f (upFrom a n)) ≤ sum (map g (upFrom a n))
+  unfolding upFrom sum
+  sum-le zero a b = le-refl 0
+  sum-le (suc n) a b = omega (arith, b a (le-refl a) (omega arith), sum-le n (suc a) (λ i l u. b i (omega arith) (omega arith)))
+
+  pub sum-less : (n a : ℕ) → ((i : ℕ) → a ≤ i → i < a + n → f i ≤ g i) → (s : ℕ) → a ≤ s → s < a + n → f s < g s
+      → sum (map f (upFrom a n)) < sum (map g (upFrom a n))
+  unfolding upFrom sum
+  sum-less zero a b s l u h = absurd (omega arith)
+  sum-less (suc n) a b s l u h =
+      let later : (i : ℕ) → suc a ≤ i → i < suc a + n → f i ≤ g i = λ i l u. b i (omega arith) (omega arith) in
+      elim (decLt a s) [
+        | yes p ↦ omega (arith, b a (le-refl a) (omega arith), sum-less n (suc a) later s p (omega arith) h)
+        | no p ↦ let e : s ≡ a = omega arith in let first : f a < g a = rw e at h in omega (arith, sum-le n (suc a) later)
+      ]
 
 -- a list is made of its elements
 pub map-getD : {A : Type 0} (d : A) (xs : List A) (a : ℕ) → map (λ s. getD xs (s - a) d) (upFrom a (length xs)) ≡ xs

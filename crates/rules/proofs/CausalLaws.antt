@@ -2,18 +2,20 @@
 use mathlib.Core.Path.{_≡_, refl, sym, ap, subst, _∙_}
 use mathlib.Core.Bool.{Bool, true, false}
 use mathlib.Core.List.{map}
-use Prim.Native.Nat.{ℕ, zero, suc, _+_, _-_, _≤_, _<_}
-use native.Mathlib.Nat.{le-refl, add-zero}
+use Prim.Native.Nat.{ℕ, zero, suc, _+_, _*_, _-_, _≤_, _<_}
+use native.Mathlib.Nat.{le-refl, add-zero, mul-le-mul-left}
 use native.Mathlib.Omega.{arith}
 use borrow.Author.Tests.{le-leb, leb-true, leb-false, eq-eqb, ne-eqb}
-use lib.Dec.{leb, lit≤}
+use lib.Dec.{leb}
 use lib.ListN.{length, length-take, replicate, take}
 use Rattle.lists.specs.Lists.{upFrom, sum}
 use Rattle.rules.specs.Op.{Vector, replicas, countIn, vectorOf, seqOf, ownCount}
-use Rattle.rules.specs.File.{Log, opAt, opsOf, countsOf, within}
+use Rattle.rules.specs.File.{Log, opAt, opsOf, countsOf, endOf, largest, within}
 use Rattle.rules.specs.Log.{covered, closedAt, closed}
 use Rattle.rules.specs.Replay.{opsWithin}
 use Rattle.lists.proofs.ListLaws.{length-concat}
+use Rattle.lists.proofs.NumberLaws.{mul-step}
+use Rattle.lists.proofs.RangeLaws.{sum-le, sum-less}
 use Rattle.rules.proofs.FileLaws.{vector-eta}
 use Rattle.rules.proofs.ReplicaLaws.{all-replicas, replica-passes, replica-fails, replica-cases, map-replicas}
 use Rattle.rules.proofs.StructureLaws.{count-held, held-in, HeldOps}
@@ -33,10 +35,13 @@ le-within v u h = all-replicas _ (λ s l b. le-leb (countIn v s) (countIn u s) (
 pub within-trans : (v u o : Vector) → within v u ≡ true → within u o ≡ true → within v o ≡ true
 within-trans v u o a b = le-within v o (λ s l h. omega (arith, within-le v u a s l h, within-le u o b s l h))
 
--- a vector that counts nothing
-pub count-none : (s : ℕ) → 1 ≤ s → s ≤ 8 → countIn (replicate 8 0) s ≡ 0
+-- a vector that counts so many ops of each replica; nothing
+count-same : (n s : ℕ) → 1 ≤ s → s ≤ 8 → countIn (replicate 8 n) s ≡ n
 unfolding countIn
-count-none = replica-cases (λ s. countIn (replicate 8 0) s ≡ 0) refl refl refl refl refl refl refl refl
+count-same n = replica-cases (λ s. countIn (replicate 8 n) s ≡ n) refl refl refl refl refl refl refl refl
+
+pub count-none : (s : ℕ) → 1 ≤ s → s ≤ 8 → countIn (replicate 8 0) s ≡ 0
+count-none = count-same 0
 
 pub none-within : (v : Vector) → within (replicate 8 0) v ≡ true
 none-within v = le-within _ v (λ s l u. omega (arith, count-none s l u))
@@ -53,37 +58,55 @@ none-closed log = all-replicas (closedAt log (replicate 8 0)) (λ s l u. closed-
 unfoldable pub total : Vector → ℕ
 total v = sum (map (countIn v) replicas)
 
-pub total-less : (v u : Vector) → Le v u → (s : ℕ) → 1 ≤ s → s ≤ 8 → countIn v s < countIn u s → total v < total u
-unfolding total sum replicas upFrom
-total-less v u b =
-    let b₁ = b 1 (lit≤ tt) (lit≤ tt) in
-    let b₂ = b 2 (lit≤ tt) (lit≤ tt) in
-    let b₃ = b 3 (lit≤ tt) (lit≤ tt) in
-    let b₄ = b 4 (lit≤ tt) (lit≤ tt) in
-    let b₅ = b 5 (lit≤ tt) (lit≤ tt) in
-    let b₆ = b 6 (lit≤ tt) (lit≤ tt) in
-    let b₇ = b 7 (lit≤ tt) (lit≤ tt) in
-    let b₈ = b 8 (lit≤ tt) (lit≤ tt) in
-    replica-cases (λ s. countIn v s < countIn u s → total v < total u)
-    (λ h. omega arith) (λ h. omega arith) (λ h. omega arith) (λ h. omega arith) (λ h. omega arith) (λ h. omega arith) (λ h. omega arith)
-    (λ h. omega arith)
+total-le : (v u : Vector) → Le v u → total v ≤ total u
+unfolding total replicas
+total-le v u b = sum-le (countIn v) (countIn u) 8 1 (λ s l h. b s l (omega arith))
 
-pub total-small : (v : Vector) → ((s : ℕ) → 1 ≤ s → s ≤ 8 → countIn v s ≤ 255) → total v ≤ 2040
-unfolding total sum replicas upFrom
-total-small v b =
-    let b₁ = b 1 (lit≤ tt) (lit≤ tt) in
-    let b₂ = b 2 (lit≤ tt) (lit≤ tt) in
-    let b₃ = b 3 (lit≤ tt) (lit≤ tt) in
-    let b₄ = b 4 (lit≤ tt) (lit≤ tt) in
-    let b₅ = b 5 (lit≤ tt) (lit≤ tt) in
-    let b₆ = b 6 (lit≤ tt) (lit≤ tt) in
-    let b₇ = b 7 (lit≤ tt) (lit≤ tt) in
-    let b₈ = b 8 (lit≤ tt) (lit≤ tt) in
-    omega arith
+total-less : (v u : Vector) → Le v u → (s : ℕ) → 1 ≤ s → s ≤ 8 → countIn v s < countIn u s → total v < total u
+unfolding total replicas
+total-less v u b s l h = sum-less (countIn v) (countIn u) 8 1 (λ s l h. b s l (omega arith)) s l (omega arith)
 
 pub total-sum : (v : Vector) → length v ≡ 8 → total v ≡ sum v
 unfolding total
 total-sum v e = ap sum (vector-eta v e)
+
+---- at most 255 ops of each replica
+
+abbrev full : Vector
+full = replicate 8 255
+
+abbrev pub Small : Vector → Type 0
+Small v = (s : ℕ) → 1 ≤ s → s ≤ 8 → countIn v s ≤ 255
+
+le-full : (v : Vector) → Small v → Le v full
+le-full v b s l h = rw (count-same 255 s l h) (b s l h)
+
+pub total-small : (v : Vector) → Small v → total v ≤ 2040
+unfolding sum
+total-small v b = let all-in : total full ≡ 2040 = total-sum full refl in omega (arith, total-le v full (le-full v b))
+
+---- where a file ends, by its counts
+
+module _ (w : ℕ) where
+  pub end-later : (v u : Vector) → length v ≡ 8 → length u ≡ 8 → Le v u → (s : ℕ) → 1 ≤ s → s ≤ 8 → countIn v s < countIn u s
+      → endOf w v + w ≤ endOf w u
+  unfolding endOf
+  end-later v u ev eu b s l h few =
+      let less : total v < total u = total-less v u b s l h few in
+      let fits : w * (sum v + 1) ≤ w * sum u = mul-le-mul-left w (omega (arith, total-sum v ev, total-sum u eu)) in
+      omega (arith, mul-step w (sum v))
+
+  -- within the largest file; with room for one more op, if not all are counted
+  module _ (v : Vector) (e : length v ≡ 8) (b : Small v) where
+    pub end-most : endOf w v ≤ largest w
+    unfolding endOf
+    end-most =
+        let fits : w * sum v ≤ w * 2040 = mul-le-mul-left w (omega (arith, total-small v b, total-sum v e)) in
+        omega arith
+
+    pub end-room : (s : ℕ) → 1 ≤ s → s ≤ 8 → countIn v s < 255 → endOf w v + w ≤ largest w
+    unfolding endOf sum
+    end-room s l h few = end-later v full e refl (le-full v b) s l h (rw (count-same 255 s l h) few)
 
 pub within-length : (log : Log) (v : Vector) → covered log v ≡ true → length (opsWithin log v) ≡ total v
 unfolding opsWithin total

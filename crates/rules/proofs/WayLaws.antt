@@ -2,20 +2,17 @@
 use mathlib.Core.Path.{_≡_, sym, ap, _∙_}
 use mathlib.Core.Bool.{true, false}
 use mathlib.Core.List.{List}
-use Prim.Native.Nat.{ℕ, _+_, _*_, _≤_, _<_}
-use native.Mathlib.Nat.{mul-le-mul-left}
+use Prim.Native.Nat.{ℕ, _+_, _≤_, _<_}
 use native.Mathlib.Omega.{arith}
 use borrow.Author.Tests.{leb-true, leb-false}
 use lib.ListN.{length, drop}
 use Rattle.lists.proofs.ListLaws.{drop-past}
-use Rattle.lists.specs.Lists.{sum}
-use Rattle.lists.proofs.NumberLaws.{mul-step}
-use Rattle.rules.specs.Op.{Op, countIn, replicaOf, seqOf}
+use Rattle.rules.specs.Op.{Op, Vector, countIn, replicaOf, seqOf}
 use Rattle.rules.specs.File.{Log, countsOf, headerCounts, endOf, fileEnd, logOf, appended, largest, Extends, Agree}
 use Rattle.rules.specs.Sound.{sound}
 use Rattle.rules.specs.Deliver.{isHeld, deliverAnswer}
 use Rattle.rules.proofs.AppendLaws.{in-range, own-next, seq-positive}
-use Rattle.rules.proofs.CausalLaws.{total, total-less, total-small, total-sum}
+use Rattle.rules.proofs.CausalLaws.{end-later, end-most}
 use Rattle.rules.proofs.DeliverLaws.{Admitted, appended-log, appended-end, appended-length, appended-sound, appended-past}
 use Rattle.rules.proofs.FileLaws.{WideLog, length-logOf, counts-logOf}
 use Rattle.rules.proofs.InLaws.{OpIn, append-within}
@@ -34,12 +31,7 @@ pub record OnWay (w : ℕ) (u : Log) (base g : List ℕ) : Type 0 where
 module _ (w : ℕ) (u : Log) (su : SoundLog u) (base : List ℕ) where
   -- a buffer for the largest file has room for u
   pub room-in-full : largest w ≤ length base → endOf w (countsOf u) ≤ length base
-  unfolding endOf
-  room-in-full big =
-      let few : total (countsOf u) ≤ 2040 = total-small (countsOf u) (su .good .counts) in
-      let all : total (countsOf u) ≡ sum (countsOf u) = total-sum (countsOf u) (counts-eight u (su .good)) in
-      let fits : w * sum (countsOf u) ≤ w * 2040 = mul-le-mul-left w (omega arith) in
-      omega arith
+  room-in-full big = omega (arith, end-most w (countsOf u) (counts-eight u (su .good)) (su .good .counts))
 
   module _ (g : List ℕ) (k : OnWay w u base g) (r : Op) (i : OpIn u r) where
     good : GoodLog (logOf w g)
@@ -47,16 +39,16 @@ module _ (w : ℕ) (u : Log) (su : SoundLog u) (base : List ℕ) where
 
     -- where there is room for u, there is for an op of it that is not held
     pub way-room : endOf w (countsOf u) ≤ length base → isHeld (logOf w g) r ≡ false → fileEnd w g + w ≤ length g
-    unfolding isHeld fileEnd endOf
+    unfolding isHeld fileEnd
     way-room enough e =
-        let not-here = leb-false (seqOf r) (countIn (countsOf (logOf w g)) (replicaOf r)) e in
-        let few : countIn (countsOf (logOf w g)) (replicaOf r) < countIn (countsOf u) (replicaOf r) = omega (arith, i .here) in
-        let less = total-less (countsOf (logOf w g)) (countsOf u) (k .inside .counts) (replicaOf r) (i .low) (i .high) few in
-        let m : total (countsOf (logOf w g)) ≡ sum (headerCounts g) = total-sum _ (counts-eight (logOf w g) good) ∙ ap sum
-        (counts-logOf w g) in
-        let n : total (countsOf u) ≡ sum (countsOf u) = total-sum _ (counts-eight u (su .good)) in
-        let fits : w * (sum (headerCounts g) + 1) ≤ w * sum (countsOf u) = mul-le-mul-left w (omega arith) in
-        omega (arith, k .size, mul-step w (sum (headerCounts g)))
+        let v : Vector = countsOf (logOf w g) in
+        let not-here = leb-false (seqOf r) (countIn v (replicaOf r)) e in
+        let few : countIn v (replicaOf r) < countIn (countsOf u) (replicaOf r) = omega (arith, i .here) in
+        let later : endOf w v + w ≤ endOf w (countsOf u) =
+        end-later w v (countsOf u) (counts-eight (logOf w g) good) (counts-eight u (su .good)) (k .inside .counts) (replicaOf r) (i .low)
+        (i .high) few in
+        let end : endOf w v ≡ endOf w (headerCounts g) = ap (endOf w) (counts-logOf w g) in
+        omega (arith, k .size)
 
     pub way-held : isHeld (logOf w g) r ≡ true → OpIn (logOf w g) r
     unfolding isHeld
