@@ -15,7 +15,8 @@ static const char usage[] =
     "\n"
     "Prints the outline of the log in FILE, or on standard input where there is no\n"
     "FILE or it is -: a line for each node, of its depth, its number, and k or, for a\n"
-    "removed node, r. What is no log, or has bytes past its end, prints `refused 1`.\n"
+    "removed node, r. What is no log, or has bytes past its end, prints `refused 1`;\n"
+    "what has no bytes is a log without ops.\n"
     "\n"
     "  --help     this text\n"
     "  --version  the version\n"
@@ -40,6 +41,8 @@ static int print(const char *name, FILE *in) {
     static uint8_t text[OUTLINE_LONGEST_LISTING];
     size_t length = fread(log, 1, sizeof log, in);
     if (ferror(in)) return trouble(name, errno);
+    /* No bytes yet: to the library that is no log, so one without ops is made of it. */
+    if (length == 0) length = outline_value(outline_make(log, sizeof log));
     size_t end = outline_end(log, length);
     if (outline_refused(end) || outline_value(end) != length)
         return put("refused 1\n", 10, REFUSED);

@@ -14,8 +14,15 @@ fn p1_in(length: usize) -> Vec<u8> {
     in_buffer(&file_of(&p1()), length)
 }
 
-/// Every call answers 1, even where other causes hold as well.
+/// Every call answers 1, and so does the program.
 fn assert_unsound(buffer: &[u8]) {
+    assert_unsound_in_library(buffer);
+    assert_eq!(outline(buffer), b"refused 1\n");
+}
+
+/// Every call answers 1 and changes nothing, where nothing else would be
+/// refused and even where other causes hold as well.
+fn assert_unsound_in_library(buffer: &[u8]) {
     let mut buffer = buffer.to_vec();
     for op in [&[][..], &[9; 14], &p1()[0].bytes()] {
         assert_eq!(deliver_checked(&mut buffer, op), Refused(1));
@@ -25,7 +32,7 @@ fn assert_unsound(buffer: &[u8]) {
             assert_eq!(issue_in(&mut buffer, replica, issue, room).0, Refused(1));
         }
     }
-    for bundle in [&[][..], &[0], &[1, 1]] {
+    for bundle in [&[][..], &[0], &[1, 1], &bundle_of(&p1())] {
         assert_eq!(open_checked(&mut buffer, bundle), Refused(1));
     }
     for room in [0, 1] {
@@ -35,16 +42,23 @@ fn assert_unsound(buffer: &[u8]) {
         assert_eq!(judge_in(&buffer, parents, outcomes).0, Refused(1));
     }
     for node in [0, 257, 9999] {
-        assert_eq!(path_in(&buffer, node, 0).0, Refused(1));
+        for room in [0, 9] {
+            assert_eq!(path_in(&buffer, node, room).0, Refused(1));
+        }
     }
     for view in VIEWS {
-        assert_eq!(listing_in(&buffer, view, 0).0, Refused(1));
+        for room in [0, 300] {
+            assert_eq!(listing_in(&buffer, view, room).0, Refused(1));
+        }
         assert_eq!(listing_size(&buffer, view), Refused(1));
     }
     assert!(!is_sound(&buffer));
     assert_eq!(file_end(&buffer), Refused(1));
-    assert_eq!(held_counts(&buffer, &mut [0; 7]), Refused(1));
-    assert_eq!(outline(&buffer), b"refused 1\n");
+    for room in [7, 8] {
+        let mut counts = vec![9; room];
+        assert_eq!(held_counts(&buffer, &mut counts), Refused(1));
+        assert_eq!(counts, vec![9; room]);
+    }
 }
 
 #[test]
@@ -70,10 +84,17 @@ fn what_a_log_comes_to() {
 #[test]
 fn number_1_short_or_cut() {
     let file = file_of(&p1());
-    for length in 0..file.len() {
+    for length in 1..file.len() {
         assert_unsound(&file[..length]);
     }
     assert_unsound(&[0; 32]);
+}
+
+/// The program alone reads no bytes as a log. Making looks at the length only.
+#[test]
+fn a_buffer_of_length_zero_is_unsound_in_the_library() {
+    assert_unsound_in_library(&[]);
+    assert_eq!(make_checked(&mut []), Refused(8));
 }
 
 #[test]

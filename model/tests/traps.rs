@@ -346,6 +346,32 @@ fn only_outline_minds_bytes_past_the_end() {
 }
 
 #[test]
+fn the_program_reads_no_bytes_as_the_log_without_ops() {
+    assert_eq!(outline(&[]), b"0 0 k\n");
+    assert_eq!(outline(&[]), outline(&empty(32)));
+}
+
+#[test]
+fn the_program_refuses_every_input_of_1_to_31_bytes() {
+    for file in [empty(32), vec![0; 32], vec![255; 32], file_of(&p1())] {
+        for length in 1..=31 {
+            assert_eq!(outline(&file[..length]), b"refused 1\n", "{length}");
+        }
+    }
+    for byte in 0..=255 {
+        assert_eq!(outline(&[byte]), b"refused 1\n", "{byte}");
+    }
+}
+
+#[test]
+fn the_program_reads_32_bytes_as_a_file_and_not_as_no_bytes() {
+    assert_eq!(outline(&empty(32)), b"0 0 k\n");
+    for other in [&[0; 32][..], &[255; 32], &file_of(&p1())[..32]] {
+        assert_eq!(outline(other), b"refused 1\n");
+    }
+}
+
+#[test]
 fn the_deepest_tree() {
     let file = file_of(&longest_chain());
     assert_eq!(file.len(), FULL);

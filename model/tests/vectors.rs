@@ -17,6 +17,7 @@ fn lines_by_hand() {
     let mut machine = Machine::default();
     let mut run = |case| machine.run(&case);
     assert_eq!(run(Case::Make), "r 8 0 ");
+    assert_eq!(run(Case::Outline), "o 2724705683 302030206b0a");
     assert_eq!(run(Case::Resize(2)), "l 42828 a5a5");
     assert_eq!(run(Case::Load(vec![0, 1, 2])), "l 66566 000102");
     let path = run(Case::Path(0, 1));
@@ -129,6 +130,25 @@ fn bundles_reach_every_answer_often() {
         let answer = format!("r {number} ");
         assert!(count("0c", &answer) > 20, "opening: {answer}");
         assert_eq!(count("0b", &answer), 0);
+    }
+}
+
+#[test]
+fn views_have_outline_at_every_short_length_and_every_call_on_no_bytes() {
+    let mut length = 0;
+    let mut calls = vec![];
+    for case in section("view").cases {
+        let call = case[..2].to_string();
+        match call.as_str() {
+            "00" => length = case.len() / 2 - 1,
+            "0a" => length = usize::from_str_radix(&case[2..], 16).unwrap(),
+            _ => calls.push((length, call)),
+        }
+    }
+    let has = |length: usize, call: &str| calls.contains(&(length, call.into()));
+    assert!((0..=33).all(|length| has(length, "09")));
+    for call in "01 02 03 04 05 06 07 08 09 0b 0c".split(' ') {
+        assert!(has(0, call), "{call}");
     }
 }
 

@@ -1,20 +1,31 @@
 // Reads one log from standard input and prints its keeping view; input that is no log prints
-// `refused 1`. A read or a write that fails is told on standard error, with its cause.
+// `refused 1`. An input of no bytes is a log without ops. A read or a write that fails is told on
+// standard error, with its cause.
 use codec::Answer;
+use printing::LONGEST;
 use soundness::LARGEST;
-use view::LONGEST;
+ghost use Prim.Native.Nat.{_≤_};
+ghost use mathlib.Core.Path.{_≡_};
+ghost use lib.ListN.{length, take};
+ghost use Rattle.rules.specs.File.{width};
+ghost use Rattle.codec.specs.Answers.{answerOf};
+ghost use Rattle.outline.specs.Reading.{Within};
+ghost use Rattle.outline.specs.Text.{counted};
+ghost use Rattle.rules.specs.Listing as rules;
 
 // One byte more than the largest log, so that longer input shows.
 const INPUT: usize = LARGEST + 1;
 
-// What came of reading: so many bytes, or a read that failed.
+// What came of reading: so many bytes, or a read that failed, which is no input of no bytes.
 enum Input {
     Bytes(usize),
     Failed,
 }
 
 // Reads until the input ends or the buffer is full.
-fn read_all(buf: &mut [u8]) -> Input {
+fn read_all(buf: &mut [u8]) -> Input
+    ensures { λ r. ⌜ Within r (length (now (buf .exit))) ⌝ }
+{
     let mut done: usize = 0;
     while done < buf.len() {
         let part = &mut buf[done..];
@@ -31,31 +42,51 @@ fn read_all(buf: &mut [u8]) -> Input {
     Input::Bytes(done)
 }
 
-// Prints the first bytes.
-fn print(bytes: &[u8], n: usize) {
-    if n <= bytes.len() {
-        if !io::write_all(libc::STDOUT_FILENO, &bytes[..n]) {
-            os::fail(b"outline: cannot write the output");
-        }
+// How many bytes an answer counts; none if it is refused.
+fn bytes_in(answer: Answer) -> usize
+    ensures { λ r. ⌜ r ≡ counted (answerOf answer) ⌝ }
+{
+    match answer {
+        Answer::Accepted(n) => n,
+        Answer::Refused(_) => 0,
+        Answer::HadIt => 0,
+        Answer::Done => 0,
     }
 }
 
-// Prints the view of the first bytes.
-fn show(input: &[u8], n: usize) {
-    if n <= input.len() {
-        let mut out = [0u8; LONGEST];
-        let Answer::Accepted(size) = view::outline(&input[..n], &mut out) else {
-            return;
-        };
-        print(&out, size);
+// Writes what the program prints for the first bytes of its input, and answers how many bytes
+// that is.
+fn text(input: &[u8], n: usize, out: &mut [u8]) -> usize
+    requires { ⌜ (n ≤ length (now input)) × (24492 ≤ length (now out)) ⌝ }
+    ensures { λ r. ⌜ (take r (now (out .exit)) ≡ rules.outline width (take n (now (input .entry)))) × (r ≤ length (now (out .entry))) ⌝ }
+{
+    let answer = printing::outline(&input[..n], out);
+    bytes_in(answer)
+}
+
+// Prints the first bytes.
+fn print(bytes: &[u8], n: usize)
+    requires { ⌜ n ≤ length (now bytes) ⌝ }
+{
+    if !io::write_all(libc::STDOUT_FILENO, &bytes[..n]) {
+        os::fail(b"outline: cannot write the output");
     }
+}
+
+// Reads the input, and prints what it gives.
+fn run(input: &mut [u8], out: &mut [u8])
+    requires { ⌜ 24492 ≤ length (now out) ⌝ }
+{
+    let Input::Bytes(n) = read_all(input) else {
+        os::fail(b"outline: cannot read the input");
+        return;
+    };
+    let size = text(input, n, out);
+    print(out, size);
 }
 
 fn main() {
     let mut input = [0u8; INPUT];
-    let Input::Bytes(n) = read_all(&mut input) else {
-        os::fail(b"outline: cannot read the input");
-        return;
-    };
-    show(&input, n);
+    let mut out = [0u8; LONGEST];
+    run(&mut input, &mut out);
 }

@@ -245,6 +245,25 @@ table =
     ∷ paths (replicate 31 0) 0 (9 ∷ []) (refused 1) (9 ∷ [])
     ∷ lists (replicate 31 0) keeping (replicate 6 9) (refused 1) (replicate 6 9)
     ∷ prints (replicate 31 0) refusedLine
+    -- no bytes yet: the program prints the root's line, as it does for the 32 bytes of the log without ops; at lengths from 1 to 31 and for
+    -- 32 bytes of another kind it refuses
+    ∷ prints [] (48 ∷ 32 ∷ 48 ∷ 32 ∷ 107 ∷ 10 ∷ [])
+    ∷ prints (0 ∷ []) refusedLine
+    ∷ prints (take 1 p1File) refusedLine
+    ∷ prints (take 31 emptyFile) refusedLine
+    ∷ prints (replicate 32 0) refusedLine
+    ∷ prints (take 32 p1File) refusedLine
+    -- "in the library a buffer of length zero remains unsound"
+    ∷ delivers [] (adds 1 1 0 (vector 0 0 0)) (refused 1)
+    ∷ issues [] 1 (add 0) (refused 1)
+    ∷ judges [] slots slots (refused 1)
+    ∷ paths [] 0 (9 ∷ []) (refused 1) (9 ∷ [])
+    ∷ lists [] keeping (replicate 6 9) (refused 1) (replicate 6 9)
+    ∷ sizes [] keeping (refused 1)
+    ∷ ends [] (refused 1)
+    ∷ counts [] (replicate 8 9) (refused 1) (replicate 8 9)
+    ∷ bundles [] (vector 0 0 0) (9 ∷ []) (refused 1) (9 ∷ [])
+    ∷ opens [] (0 ∷ []) (refused 1) []
     -- P5
     ∷ delivers p1Buffer (adds 1 5 0 (vector 4 0 0)) (refused 5)
     -- P6: the same; then one byte changed: the parent's low byte, the node's, a foreign count, the kind
@@ -417,6 +436,7 @@ unfolding ofOps table p1 p1Adds p1File p1Buffer emptyFile p10 p11 p11All p12 p12
     turnsBuffer openAnswer openBuffer
 table-holds =
     (refl, refl) & refl & refl & refl & refl & refl & refl & refl & refl & refl & refl & refl & refl & refl & refl
+    & refl & refl & refl & refl & refl & refl & refl & refl & refl & refl & refl & refl & refl & refl & refl & refl
     & refl & refl & refl & refl & refl & refl & refl & refl & refl & refl & refl & refl & refl & refl & refl & refl
     & refl & refl & (refl, refl) & refl & refl & refl & refl & (refl, refl) & refl & refl & refl & refl & refl
     & (refl, refl) & refl & refl & refl & refl & refl & refl & refl & (refl, refl) & refl & refl & refl & refl

@@ -1,5 +1,5 @@
 -- The listing of a view, and what the program `outline` prints. Tests 1, 8.
-use Rattle.rules.specs.File.{countsOf, Log, fileEnd, logOf}
+use Rattle.rules.specs.File.{countsOf, emptyLog, Log, fileEnd, logOf}
 use Prim.Native.Nat.{ℕ, zero, suc, _+_, _/_, _%_}
 use mathlib.Core.Bool.{Bool, cond, _&&_}
 use mathlib.Core.List.{List, [], _∷_, _++_, map}
@@ -62,6 +62,9 @@ listingSize w f view = require (sound w f) 1 (accepted (length (listingOf view (
 unfoldable pub refusedLine : List ℕ
 refusedLine = 114 ∷ 101 ∷ 102 ∷ 117 ∷ 115 ∷ 101 ∷ 100 ∷ 32 ∷ 49 ∷ 10 ∷ []
 
--- what the program prints: the keeping view; "input with bytes past the file's end, or not sound, prints the line refused 1"
+-- what the program prints: the keeping view; "input with bytes past the file's end, or not sound, prints the line refused 1", but "an
+-- input of no bytes is read by the program as the collection without records"
 unfoldable pub outline : ℕ → (input : List ℕ) → List ℕ
-outline w f = cond (sound w f && eqb (fileEnd w f) (length f)) (listingOf keeping (logOf w f)) refusedLine
+outline w f =
+    cond (eqb (length f) 0) (listingOf keeping emptyLog)
+    (cond (sound w f && eqb (fileEnd w f) (length f)) (listingOf keeping (logOf w f)) refusedLine)

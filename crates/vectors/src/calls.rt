@@ -8,7 +8,7 @@ use codec::Refusal;
 use codec::widen;
 use codec::widen16;
 use codec::word_at;
-use view::LONGEST;
+use printing::LONGEST;
 use view::View;
 
 fn refused(why: Refusal) {
@@ -233,7 +233,7 @@ fn open_bundle(buf: &mut [u8], bytes: &[u8]) {
 fn outline(input: &[u8]) {
     let mut out = [0u8; LONGEST];
     text(b"o");
-    let Answer::Accepted(n) = view::outline(input, &mut out) else {
+    let Answer::Accepted(n) = printing::outline(input, &mut out) else {
         return;
     };
     memory_front(&out, n);

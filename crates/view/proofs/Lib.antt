@@ -6,5 +6,4 @@ pub mod ListingLaws
 pub mod LinkingCases
 pub mod LineCases
 pub mod ListingCases
-pub mod OutlineCases
 pub mod SizeCases

@@ -1,16 +1,14 @@
--- What the two views of a sound log show, and how long the program's output can be.
-use Prim.Native.Nat.{ℕ, _≤_}
+-- What the two views of a sound log show.
+use Prim.Native.Nat.{ℕ}
 use mathlib.Core.Path.{_≡_}
 use mathlib.Core.Bool.{true}
 use mathlib.Core.List.{List, []}
-use lib.ListN.{length}
-use Rattle.rules.specs.File.{Log, width, countsOf, logOf}
+use Rattle.rules.specs.File.{Log, countsOf, logOf}
 use Rattle.rules.specs.Log.{knownParent, structural}
 use Rattle.rules.specs.Marks.{isKnown, knowledge}
 use Rattle.rules.specs.Replay.{parentsOf, removedIn}
 use Rattle.rules.specs.Tree.{parentIn}
 use Rattle.rules.specs.Views.{View, keeping, skipping, shown}
-use Rattle.rules.specs.Listing.{outline}
 
 -- a view of a log shows the node
 abbrev pub Shows : View → Log → ℕ → Type 0
@@ -35,7 +33,3 @@ SkippingWithin =
     (w : ℕ) (f : List ℕ) → structural w f ≡ true
     → (n : ℕ) → knownParent (logOf w f) (countsOf (logOf w f)) n ≡ true
     → Shows skipping (logOf w f) n → Shows keeping (logOf w f) n
-
--- no output has more than 24,492 bytes: 2,041 lines of 12
-abbrev pub OutlineFits : Type 0
-OutlineFits = (f : List ℕ) → length (outline width f) ≤ 24492

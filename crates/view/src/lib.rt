@@ -5,12 +5,9 @@ mod lines;
 mod linking;
 mod listings;
 mod paths;
-mod printing;
 mod sizes;
 
 pub use answer::View;
 pub use listings::listing;
 pub use paths::path;
-pub use printing::LONGEST;
-pub use printing::outline;
 pub use sizes::listing_size;

@@ -138,6 +138,11 @@ impl Input {
         }
     }
 
+    /// The file of the ops that the log starts with, neither damaged nor cut.
+    pub fn file(&self) -> Vec<u8> {
+        examples::file_of(&self.ops[..self.held])
+    }
+
     fn is_large(&self) -> bool {
         self.held > 60
     }

@@ -1,9 +1,11 @@
 //! Calls the linked library and the model with the same input, and compares the
-//! answer and every byte of lent memory, with the guards around it.
+//! answer and every byte of lent memory, with the guards around it. Or runs
+//! programs on inputs, and compares what they print with the model.
 
 mod call;
 mod input;
 mod lent;
+mod program;
 mod raw;
 
 use call::{run, Call, Library, Model, Outcome, NAMES};
@@ -13,17 +15,22 @@ use outline_model::rng::Rng;
 use std::time::Instant;
 
 const USAGE: &str = "fuzz [--calls N] [--seed N] [--exact] [--without NAME]
+fuzz --program PATH [--program PATH ...] [--inputs N] [--seed N]
 
   --calls N       how many calls to make at least (3000000)
   --seed N        where the input starts (1)
   --exact         no guards: for a memory checker, which sees every access beside lent memory
-  --without NAME  leave a call out";
+  --without NAME  leave a call out
+  --program PATH  run this program, which does what outline does; no calls are then made
+  --inputs N      how many inputs each program gets (1000)";
 
 struct Options {
     calls: u64,
     seed: u64,
     exact: bool,
     without: Option<String>,
+    programs: Vec<String>,
+    inputs: u64,
 }
 
 fn options() -> Result<Options, String> {
@@ -32,6 +39,8 @@ fn options() -> Result<Options, String> {
         seed: 1,
         exact: false,
         without: None,
+        programs: vec![],
+        inputs: 1000,
     };
     let mut words = std::env::args().skip(1);
     while let Some(word) = words.next() {
@@ -41,6 +50,8 @@ fn options() -> Result<Options, String> {
             "--seed" => options.seed = number(&next()?)?,
             "--without" => options.without = Some(next()?),
             "--exact" => options.exact = true,
+            "--program" => options.programs.push(next()?),
+            "--inputs" => options.inputs = number(&next()?)?,
             _ => return Err(USAGE.to_string()),
         }
     }
@@ -94,10 +105,19 @@ fn hex(bytes: &[u8]) -> String {
 }
 
 fn main() {
-    let options = options().unwrap_or_else(|why| {
+    let run = options().and_then(|options| match options.programs[..] {
+        [] => Ok(compare_calls(&options)),
+        _ => program::compare(&options.programs, options.inputs, options.seed),
+    });
+    let differences = run.unwrap_or_else(|why| {
         eprintln!("{why}");
         std::process::exit(2);
     });
+    std::process::exit(i32::from(differences > 0));
+}
+
+/// Makes the library's calls and tells how many answers differ.
+fn compare_calls(options: &Options) -> u64 {
     let began = Instant::now();
     let mut rng = Rng::new(options.seed);
     let stock = Stock::new(&mut rng);
@@ -159,5 +179,5 @@ fn main() {
         began.elapsed().as_secs_f64(),
         differences
     );
-    std::process::exit(i32::from(differences > 0));
+    differences
 }

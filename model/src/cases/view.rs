@@ -1,12 +1,12 @@
-//! Path, listing and outline.
+//! Path, listing and outline, and every call on a buffer without bytes.
 
 use super::damage;
-use super::examples::{file_of, longest_chain, small_logs};
+use super::examples::{add, bundle_of, file_of, longest_chain, p1, small_logs};
 use super::world::{full, Style, World};
 use super::Script;
 use crate::rng::Rng;
 use crate::script::{Case, MAX_LISTING, MAX_TABLE};
-use crate::{listing, path, Answer, Op, View};
+use crate::{listing, path, Answer, Op, View, HEADER_LEN, REPLICAS};
 
 const VIEWS: [View; 2] = [View::Keeping, View::Skipping];
 
@@ -15,6 +15,8 @@ pub fn write(script: &mut Script) {
     damaged_files(script);
     random_logs(script);
     large(script);
+    short_inputs(script);
+    no_bytes(script);
 }
 
 fn small(script: &mut Script) {
@@ -151,4 +153,49 @@ fn large(script: &mut Script) {
         script.resize(file.len() - 1);
         script.push(Case::Outline);
     }
+}
+
+/// Outline reads no bytes as the log without ops, and refuses all that is
+/// shorter than a header; 32 bytes are a log or not.
+fn short_inputs(script: &mut Script) {
+    let [zeros, high] = [0, 255].map(|byte| vec![byte; HEADER_LEN]);
+    for file in [file_of(&[]), file_of(&p1()), zeros, high] {
+        for length in 0..=HEADER_LEN {
+            script.load(&file[..length]);
+            script.push(Case::Outline);
+        }
+    }
+}
+
+/// Every other call refuses a buffer of length zero, whether or not there is
+/// room for an answer; outline stands last, on what they have left.
+fn no_bytes(script: &mut Script) {
+    let first = add(1, 0, &[]);
+    script.load(&[]);
+    script.push(Case::Make);
+    script.deliver(&[]);
+    script.deliver(&first.bytes());
+    for room in [0, 14] {
+        script.extend([
+            Case::Add(1, 0, room),
+            Case::Remove(1, 257, room),
+            Case::Move(1, 257, 0, room),
+        ]);
+    }
+    for room in [0, 2041] {
+        script.push(Case::Judge(room, room));
+    }
+    for room in [0, 1] {
+        script.extend([Case::Path(0, room), Case::Path(257, room)]);
+    }
+    for room in [0, 6] {
+        script.extend(VIEWS.map(|view| Case::Listing(view, room)));
+    }
+    for room in [0, 1] {
+        script.push(Case::MakeBundle([0; REPLICAS], room));
+    }
+    script.open(&[]);
+    script.open(&[0]);
+    script.open(&bundle_of(&[first]));
+    script.push(Case::Outline);
 }

@@ -1,21 +1,16 @@
 -- `outline::print` meets its contract.
 use borrow.Author.Needs.{needs}
-use lib.Seq.{length-take-le}
-use mathlib.Core.Path.{sym}
+use Rattle.outline.proofs.TextCases.{first-bytes}
 use Rattle.outline.proofs.print.Statement.{statement}
 use Rattle.outline.proofs.print.Tie as tie
-
-slice-aggregate-write-all : tie.Need-slice-aggregate-write-all
-slice-aggregate-write-all c = sym (length-take-le _ _ (c .before .if1 .taken))
 
 pub print-spec : {M : Type 1} → statement M
 print-spec =
     tie.close
     (tie.spec
-    slice-aggregate-write-all
+    (λ c. first-bytes _ _ (search needs))
     (λ c κs. search needs)
     (λ c. search needs)
     (λ c κs. search needs)
-    (λ c. search needs)
     (λ c. search needs)
     (λ c. search needs))

@@ -1,19 +1,22 @@
-use crate::answer::View;
-use crate::listings::listing;
+// What the program `outline` prints for an input.
 use codec::Answer;
 use codec::Refusal;
 use oplog::end_of;
+use replica::make;
 use soundness::WIDTH;
 use soundness::is_sound;
 use tree::SLOTS;
+use view::View;
+use view::listing;
 ghost use mathlib.Core.Path.{_≡_};
-ghost use Rattle.rules.specs.File.{width};
-ghost use Rattle.rules.specs.Listing.{refusedLine};
+ghost use Rattle.rules.specs.File.{emptyLog, width};
+ghost use Rattle.rules.specs.Listing.{listingOf, refusedLine};
+ghost use Rattle.rules.specs.Views.{keeping};
 ghost use Rattle.codec.specs.Answers.{answerOf};
 ghost use Rattle.view.specs.Answers.{putIn};
 ghost use Rattle.rules.specs.Listing as rules;
 
-// Bytes that are enough for every listing, and for every output of the program.
+// Bytes that are enough for every output of the program.
 pub const LONGEST: usize = 12 * SLOTS;
 
 // Writes the line of a refused input.
@@ -36,12 +39,24 @@ fn refuse(out: &mut [u8]) -> Answer
     Answer::Accepted(10)
 }
 
+// Writes the listing of the log without ops.
+fn list_empty(out: &mut [u8]) -> Answer
+    ensures { λ r. ⌜ record { answer = answerOf r; out = now (out .exit) } ≡ putIn (listingOf keeping emptyLog) (now (out .entry)) ⌝ }
+{
+    let mut empty = [0u8; 32];
+    make(&mut empty);
+    listing(&empty, View::Keeping, out)
+}
+
 // Writes what the program prints for an input: the keeping view of its log, or that it is
-// refused. No output has more than 24,492 bytes.
+// refused. An input of no bytes is a log without ops. No output has more than 24,492 bytes.
 pub fn outline(input: &[u8], out: &mut [u8]) -> Answer
     ensures { λ r. ⌜ record { answer = answerOf r; out = now (out .exit) }
         ≡ putIn (rules.outline width (now (input .entry))) (now (out .entry)) ⌝ }
 {
+    if input.len() == 0 {
+        return list_empty(out);
+    }
     if !is_sound(input) {
         return refuse(out);
     }

@@ -1,14 +1,17 @@
--- `view::printing::outline` meets its contract.
+-- `printing::outline` meets its contract.
 use borrow.Author.Needs.{needs}
 use Rattle.soundness.proofs.SoundCases.{end-asks}
-use Rattle.view.proofs.OutlineCases.{printing}
-use Rattle.view.proofs.printing.outline.Statement.{statement}
-use Rattle.view.proofs.printing.outline.Tie as tie
+use Rattle.printing.proofs.OutlineCases.{printing}
+use Rattle.printing.proofs.outline.Statement.{statement}
+use Rattle.printing.proofs.outline.Tie as tie
 
 pub outline-spec : {M : Type 1} → statement M
 outline-spec =
     tie.close
     (tie.spec
+    (λ c κs. search needs)
+    (λ c. search needs)
+    (λ c. search printing)
     (λ c κs. search needs)
     (λ c κs. search needs)
     (λ c. search needs)

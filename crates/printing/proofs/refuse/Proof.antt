@@ -1,11 +1,11 @@
--- `view::printing::refuse` meets its contract.
+-- `printing::refuse` meets its contract.
 use mathlib.Core.Path.{refl}
 use lib.ListN.{length-set}
 use native.Mathlib.Omega.{arith}
 use Rattle.rules.specs.Listing.{refusedLine}
-use Rattle.view.proofs.OutlineCases.{printing, refuse-put}
-use Rattle.view.proofs.printing.refuse.Statement.{statement}
-use Rattle.view.proofs.printing.refuse.Tie as tie
+use Rattle.printing.proofs.OutlineCases.{printing, refuse-put}
+use Rattle.printing.proofs.refuse.Statement.{statement}
+use Rattle.printing.proofs.refuse.Tie as tie
 
 returns-2 : tie.Need-returns-2
 unfolding refusedLine

@@ -1,0 +1,41 @@
+-- The cases of the text that is printed, as the code meets them.
+use Prim.Native.Nat.{ℕ, _≤_}
+use borrow.Author.Needs.{needs}
+use lib.ListN.{drop, length, take}
+use lib.Seq.{length-take-le, take-at}
+use mathlib.Core.List.{List, _++_}
+use mathlib.Core.Path.{_≡_, ap, refl, sym, _∙_}
+use native.Mathlib.Omega.{arith}
+use Rattle.rules.specs.Answer.{Answer, accepted}
+use Rattle.rules.specs.File.{width}
+use Rattle.rules.specs.Listing.{outline}
+use Rattle.rules.specs.Path.{Written}
+use Rattle.printing.proofs.PrintTheorems.{outline-size}
+use Rattle.view.proofs.PutCases.{put-all}
+use Rattle.view.specs.Answers.{putIn}
+use Rattle.view.specs.Tables.{putFront}
+use Rattle.outline.specs.Text.{counted}
+
+pub first-bytes : (n : ℕ) (bytes : List ℕ) → n ≤ length bytes → n ≡ length (take n bytes)
+first-bytes n bytes h = sym (length-take-le n bytes h)
+
+-- lent 24,492 bytes, the whole output is put in front
+module _ (f out : List ℕ) (lent : 24492 ≤ length out) where
+  abbrev text : List ℕ
+  text = outline width f
+
+  fits : length text ≤ length out
+  fits = let s = outline-size f in omega arith
+
+  pub text-put : (a : Answer) (o : List ℕ) → _≡_ {A = Written} (record { answer = a; out = o }) (putIn (outline width f) out)
+      → (n : ℕ) → n ≡ counted a → (take n o ≡ outline width f) × (n ≤ length out)
+  unfolding putFront
+  text-put a o e n is =
+      let all-put : _≡_ {A = Written} (record { answer = a; out = o }) (record { answer = accepted (length text); out = putFront text out }) =
+      e ∙ sym (put-all text out (length text) refl fits (putFront text out) refl) in
+      let long : n ≡ length text = is ∙ ap (λ (x : Written). counted (x .answer)) all-put in
+      let written : o ≡ putFront text out = ap (λ (x : Written). x .out) all-put in
+      (rw (long, written) (take-at text (drop (length text) out) (length text) refl), rw long fits)
+
+---- what the code of printing needs: search texts
+pub ruleset texts = (needs, first-bytes, text-put)

@@ -1,0 +1,28 @@
+-- `outline::run` meets its contract.
+use borrow.Author.Needs.{needs}
+use Rattle.outline.proofs.ReadCases.{read-within}
+use Rattle.outline.proofs.run.Statement.{statement}
+use Rattle.outline.proofs.run.Tie as tie
+
+text-requires : tie.Need-text-requires
+text-requires c κs =
+    let bound = c .before .before .before in
+    let known = bound .before .before in
+    (read-within _ _ _ (bound .n .given .1) (known .before .before .read-all .ensures), search needs)
+
+pub run-spec : {M : Type 1} → statement M
+run-spec =
+    tie.close
+    (tie.spec
+    (λ c κs. search needs)
+    (λ c. search needs)
+    (λ c. search needs)
+    (λ c. search needs)
+    (λ c κs. search needs)
+    (λ c. search needs)
+    (λ c. search needs)
+    text-requires
+    (λ c κs. search needs)
+    (λ c. search needs)
+    (λ c. search needs)
+    (λ c. search needs))

@@ -1,0 +1,11 @@
+-- `outline::text` meets its contract.
+use borrow.Author.Needs.{needs}
+use Rattle.outline.proofs.TextCases.{text-put, texts}
+use Rattle.outline.proofs.text.Statement.{statement}
+use Rattle.outline.proofs.text.Tie as tie
+
+returns : tie.Need-returns
+returns c = let called = c .before .before .before in text-put _ _ (search needs) _ _ (called .outline .ensures) _ (c .bytes-in .ensures)
+
+pub text-spec : {M : Type 1} → statement M
+text-spec = tie.close (tie.spec (λ c. search texts) (λ c κs. search needs) (λ c κs. search needs) (λ c. search needs) returns)

@@ -1,0 +1,3 @@
+pub mod OutlineLaws
+pub mod OutlineCases
+pub mod PrintTheorems
