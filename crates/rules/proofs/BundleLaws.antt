@@ -1,5 +1,5 @@
 -- Laws of a bundle's bytes: what test 12 says of them; the head reads back, and so do the bodies.
-use Prim.Native.Nat.{ℕ, zero, suc, _+_, _*_, _-_, _≤_, _<_}
+use Prim.Native.Nat.{ℕ, zero, suc, _+_, _*_, _≤_, _<_}
 use borrow.Author.Tests.{le-leb, leb-true, eq-eqb, eqb-true, ne-eqb, lt-ltb, ltb-true}
 use lib.Count.{ones, onesIn, ones-step}
 use lib.Dec.{ltb, eqb, lit<}

@@ -8,7 +8,7 @@ use native.Mathlib.Omega.{arith}
 use borrow.Author.Tests.{le-leb, leb-true, leb-false, eq-eqb, ne-eqb}
 use lib.Dec.{leb}
 use lib.ListN.{length, length-take, replicate, take}
-use Rattle.lists.specs.Lists.{upFrom, sum}
+use Rattle.lists.specs.Lists.{sum}
 use Rattle.rules.specs.Op.{Vector, replicas, countIn, vectorOf, seqOf, ownCount}
 use Rattle.rules.specs.File.{Log, opAt, opsOf, countsOf, endOf, largest, within}
 use Rattle.rules.specs.Log.{covered, closedAt, closed}
