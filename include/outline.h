@@ -11,7 +11,8 @@
  * header, then 14 bytes for each op. A replica is a number from 1 to 8; it
  * issues at most 255 ops. An op adds, removes or moves a node. The root is node
  * 0; the node that is added by op q of replica s is node 256 * s + q. A bundle
- * has all ops of a log that another lacks, in one piece.
+ * has all ops of a log that another lacks, in one piece. A buffer of length 0
+ * holds no log, though the programs print a file of no bytes as one without ops.
  *
  * Memory. Lent memory is a pointer and a length, in elements (bytes, or
  * two-byte entries where the pointer is to uint16_t). The pointer must be valid

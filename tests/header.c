@@ -288,6 +288,13 @@ static void nulls(void) {
     EXPECT(outline_listing(none, 0, false, none, 0) == OUTLINE_UNSOUND);
     EXPECT(outline_listing_size(none, 0, true) == OUTLINE_UNSOUND);
     EXPECT(outline_causal_order(none, 0, no_entries, 0) == OUTLINE_UNSOUND);
+    /* However much is lent beside it, a buffer of length 0 is no log. */
+    size_t entries = OUTLINE_TABLE;
+    EXPECT(outline_issue_add(none, 0, 1, 0, op, sizeof op) == OUTLINE_UNSOUND);
+    EXPECT(outline_bundle_make(none, 0, nothing, bundle, sizeof bundle) == OUTLINE_UNSOUND);
+    EXPECT(outline_judge(none, 0, parents, entries, outcomes, entries) == OUTLINE_UNSOUND);
+    EXPECT(outline_path(none, 0, 0, path, entries) == OUTLINE_UNSOUND);
+    EXPECT(outline_listing(none, 0, false, text, sizeof text) == OUTLINE_UNSOUND);
     outline_make(log_a, sizeof log_a);
     EXPECT(outline_causal_order(log_a, sizeof log_a, no_entries, 0) == VALUE(0));
     add(log_a, 1, 0);

@@ -46,13 +46,15 @@ impl Log {
     /// # Errors
     ///
     /// [`Refusal::Unsound`] if the bytes are not a sound log from the first to
-    /// the last.
+    /// the last. No bytes are none: for a file that has none yet, take
+    /// [`Log::new`].
     ///
     /// ```
     /// use outline::{Log, Refusal};
     /// let log = Log::new();
     /// assert_eq!(Log::from_bytes(log.as_bytes()), Ok(log));
     /// assert_eq!(Log::from_bytes(b"something else"), Err(Refusal::Unsound));
+    /// assert_eq!(Log::from_bytes(b""), Err(Refusal::Unsound));
     /// ```
     pub fn from_bytes(bytes: &[u8]) -> Result<Log, Refusal> {
         if plain::end(bytes)? != bytes.len() {

@@ -11,7 +11,7 @@ use Rattle.lists.proofs.BoolLaws.{tested}
 use Rattle.rules.specs.Answer.{Answer, accepted, refused, require}
 use Rattle.rules.specs.Deliver.{Result, make, makeAnswer, makeBuffer}
 use Rattle.rules.specs.Listing.{listing, listingOf, outline, refusedLine}
-use Rattle.rules.specs.File.{emptyLog, fileEnd, fileOf, headerCounts, logOf, startOf, width}
+use Rattle.rules.specs.File.{emptyLog, fileEnd, fileOf, headerCounts, startOf, width}
 use Rattle.rules.specs.Path.{Written}
 use Rattle.rules.specs.Sound.{sound}
 use Rattle.rules.specs.Views.{keeping}

@@ -4,7 +4,7 @@ use borrow.Author.Tests.{eq-eqb, ne-eqb}
 use lib.ListN.{length}
 use mathlib.Core.Bool.{false, true}
 use mathlib.Core.List.{List, [], append-nil}
-use mathlib.Core.Path.{_≡_, ap, refl, sym, _∙_}
+use mathlib.Core.Path.{_≡_, refl, sym, _∙_}
 use native.Mathlib.Omega.{arith}
 use Rattle.lists.specs.Lists.{any, concat, filter, isIn, upFrom}
 use Rattle.rules.specs.File.{countsOf, emptyLog, fileEnd, fileOf, logOf, opsOf}
@@ -15,7 +15,7 @@ use Rattle.rules.specs.Replay.{addedIn, opsWithin, removedIn}
 use Rattle.rules.specs.Sound.{sound}
 use Rattle.rules.specs.Tree.{climb, depth, path}
 use Rattle.rules.specs.Views.{keeping, nodes, shown}
-use Rattle.rules.proofs.FileLaws.{empty-end, file-end, length-file, logOf-fileOf}
+use Rattle.rules.proofs.FileLaws.{file-end, length-file, logOf-fileOf}
 use Rattle.rules.proofs.SoundLaws.{sound-empty, sound-file, sound-laid, wide-empty}
 
 pub refused-size : length refusedLine ≡ 10

@@ -1,24 +1,19 @@
 -- The claims about the program's output hold.
 use Prim.Native.Nat.{ℕ, _≤_}
 use borrow.Author.Tests.{lt-leb}
-use lib.ListN.{drop, length}
+use lib.ListN.{length}
 use mathlib.Core.Bool.{Bool, false, true}
-use mathlib.Core.List.{List, [], _++_}
+use mathlib.Core.List.{List, []}
 use mathlib.Core.Path.{_≡_, ap, refl, sym, _∙_}
 use native.Mathlib.Decide.{ℕ-discrete}
 use native.Mathlib.Omega.{arith}
 use lib.Dec.{lit≤}
 use Rattle.order.proofs.TourLaws.{sound-listing}
-use Rattle.rules.specs.Answer.{accepted}
 use Rattle.rules.specs.File.{emptyLog, fileEnd, fileOf, width}
 use Rattle.rules.specs.Listing.{decimal, digits, lineOf, listingOf, outline}
 use Rattle.rules.specs.Log.{laid, structural}
-use Rattle.rules.specs.Path.{Written}
 use Rattle.rules.specs.Sound.{sound}
 use Rattle.rules.specs.Views.{keeping}
-use Rattle.view.proofs.PutCases.{put-all}
-use Rattle.view.specs.Answers.{putIn}
-use Rattle.view.specs.Tables.{putFront}
 use Rattle.printing.specs.Claims.{NoBytes, OutlineFits, ShortRefused, ShortUnsound}
 use Rattle.printing.proofs.OutlineLaws.{empty-ends, empty-reads, empty-sound, outline-listed, outline-long, outline-none, outline-unsound, refused-size, root-line}
 

@@ -1,15 +1,16 @@
-//! Measures every call of the library against the same in safe Rust, and writes
-//! docs/PERFORMANCE.md.
+//! Measures every call of the library against the same in safe Rust, or the
+//! programs, and writes docs/PERFORMANCE.md.
 
 mod callgrind;
 mod meeting;
 mod pick;
+mod program;
 mod report;
 mod work;
 
 use callgrind::COUNTING;
 use std::hint::black_box;
-use std::path::Path;
+use std::path::{Path, PathBuf};
 use std::sync::atomic::Ordering::Relaxed;
 use std::time::Instant;
 use work::{all, Side, Work};
@@ -31,11 +32,20 @@ fn main() {
         ["count"] => count(),
         [] => measure(40),
         ["quick"] => measure(4),
+        ["programs"] => program::measure(&root(), &page()).expect("programs are run"),
         _ => {
-            eprintln!("bench [quick]");
+            eprintln!("bench [quick | programs]");
             std::process::exit(2);
         }
     }
+}
+
+fn root() -> PathBuf {
+    Path::new(env!("CARGO_MANIFEST_DIR")).join("../..")
+}
+
+fn page() -> PathBuf {
+    root().join("docs/PERFORMANCE.md")
 }
 
 /// What runs under callgrind: every call once at each side.
@@ -51,7 +61,6 @@ fn count() {
 }
 
 fn measure(passes: usize) {
-    let root = Path::new(env!("CARGO_MANIFEST_DIR")).join("../..");
     let mut works: Vec<Work> = all()
         .map(|(call, shape, size)| Work::new(call, shape, size))
         .collect();
@@ -75,7 +84,7 @@ fn measure(passes: usize) {
             counts: None,
         })
         .collect();
-    let folder = root.join("target/callgrind");
+    let folder = root().join("target/callgrind");
     if let Some(counts) = callgrind::counts("count", &folder) {
         assert_eq!(
             counts.len(),
@@ -88,13 +97,12 @@ fn measure(passes: usize) {
     }
     let text = report::text(&found);
     print!("{text}");
-    let page = root.join("docs/PERFORMANCE.md");
-    // The part that model/against wrote stays.
-    let before = std::fs::read_to_string(&page).unwrap_or_default();
-    let against = before
-        .find("\n## Against")
-        .map_or("", |part| &before[part..]);
-    std::fs::write(page, text + against).expect("docs/PERFORMANCE.md is written");
+    // What follows on the page is measured by itself, and stays.
+    let before = std::fs::read_to_string(page()).unwrap_or_default();
+    let others = [program::TITLE, "\n## Against"];
+    let rest = others.iter().find_map(|title| before.find(title));
+    let rest = rest.map_or("", |part| &before[part..]);
+    std::fs::write(page(), text + rest).expect("docs/PERFORMANCE.md is written");
 }
 
 /// Keeps the least time of a call at each side, of some rounds in turn.

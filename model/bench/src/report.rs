@@ -77,7 +77,7 @@ fn table(text: &mut String, found: &[Found], cell: impl Fn(&Found) -> Option<Str
     }
 }
 
-fn duration(nanoseconds: f64) -> String {
+pub fn duration(nanoseconds: f64) -> String {
     match nanoseconds {
         n if n < 100.0 => format!("{n:.1} ns"),
         n if n < 1000.0 => format!("{n:.0} ns"),

@@ -38,7 +38,7 @@ impl Shape {
     }
 
     /// Ops in an order in which each comes after all it counts.
-    fn ops(self, size: usize) -> Vec<Op> {
+    pub fn ops(self, size: usize) -> Vec<Op> {
         match self {
             Shape::Flat => {
                 let each = |replica: usize| (size + 8 - replica) / 8;
