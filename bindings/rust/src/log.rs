@@ -46,7 +46,7 @@ impl Log {
     /// # Errors
     ///
     /// [`Refusal::Unsound`] if the bytes are not a sound log from the first to
-    /// the last. No bytes are none: for a file that has none yet, take
+    /// the last. No bytes are no log: for a file that is still empty, take
     /// [`Log::new`].
     ///
     /// ```

@@ -45,8 +45,9 @@ module _ (w n : ℕ) (f : List ℕ) (x : Reaches w n f) (r : Op) where
       let i = replica-formed r formed in
       let good = sound-good w f (x .is-sound) in
       let v : Vector = countsOf (logOf w f) in
-      let lacks : countIn v (replicaOf r) < seqOf r = leb-false (seqOf r) (countIn v (replicaOf r)) e in
-      rw (counts-logOf w f) at (end-room w v (counts-eight (logOf w f) good) (good .counts) (replicaOf r) (i .0) (i .1) (omega (arith, i .2)))
+      let s : ℕ = replicaOf r in
+      let lacks : countIn v s < seqOf r = leb-false (seqOf r) (countIn v s) e in
+      rw (counts-logOf w f) at (end-room w v (counts-eight (logOf w f) good) (good .counts) s (i .0) (i .1) (omega (arith, i .2)))
 
   room-alike : wellFormed r ≡ true → isHeld (logOf w f) r ≡ false → leb (fileEnd w f + w) n ≡ leb (fileEnd w f + w) (length f)
   room-alike formed e = ⊎-elim

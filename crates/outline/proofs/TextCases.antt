@@ -31,11 +31,12 @@ module _ (f out : List ℕ) (lent : 24492 ≤ length out) where
       → (n : ℕ) → n ≡ counted a → (take n o ≡ outline width f) × (n ≤ length out)
   unfolding putFront
   text-put a o e n is =
-      let all-put : _≡_ {A = Written} (record { answer = a; out = o }) (record { answer = accepted (length text); out = putFront text out }) =
+      let whole : Written = record { answer = accepted (length text); out = putFront text out } in
+      let all-put : _≡_ {A = Written} (record { answer = a; out = o }) whole =
       e ∙ sym (put-all text out (length text) refl fits (putFront text out) refl) in
       let long : n ≡ length text = is ∙ ap (λ (x : Written). counted (x .answer)) all-put in
       let written : o ≡ putFront text out = ap (λ (x : Written). x .out) all-put in
       (rw (long, written) (take-at text (drop (length text) out) (length text) refl), rw long fits)
 
----- what the code of printing needs: search texts
-pub ruleset texts = (needs, first-bytes, text-put)
+---- what the code of writing needs: search texts
+pub ruleset texts = (needs, first-bytes)

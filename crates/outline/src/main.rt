@@ -10,13 +10,13 @@ ghost use lib.ListN.{length, take};
 ghost use Rattle.rules.specs.File.{width};
 ghost use Rattle.codec.specs.Answers.{answerOf};
 ghost use Rattle.outline.specs.Reading.{Within};
-ghost use Rattle.outline.specs.Text.{counted};
+ghost use Rattle.outline.specs.Text as texts;
 ghost use Rattle.rules.specs.Listing as rules;
 
 // One byte more than the largest log, so that longer input shows.
 const INPUT: usize = LARGEST + 1;
 
-// What came of reading: so many bytes, or a read that failed, which is no input of no bytes.
+// What came of reading: so many bytes, or a read that failed, which is not an empty input.
 enum Input {
     Bytes(usize),
     Failed,
@@ -43,8 +43,8 @@ fn read_all(buf: &mut [u8]) -> Input
 }
 
 // How many bytes an answer counts; none if it is refused.
-fn bytes_in(answer: Answer) -> usize
-    ensures { λ r. ⌜ r ≡ counted (answerOf answer) ⌝ }
+fn counted(answer: Answer) -> usize
+    ensures { λ r. ⌜ r ≡ texts.counted (answerOf answer) ⌝ }
 {
     match answer {
         Answer::Accepted(n) => n,
@@ -61,12 +61,12 @@ fn text(input: &[u8], n: usize, out: &mut [u8]) -> usize
     ensures { λ r. ⌜ (take r (now (out .exit)) ≡ rules.outline width (take n (now (input .entry)))) × (r ≤ length (now (out .entry))) ⌝ }
 {
     let answer = printing::outline(&input[..n], out);
-    bytes_in(answer)
+    counted(answer)
 }
 
-// Prints the first bytes.
+// Prints the first bytes, which are the output for some input.
 fn print(bytes: &[u8], n: usize)
-    requires { ⌜ n ≤ length (now bytes) ⌝ }
+    requires { ⌜ texts.Printed (now bytes) n ⌝ }
 {
     if !io::write_all(libc::STDOUT_FILENO, &bytes[..n]) {
         os::fail(b"outline: cannot write the output");

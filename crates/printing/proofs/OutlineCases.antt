@@ -19,7 +19,7 @@ use Rattle.view.proofs.ListingCases.{listing-put}
 use Rattle.view.proofs.PutCases.{put-all, put-short}
 use Rattle.view.specs.Answers.{putIn}
 use Rattle.view.specs.Tables.{putFront}
-use Rattle.printing.proofs.OutlineLaws.{empty-reads, empty-sound, outline-listed, outline-long, outline-none, outline-unsound, refused-size}
+use Rattle.printing.proofs.OutlineLaws.{empty-reads, empty-sound, outline-listed, outline-long, outline-no-bytes, outline-unsound, refused-size}
 
 ---- the line of a refused input
 
@@ -53,8 +53,8 @@ empty-listed a b out x e h =
 ---- the output
 
 module _ (f out : List ℕ) (x : Written) where
-  pub print-none : length f ≡ 0 → x ≡ putIn (listingOf keeping emptyLog) out → x ≡ putIn (outline width f) out
-  print-none e h = rw (outline-none width f e) h
+  pub print-no-bytes : length f ≡ 0 → x ≡ putIn (listingOf keeping emptyLog) out → x ≡ putIn (outline width f) out
+  print-no-bytes e h = rw (outline-no-bytes width f e) h
 
   pub print-unsound : (length f ≡ 0 → ⊥) → sound width f ≡ false → x ≡ putIn refusedLine out → x ≡ putIn (outline width f) out
   print-unsound some e h = rw (outline-unsound width f some e) h
@@ -70,4 +70,4 @@ module _ (f out : List ℕ) (x : Written) where
     print-listed q h = rw (outline-listed width f a (rw (← end-by) q), ← listing-put f out keeping a) h
 
 ---- what the code of printing needs: search printing
-pub ruleset printing = (needs, tested, refuse-short, empty-listed, print-none, print-unsound, print-long, print-listed)
+pub ruleset printing = (needs, tested, refuse-short, empty-listed, print-no-bytes, print-unsound, print-long, print-listed)

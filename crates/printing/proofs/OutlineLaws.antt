@@ -43,9 +43,9 @@ module _ (w : ℕ) where
 ---- the cases
 
 module _ (w : ℕ) (f : List ℕ) where
-  pub outline-none : length f ≡ 0 → outline w f ≡ listingOf keeping emptyLog
+  pub outline-no-bytes : length f ≡ 0 → outline w f ≡ listingOf keeping emptyLog
   unfolding outline
-  outline-none e = rw (eq-eqb (length f) 0 e)
+  outline-no-bytes e = rw (eq-eqb (length f) 0 e)
 
   pub outline-unsound : (length f ≡ 0 → ⊥) → sound w f ≡ false → outline w f ≡ refusedLine
   unfolding outline

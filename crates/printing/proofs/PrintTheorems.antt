@@ -15,12 +15,12 @@ use Rattle.rules.specs.Log.{laid, structural}
 use Rattle.rules.specs.Sound.{sound}
 use Rattle.rules.specs.Views.{keeping}
 use Rattle.printing.specs.Claims.{NoBytes, OutlineFits, ShortRefused, ShortUnsound}
-use Rattle.printing.proofs.OutlineLaws.{empty-ends, empty-reads, empty-sound, outline-listed, outline-long, outline-none, outline-unsound, refused-size, root-line}
+use Rattle.printing.proofs.OutlineLaws.{empty-ends, empty-reads, empty-sound, outline-listed, outline-long, outline-no-bytes, outline-unsound, refused-size, root-line}
 
 pub no-bytes : NoBytes
 no-bytes w = (
-  outline-none w [] refl ∙ sym (outline-listed w (fileOf w emptyLog) (empty-sound w) (empty-ends w) ∙ ap (listingOf keeping) (empty-reads w)),
-  outline-none w [] refl ∙ root-line,
+  outline-no-bytes w [] refl ∙ sym (ap (listingOf keeping) (empty-reads w)) ∙ sym (outline-listed w _ (empty-sound w) (empty-ends w)),
+  outline-no-bytes w [] refl ∙ root-line,
 )
 
 pub short-unsound : ShortUnsound
@@ -46,6 +46,6 @@ module _ (f : List ℕ) where
 pub outline-size : OutlineFits
 unfolding lineOf decimal digits
 outline-size f = elim (ℕ-discrete (length f) 0) [
-  | yes z ↦ rw (outline-none width f z, root-line) (lit≤ tt)
+  | yes z ↦ rw (outline-no-bytes width f z, root-line) (lit≤ tt)
   | no some ↦ some-size f some (sound width f) refl
 ]

@@ -1,4 +1,4 @@
--- What the program prints for every input.
+-- What the program prints for every input, and that short buffers are unsound.
 use Prim.Native.Nat.{ℕ, _≤_, _<_}
 use mathlib.Core.Path.{_≡_}
 use mathlib.Core.Bool.{false}

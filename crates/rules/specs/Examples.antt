@@ -245,8 +245,8 @@ table =
     ∷ paths (replicate 31 0) 0 (9 ∷ []) (refused 1) (9 ∷ [])
     ∷ lists (replicate 31 0) keeping (replicate 6 9) (refused 1) (replicate 6 9)
     ∷ prints (replicate 31 0) refusedLine
-    -- no bytes yet: the program prints the root's line, as it does for the 32 bytes of the log without ops; at lengths from 1 to 31 and for
-    -- 32 bytes of another kind it refuses
+    -- no bytes yet: the program prints the root's line, as it does for the 32 bytes of the log without ops; at lengths 1 and 31, and for 32
+    -- other bytes, it refuses
     ∷ prints [] (48 ∷ 32 ∷ 48 ∷ 32 ∷ 107 ∷ 10 ∷ [])
     ∷ prints (0 ∷ []) refusedLine
     ∷ prints (take 1 p1File) refusedLine

@@ -14,8 +14,8 @@ use std::time::Instant;
 /// Where the part begins, and what it says above the table.
 pub const TITLE: &str = "\n## The programs\n";
 const HEAD: &str = "
-Made by `model/bench/run programs`: the least time of a process that reads a file and prints, and beside it that of `true`, which does neither. The
-log of 2,040 ops is the random one.
+Made by `model/bench/run programs`: the least time of a process that reads a file and prints, and beside it that of `true`, which does
+neither. The log of 2,040 ops is the random one.
 
 | Input | outline | outline-print | true |
 |---|---|---|---|
@@ -64,6 +64,8 @@ fn run(program: &Path, file: &Path) -> io::Result<f64> {
     let mut command = Command::new(program);
     command.stdin(File::open(file)?).stdout(Stdio::null());
     let began = Instant::now();
-    command.status()?;
-    Ok(began.elapsed().as_nanos() as f64)
+    let status = command.status()?;
+    let time = began.elapsed().as_nanos() as f64;
+    assert!(status.success(), "{} ends with {status}", program.display());
+    Ok(time)
 }

@@ -36,12 +36,12 @@ pub fn compare(programs: &[String], inputs: u64, seed: u64) -> Result<u64, Strin
         }
     }
     println!(
-        "{inputs} inputs with seed {seed} for each program, {} of no bytes, {} short (1 to 31), {} refused, {} printed, in {:.1} s: {differences} differences",
-        tally.no_bytes,
-        tally.short,
-        tally.refused,
-        tally.printed,
+        "{inputs} inputs with seed {seed} for each program, in {:.1} s",
         began.elapsed().as_secs_f64(),
+    );
+    println!(
+        "{} of no bytes, {} short (1 to 31), {} refused, {} printed: {differences} differences",
+        tally.no_bytes, tally.short, tally.refused, tally.printed,
     );
     Ok(differences)
 }
@@ -115,7 +115,7 @@ fn run(program: &str, input: &[u8]) -> io::Result<Output> {
     })
 }
 
-/// The documents say nothing of the exit status, so any will do but a signal.
+/// The documents say nothing of an exit status, so any will do but a signal.
 fn is_right(output: &Output, expected: &[u8]) -> bool {
     output.stdout == expected && output.stderr.is_empty() && output.status.code().is_some()
 }

@@ -7,8 +7,12 @@ use Rattle.outline.proofs.run.Tie as tie
 text-requires : tie.Need-text-requires
 text-requires c κs =
     let bound = c .before .before .before in
-    let known = bound .before .before in
-    (read-within _ _ _ (bound .n .given .1) (known .before .before .read-all .ensures), search needs)
+    let matched = bound .before .before in
+    let called = matched .before .before in
+    (read-within _ _ _ (bound .n .given .1) (called .read-all .ensures), search needs)
+
+print-requires : tie.Need-print-requires
+print-requires c κs = let called = c .before .before .before in (search needs, _, called .text .ensures .0)
 
 pub run-spec : {M : Type 1} → statement M
 run-spec =
@@ -22,7 +26,7 @@ run-spec =
     (λ c. search needs)
     (λ c. search needs)
     text-requires
-    (λ c κs. search needs)
+    print-requires
     (λ c. search needs)
     (λ c. search needs)
     (λ c. search needs))

@@ -5,7 +5,7 @@ use Rattle.outline.proofs.text.Statement.{statement}
 use Rattle.outline.proofs.text.Tie as tie
 
 returns : tie.Need-returns
-returns c = let called = c .before .before .before in text-put _ _ (search needs) _ _ (called .outline .ensures) _ (c .bytes-in .ensures)
+returns c = let called = c .before .before .before in text-put _ _ (search needs) _ _ (called .outline .ensures) _ (c .counted .ensures)
 
 pub text-spec : {M : Type 1} → statement M
 text-spec = tie.close (tie.spec (λ c. search texts) (λ c κs. search needs) (λ c κs. search needs) (λ c. search needs) returns)
