@@ -14,9 +14,8 @@ use Rattle.rules.specs.Issue.{issued, issueAnswer, issueBuffer, issueOut}
 use Rattle.rules.specs.Bundle.{bodiesIn, unlessRefused, turnsAnswer, turnsBuffer, turnsTaken, openAnswer, openBuffer}
 use Rattle.lists.proofs.BoolLaws.{never}
 use Rattle.rules.proofs.DeliverLaws.{required, accepted-same, Admitted, admitted, delivered, appended-end}
-use Rattle.rules.proofs.FileLaws.{empty-end, file-end}
 use Rattle.rules.proofs.IssueLaws.{issue-admitted}
-use Rattle.rules.proofs.SoundLaws.{sound-empty}
+use Rattle.rules.proofs.SoundLaws.{empty-ends}
 use Rattle.rules.proofs.TurnLaws.{OneLog, one-end, turns-end, deliver-alike, turns-alike}
 use Rattle.convergence.specs.Exchange.{Call, make, issue, deliver, openBundle, Site, answer, bufferAfter, begun, added, Adds, reply, outAfter}
 use Rattle.convergence.specs.Lists.{CallsAdd}
@@ -74,7 +73,7 @@ made f n e = required _ _ _ n e .1
 ends : (f : List ℕ) (c : Call) (n : ℕ) → answer f c ≡ accepted n → fileEnd width (bufferAfter f c) ≡ n
 unfolding answer bufferAfter makeBuffer issueBuffer deliverBuffer openBuffer
 ends f make n e =
-    rw e (file-end width emptyLog (drop 32 f) (sound-empty .good .eight) ∙ empty-end width ∙ accepted-same 32 n (made f n e))
+    rw e (empty-ends width (drop 32 f) ∙ accepted-same 32 n (made f n e))
 ends f (issue out s q) n e = let h = issue-admitted f (length out) s q n e in rw e (appended-end width f _ n h ∙ h .end)
 ends f (deliver r) n e = let h = admitted width f r n e in rw e (appended-end width f r n h ∙ h .end)
 ends f (openBundle b) n e = rw e (turns-end width (bodiesIn width b) f n (opened f b n e))

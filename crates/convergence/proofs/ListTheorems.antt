@@ -19,8 +19,7 @@ use Rattle.rules.specs.Path.{pathCall, pathAnswer}
 use Rattle.rules.specs.Listing.{listing, listingAnswer}
 use Rattle.lists.proofs.BoolLaws.{never}
 use Rattle.rules.proofs.DeliverLaws.{admitted, accepted-same, appended-end, appended-past, appended-length}
-use Rattle.rules.proofs.FileLaws.{empty-end, file-end, length-file}
-use Rattle.rules.proofs.SoundLaws.{wide-empty, sound-empty}
+use Rattle.rules.proofs.SoundLaws.{empty-ends, empty-length}
 use Rattle.convergence.specs.Lists.{Stored, SameHeld, ReadAlike, PastKept, ListsFile, SameOpsSameFile, HeldSettles, CallsSettle, ReadsSettle, CallsKeepPast, StaysPut}
 use Rattle.convergence.proofs.TrackLaws.{Tracks, tracks-listed, arrange-log}
 use Rattle.convergence.proofs.CallLaws.{calls-add, begun-is, begun-held, make-alike, reply-alike, added-alike}
@@ -92,21 +91,16 @@ module _ (f g : List ℕ) (sf : sound width f ≡ true) (sg : sound width g ≡ 
 abbrev SamePast : List ℕ → List ℕ → Type 0
 SamePast f g = (length g ≡ length f) × (drop (fileEnd width g) g ≡ drop (fileEnd width g) f)
 
-empty-length : length (fileOf width emptyLog) ≡ 32
-empty-length = length-file width emptyLog (wide-empty width) ∙ empty-end width
-
 made-past : (f : List ℕ) → SamePast f (begun (lent f) make .buffer)
 unfolding begun makeBuffer makeAnswer require
 made-past f = go (leb 32 (length f)) refl
   where
     go : (b : Bool) → leb 32 (length f) ≡ b → SamePast f (ifAccepted (require b 8 (accepted 32)) (fileOf width emptyLog ++ drop 32 f) f)
     go false e = (refl, refl)
-    go true e =
-        let end : fileEnd width (fileOf width emptyLog ++ drop 32 f) ≡ 32 =
-        file-end width emptyLog (drop 32 f) (sound-empty .good .eight) ∙ empty-end width in (
-          rw (length-append, empty-length, length-drop) (omega (arith, leb-true 32 (length f) e)),
-          rw end (drop-at (fileOf width emptyLog) (drop 32 f) 32 empty-length),
-        )
+    go true e = (
+      rw (length-append, empty-length, length-drop) (omega (arith, leb-true 32 (length f) e)),
+      rw (empty-ends width (drop 32 f)) (drop-at (fileOf width emptyLog) (drop 32 f) 32 (empty-length width)),
+    )
 
 -- ops added in turn
 adds-past : (ops : List Op) (f g : List ℕ) → Adds f ops g → SamePast f g × (fileEnd width g ≡ fileEnd width f + width * length ops)

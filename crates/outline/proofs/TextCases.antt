@@ -1,8 +1,7 @@
 -- The cases of the text that is printed, as the code meets them.
 use Prim.Native.Nat.{ℕ, _≤_}
-use borrow.Author.Needs.{needs}
 use lib.ListN.{drop, length, take}
-use lib.Seq.{length-take-le, take-at}
+use lib.Seq.{take-at}
 use mathlib.Core.List.{List}
 use mathlib.Core.Path.{_≡_, ap, refl, sym, _∙_}
 use native.Mathlib.Omega.{arith}
@@ -15,9 +14,6 @@ use Rattle.view.proofs.PutCases.{put-all}
 use Rattle.view.specs.Answers.{putIn}
 use Rattle.view.specs.Tables.{putFront}
 use Rattle.outline.specs.Text.{counted}
-
-pub first-bytes : (n : ℕ) (bytes : List ℕ) → n ≤ length bytes → n ≡ length (take n bytes)
-first-bytes n bytes h = sym (length-take-le n bytes h)
 
 -- lent 24,492 bytes, the whole output is put in front
 module _ (f out : List ℕ) (lent : 24492 ≤ length out) where
@@ -37,6 +33,3 @@ module _ (f out : List ℕ) (lent : 24492 ≤ length out) where
       let long : n ≡ length text = is ∙ ap (λ (x : Written). counted (x .answer)) all-put in
       let written : o ≡ putFront text out = ap (λ (x : Written). x .out) all-put in
       (rw (long, written) (take-at text (drop (length text) out) (length text) refl), rw long fits)
-
----- what the code of writing needs: search texts
-pub ruleset texts = (needs, first-bytes)

@@ -4,7 +4,7 @@ use borrow.Author.Needs.{needs}
 use lib.ListN.{length, replicate}
 use lib.Seq.{sets, sets-eq}
 use mathlib.Core.Bool.{false, true}
-use mathlib.Core.List.{List, append-nil}
+use mathlib.Core.List.{List, [], _++_}
 use mathlib.Core.Path.{ap, sym, _∙_, _≡_}
 use Rattle.oplog.proofs.HeaderLaws.{end-is}
 use Rattle.lists.proofs.BoolLaws.{tested}
@@ -19,7 +19,8 @@ use Rattle.view.proofs.ListingCases.{listing-put}
 use Rattle.view.proofs.PutCases.{put-all, put-short}
 use Rattle.view.specs.Answers.{putIn}
 use Rattle.view.specs.Tables.{putFront}
-use Rattle.printing.proofs.OutlineLaws.{empty-reads, empty-sound, outline-listed, outline-long, outline-no-bytes, outline-unsound, refused-size}
+use Rattle.rules.proofs.SoundLaws.{empty-reads, empty-sound}
+use Rattle.printing.proofs.OutlineLaws.{outline-listed, outline-long, outline-no-bytes, outline-unsound, refused-size}
 
 ---- the line of a refused input
 
@@ -37,18 +38,15 @@ module _ (out : List ℕ) where
 
 ---- the log without ops
 
--- what making leaves in 32 bytes is its file
-made-empty : (a : Answer) (b : List ℕ) → _≡_ {A = Result} (record { answer = a; buffer = b }) (make width (replicate 32 0))
-    → b ≡ fileOf width emptyLog
-unfolding makeBuffer makeAnswer require
-made-empty a b e = ap (λ (x : Result). x .buffer) e ∙ append-nil _
-
+-- made in 32 bytes and listed
 pub empty-listed : (a : Answer) (b out : List ℕ) (x : Written)
     → _≡_ {A = Result} (record { answer = a; buffer = b }) (make width (replicate 32 0))
     → x ≡ listing width b keeping out → x ≡ putIn (listingOf keeping emptyLog) out
+unfolding makeBuffer makeAnswer require
 empty-listed a b out x e h =
-    let is : x ≡ listing width (fileOf width emptyLog) keeping out = rw (made-empty a b e) at h in
-    rw (← empty-reads width) (is ∙ listing-put (fileOf width emptyLog) out keeping (empty-sound width))
+    let made : b ≡ fileOf width emptyLog ++ [] = ap (λ (y : Result). y .buffer) e in
+    let is : x ≡ listing width (fileOf width emptyLog ++ []) keeping out = rw made at h in
+    is ∙ listing-put _ out keeping (empty-sound width []) ∙ ap (λ log. putIn (listingOf keeping log) out) (empty-reads width [])
 
 ---- the output
 

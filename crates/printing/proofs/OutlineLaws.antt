@@ -3,11 +3,11 @@ use Prim.Native.Nat.{ℕ}
 use borrow.Author.Tests.{eq-eqb, ne-eqb}
 use lib.ListN.{length}
 use mathlib.Core.Bool.{false, true}
-use mathlib.Core.List.{List, [], append-nil}
-use mathlib.Core.Path.{_≡_, refl, sym, _∙_}
+use mathlib.Core.List.{List}
+use mathlib.Core.Path.{_≡_, refl}
 use native.Mathlib.Omega.{arith}
 use Rattle.lists.specs.Lists.{any, concat, filter, isIn, upFrom}
-use Rattle.rules.specs.File.{countsOf, emptyLog, fileEnd, fileOf, logOf, opsOf}
+use Rattle.rules.specs.File.{countsOf, emptyLog, fileEnd, logOf, opsOf}
 use Rattle.rules.specs.Listing.{children, decimal, digits, line, lineOf, listingIn, listingOf, outline, preorder, refusedLine}
 use Rattle.rules.specs.Marks.{marked}
 use Rattle.rules.specs.Op.{countIn, replicas}
@@ -15,30 +15,17 @@ use Rattle.rules.specs.Replay.{addedIn, opsWithin, removedIn}
 use Rattle.rules.specs.Sound.{sound}
 use Rattle.rules.specs.Tree.{climb, depth, path}
 use Rattle.rules.specs.Views.{keeping, nodes, shown}
-use Rattle.rules.proofs.FileLaws.{file-end, length-file, logOf-fileOf}
-use Rattle.rules.proofs.SoundLaws.{sound-empty, sound-file, sound-laid, wide-empty}
+use Rattle.rules.proofs.SoundLaws.{sound-laid}
 
 pub refused-size : length refusedLine ≡ 10
 unfolding refusedLine
 refused-size = refl
 
----- the log without ops, and its file
-
--- it lists the root alone
+-- the log without ops lists the root alone
 pub root-line : listingOf keeping emptyLog ≡ lineOf 0 0 false
 unfolding listingOf listingIn preorder children nodes addedIn removedIn opsWithin opsOf countsOf emptyLog countIn replicas upFrom concat
     filter isIn any marked shown line depth path climb lineOf decimal digits
 root-line = refl
-
-module _ (w : ℕ) where
-  pub empty-sound : sound w (fileOf w emptyLog) ≡ true
-  empty-sound = rw append-nil at (sound-file w emptyLog [] sound-empty (wide-empty w))
-
-  pub empty-reads : logOf w (fileOf w emptyLog) ≡ emptyLog
-  empty-reads = rw append-nil at (logOf-fileOf w emptyLog [] (sound-empty .good .eight) (wide-empty w))
-
-  pub empty-ends : fileEnd w (fileOf w emptyLog) ≡ length (fileOf w emptyLog)
-  empty-ends = (rw append-nil at (file-end w emptyLog [] (sound-empty .good .eight))) ∙ sym (length-file w emptyLog (wide-empty w))
 
 ---- the cases
 

@@ -1,31 +1,34 @@
 -- The claims about the program's output hold.
 use Prim.Native.Nat.{ℕ, _≤_}
-use borrow.Author.Tests.{lt-leb}
 use lib.ListN.{length}
 use mathlib.Core.Bool.{Bool, false, true}
-use mathlib.Core.List.{List, []}
+use mathlib.Core.List.{List, [], append-nil}
 use mathlib.Core.Path.{_≡_, ap, refl, sym, _∙_}
 use native.Mathlib.Decide.{ℕ-discrete}
 use native.Mathlib.Omega.{arith}
 use lib.Dec.{lit≤}
+use Rattle.lists.proofs.BoolLaws.{fails}
 use Rattle.order.proofs.TourLaws.{sound-listing}
+use Rattle.rules.proofs.SoundLaws.{empty-ends, empty-length, empty-reads, empty-sound, sound-laid}
 use Rattle.rules.specs.File.{emptyLog, fileEnd, fileOf, width}
 use Rattle.rules.specs.Listing.{decimal, digits, lineOf, listingOf, outline}
-use Rattle.rules.specs.Log.{laid, structural}
 use Rattle.rules.specs.Sound.{sound}
 use Rattle.rules.specs.Views.{keeping}
 use Rattle.printing.specs.Claims.{NoBytes, OutlineFits, ShortRefused, ShortUnsound}
-use Rattle.printing.proofs.OutlineLaws.{empty-ends, empty-reads, empty-sound, outline-listed, outline-long, outline-no-bytes, outline-unsound, refused-size, root-line}
+use Rattle.printing.proofs.OutlineLaws.{outline-listed, outline-long, outline-no-bytes, outline-unsound, refused-size, root-line}
+
+-- what is printed for the file of the log without ops
+empty-printed : (w : ℕ) → outline w (fileOf w emptyLog) ≡ listingOf keeping emptyLog
+empty-printed w =
+    let is = rw append-nil at (empty-sound w []) in
+    let end = rw append-nil at (empty-ends w []) in
+    outline-listed w (fileOf w emptyLog) is (end ∙ sym (empty-length w)) ∙ ap (listingOf keeping) (rw append-nil at (empty-reads w []))
 
 pub no-bytes : NoBytes
-no-bytes w = (
-  outline-no-bytes w [] refl ∙ sym (ap (listingOf keeping) (empty-reads w)) ∙ sym (outline-listed w _ (empty-sound w) (empty-ends w)),
-  outline-no-bytes w [] refl ∙ root-line,
-)
+no-bytes w = (outline-no-bytes w [] refl ∙ sym (empty-printed w), outline-no-bytes w [] refl ∙ root-line)
 
 pub short-unsound : ShortUnsound
-unfolding sound structural laid
-short-unsound w f h = rw (lt-leb 32 (length f) h)
+short-unsound w f h = fails (sound w f) (λ e. let l = sound-laid w f e .header in omega arith)
 
 pub short-refused : ShortRefused
 short-refused w f l u = outline-unsound w f (λ z. omega arith) (short-unsound w f (omega arith))

@@ -1,15 +1,16 @@
 -- Laws of soundness: callers use these and not what soundness is made of.
-use Rattle.rules.specs.File.{append, emptyLog, Log, countsOf, fileOf, opsOf, logOf}
+use Rattle.rules.specs.File.{append, emptyLog, Log, countsOf, fileEnd, fileOf, opsOf, logOf}
 use Prim.Native.Nat.{ℕ, _≤_}
 use mathlib.Core.List.{List, _++_}
-use mathlib.Core.Path.{_≡_, refl}
+use mathlib.Core.Path.{_≡_, _∙_, refl}
 use mathlib.Core.Bool.{true}
 use lib.Dec.{lit≤}
+use lib.ListN.{length}
 use Rattle.lists.proofs.BoolLaws.{and-right}
 use Rattle.rules.specs.Log.{laid, soundOps, structural}
 use Rattle.rules.specs.Sound.{sound}
 use Rattle.rules.specs.Op.{countIn, Op}
-use Rattle.rules.proofs.FileLaws.{WideLog, wide-logOf}
+use Rattle.rules.proofs.FileLaws.{WideLog, empty-end, file-end, length-file, logOf-fileOf, wide-logOf}
 use Rattle.rules.proofs.StructureLaws.{GoodLog, Laid, file-structural, laid-reads, structural-good, structural-laid}
 use Rattle.rules.proofs.ReplicaLaws.{replica-cases}
 use Rattle.rules.proofs.AppendLaws.{Admits, good-append}
@@ -67,3 +68,17 @@ sound-empty = record { good = good-empty }
 pub wide-empty : (w : ℕ) → WideLog w emptyLog
 unfolding emptyLog
 wide-empty w = (tt, (tt, (tt, (tt, (tt, (tt, (tt, (tt, tt))))))))
+
+-- the file of the log without ops, in front of any bytes
+pub empty-length : (w : ℕ) → length (fileOf w emptyLog) ≡ 32
+empty-length w = length-file w emptyLog (wide-empty w) ∙ empty-end w
+
+module _ (w : ℕ) (t : List ℕ) where
+  pub empty-sound : sound w (fileOf w emptyLog ++ t) ≡ true
+  empty-sound = sound-file w emptyLog t sound-empty (wide-empty w)
+
+  pub empty-reads : logOf w (fileOf w emptyLog ++ t) ≡ emptyLog
+  empty-reads = logOf-fileOf w emptyLog t (good-empty .eight) (wide-empty w)
+
+  pub empty-ends : fileEnd w (fileOf w emptyLog ++ t) ≡ 32
+  empty-ends = file-end w emptyLog t (good-empty .eight) ∙ empty-end w

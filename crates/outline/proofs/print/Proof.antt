@@ -1,6 +1,7 @@
 -- `outline::print` meets its contract.
 use borrow.Author.Needs.{needs}
-use Rattle.outline.proofs.TextCases.{texts}
+use lib.Seq.{length-take-le}
+use mathlib.Core.Path.{sym}
 use Rattle.outline.proofs.print.Statement.{statement}
 use Rattle.outline.proofs.print.Tie as tie
 
@@ -8,7 +9,7 @@ pub print-spec : {M : Type 1} → statement M
 print-spec =
     tie.close
     (tie.spec
-    (λ c. search texts)
+    (λ c. sym (length-take-le _ _ (search needs)))
     (λ c κs. search needs)
     (λ c. search needs)
     (λ c κs. search needs)
