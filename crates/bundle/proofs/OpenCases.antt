@@ -21,9 +21,7 @@ use Rattle.rules.specs.Op.{Op}
 use Rattle.rules.specs.Sound.{sound}
 use Rattle.rules.proofs.DeliverLaws.{deliver-length, deliver-sound}
 use Rattle.rules.proofs.BundleLaws.{Whole, whole-reads}
-use Rattle.rules.proofs.CausalLaws.{end-most}
-use Rattle.rules.proofs.FileLaws.{counts-at, length-counts}
-use Rattle.rules.proofs.SoundLaws.{sound-laid}
+use Rattle.rules.proofs.SoundLaws.{sound-end, sound-laid}
 use Rattle.oplog.proofs.HeaderLaws.{end-is}
 use Rattle.codec.specs.Asked.{isAccepted}
 use Rattle.codec.specs.Answers.{answerOf, numberOf}
@@ -180,12 +178,6 @@ reach-small n r e = elim (decLe n (largest width)) [
   | no l ↦ let z : r ≡ largest width = e ∙ rw (lt-leb n (largest width) (omega arith)) in omega arith
 ]
 
--- the file lies within the largest
-end-within : (f : List ℕ) → sound width f ≡ true → fileEnd width f ≤ largest width
-unfolding fileEnd
-end-within f s =
-    end-most width (headerCounts f) (length-counts f) (λ k l u. rw (counts-at f k l u) (sound-laid width f s .counts k l u))
-
 module _ (f b : List ℕ) (x : Openable f b) where
   whole : Whole width b
   whole = whole-reads width b (x .is-whole)
@@ -205,7 +197,7 @@ module _ (f b : List ℕ) (x : Openable f b) where
           let e : len ≡ largest width = hl ∙ rw (lt-leb (length f) (largest width) (omega arith)) in
           rw e (record {
             is-sound = x .is-sound;
-            inside = end-within f (x .is-sound);
+            inside = sound-end width f (x .is-sound);
             short = omega arith;
             enough = inr (le-refl _);
           })

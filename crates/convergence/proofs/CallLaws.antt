@@ -7,7 +7,7 @@ use native.Mathlib.Omega.{arith}
 use lib.ListN.{length, drop}
 use lib.Seq.{take-at}
 use Rattle.rules.specs.Op.{Op}
-use Rattle.rules.specs.File.{logOf, fileEnd, appended, width, emptyLog}
+use Rattle.rules.specs.File.{logOf, fileEnd, appended, width}
 use Rattle.rules.specs.Answer.{Answer, refused, hadIt, done, accepted, ifAccepted}
 use Rattle.rules.specs.Deliver.{makeAnswer, makeBuffer, deliverAnswer, deliverBuffer}
 use Rattle.rules.specs.Issue.{issued, issueAnswer, issueBuffer, issueOut}

@@ -4,14 +4,13 @@
 use codec::Answer;
 use printing::LONGEST;
 use soundness::LARGEST;
-ghost use Prim.Native.Nat.{_≤_};
+ghost use Prim.Native.Nat.{_≤_, _<_};
 ghost use mathlib.Core.Path.{_≡_};
 ghost use lib.ListN.{length, take};
-ghost use Rattle.rules.specs.File.{width};
+ghost use Rattle.rules.specs.File.{largest, width};
 ghost use Rattle.codec.specs.Answers.{answerOf};
 ghost use Rattle.outline.specs.Reading.{Within};
 ghost use Rattle.outline.specs.Text as texts;
-ghost use Rattle.rules.specs.Listing as rules;
 
 // One byte more than the largest log, so that longer input shows.
 const INPUT: usize = LARGEST + 1;
@@ -54,11 +53,11 @@ fn counted(answer: Answer) -> usize
     }
 }
 
-// Writes what the program prints for the first bytes of its input, and answers how many bytes
-// that is.
+// Writes what the program prints for the input of which it read the first bytes, and answers how
+// many bytes that is.
 fn text(input: &[u8], n: usize, out: &mut [u8]) -> usize
-    requires { ⌜ (n ≤ length (now input)) × (24492 ≤ length (now out)) ⌝ }
-    ensures { λ r. ⌜ (take r (now (out .exit)) ≡ rules.outline width (take n (now (input .entry)))) × (r ≤ length (now (out .entry))) ⌝ }
+    requires { ⌜ texts.Readable (now input) n (now out) ⌝ }
+    ensures { λ r. ⌜ texts.TextOf (now (input .entry)) n (take r (now (out .exit))) × (r ≤ length (now (out .entry))) ⌝ }
 {
     let answer = printing::outline(&input[..n], out);
     counted(answer)
@@ -75,7 +74,7 @@ fn print(bytes: &[u8], n: usize)
 
 // Reads the input, and prints what it gives.
 fn run(input: &mut [u8], out: &mut [u8])
-    requires { ⌜ 24492 ≤ length (now out) ⌝ }
+    requires { ⌜ (largest width < length (now input)) × (24492 ≤ length (now out)) ⌝ }
 {
     let Input::Bytes(n) = read_all(input) else {
         os::fail(b"outline: cannot read the input");

@@ -9,12 +9,12 @@ use native.Mathlib.Omega.{arith}
 use lib.Dec.{lit≤}
 use Rattle.lists.proofs.BoolLaws.{fails}
 use Rattle.order.proofs.TourLaws.{sound-listing}
-use Rattle.rules.proofs.SoundLaws.{empty-ends, empty-length, empty-reads, empty-sound, sound-laid}
+use Rattle.rules.proofs.SoundLaws.{empty-ends, empty-length, empty-reads, empty-sound, sound-end, sound-laid}
 use Rattle.rules.specs.File.{emptyLog, fileEnd, fileOf, width}
-use Rattle.rules.specs.Listing.{decimal, digits, lineOf, listingOf, outline}
+use Rattle.rules.specs.Listing.{decimal, digits, lineOf, listingOf, outline, refusedLine}
 use Rattle.rules.specs.Sound.{sound}
 use Rattle.rules.specs.Views.{keeping}
-use Rattle.printing.specs.Claims.{NoBytes, OutlineFits, ShortRefused, ShortUnsound}
+use Rattle.printing.specs.Claims.{LongRefused, NoBytes, OutlineFits, ShortRefused, ShortUnsound}
 use Rattle.printing.proofs.OutlineLaws.{outline-listed, outline-long, outline-no-bytes, outline-unsound, refused-size, root-line}
 
 -- what is printed for the file of the log without ops
@@ -32,6 +32,13 @@ short-unsound w f h = fails (sound w f) (λ e. let l = sound-laid w f e .header 
 
 pub short-refused : ShortRefused
 short-refused w f l u = outline-unsound w f (λ z. omega arith) (short-unsound w f (omega arith))
+
+pub long-refused : LongRefused
+long-refused w f h = go (sound w f) refl
+  where
+    go : (b : Bool) → sound w f ≡ b → outline w f ≡ refusedLine
+    go false e = outline-unsound w f (λ z. omega arith) e
+    go true e = outline-long w f e (λ q. omega (arith, sound-end w f e))
 
 ---- the length of every output
 

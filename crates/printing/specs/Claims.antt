@@ -4,7 +4,7 @@ use mathlib.Core.Path.{_≡_}
 use mathlib.Core.Bool.{false}
 use mathlib.Core.List.{List, []}
 use lib.ListN.{length}
-use Rattle.rules.specs.File.{emptyLog, fileOf, width}
+use Rattle.rules.specs.File.{emptyLog, fileOf, largest, width}
 use Rattle.rules.specs.Listing.{lineOf, outline, refusedLine}
 use Rattle.rules.specs.Sound.{sound}
 
@@ -16,6 +16,10 @@ NoBytes = (w : ℕ) → (outline w [] ≡ outline w (fileOf w emptyLog)) × (out
 -- "lengths 1 to 31 are still refused by 1"
 abbrev pub ShortRefused : Type 0
 ShortRefused = (w : ℕ) (f : List ℕ) → 1 ≤ length f → length f ≤ 31 → outline w f ≡ refusedLine
+
+-- what is longer than the largest file is refused, so one byte more than that of an input settles what is printed
+abbrev pub LongRefused : Type 0
+LongRefused = (w : ℕ) (f : List ℕ) → largest w < length f → outline w f ≡ refusedLine
 
 -- "in the library a buffer of length zero remains unsound", as all of fewer than 32 bytes are
 abbrev pub ShortUnsound : Type 0

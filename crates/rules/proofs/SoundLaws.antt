@@ -1,5 +1,5 @@
 -- Laws of soundness: callers use these and not what soundness is made of.
-use Rattle.rules.specs.File.{append, emptyLog, Log, countsOf, fileEnd, fileOf, opsOf, logOf}
+use Rattle.rules.specs.File.{append, emptyLog, Log, countsOf, fileEnd, fileOf, headerCounts, largest, opsOf, logOf}
 use Prim.Native.Nat.{ℕ, _≤_}
 use mathlib.Core.List.{List, _++_}
 use mathlib.Core.Path.{_≡_, _∙_, refl}
@@ -10,7 +10,8 @@ use Rattle.lists.proofs.BoolLaws.{and-right}
 use Rattle.rules.specs.Log.{laid, soundOps, structural}
 use Rattle.rules.specs.Sound.{sound}
 use Rattle.rules.specs.Op.{countIn, Op}
-use Rattle.rules.proofs.FileLaws.{WideLog, empty-end, file-end, length-file, logOf-fileOf, wide-logOf}
+use Rattle.rules.proofs.FileLaws.{WideLog, counts-at, empty-end, file-end, length-counts, length-file, logOf-fileOf, wide-logOf}
+use Rattle.rules.proofs.CausalLaws.{end-most}
 use Rattle.rules.proofs.StructureLaws.{GoodLog, Laid, file-structural, laid-reads, structural-good, structural-laid}
 use Rattle.rules.proofs.ReplicaLaws.{replica-cases}
 use Rattle.rules.proofs.AppendLaws.{Admits, good-append}
@@ -33,6 +34,11 @@ module _ (w : ℕ) (f : List ℕ) where
 
   pub sound-laid : sound w f ≡ true → Laid w f
   sound-laid e = laid-reads w f (structural-laid w f (sound-structural e))
+
+  -- its file lies within the largest
+  pub sound-end : sound w f ≡ true → fileEnd w f ≤ largest w
+  unfolding fileEnd
+  sound-end e = end-most w (headerCounts f) (length-counts f) (λ s l u. rw (counts-at f s l u) (sound-laid e .counts s l u))
 
   pub sound-good : sound w f ≡ true → GoodLog (logOf w f)
   sound-good e = structural-good w f (sound-structural e)

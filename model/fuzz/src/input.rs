@@ -30,6 +30,11 @@ impl Stock {
         }
         Stock { full: logs }
     }
+
+    /// The file of a log that takes no more ops.
+    pub fn largest(&self, rng: &mut Rng) -> Vec<u8> {
+        examples::file_of(&self.full[rng.below(self.full.len())])
+    }
 }
 
 /// Every node there can be, under the root.

@@ -71,15 +71,23 @@ impl Tally {
 }
 
 /// The program refuses bytes past the end, which most buffers of the library's
-/// calls have, so half of the inputs are files as they are.
+/// calls have, so about half of the inputs are files as they are.
 fn random(rng: &mut Rng, stock: &Stock) -> Vec<u8> {
     let input = Input::random(rng, stock);
-    match rng.below(8) {
+    match rng.below(9) {
         0 | 1 => short(rng),
-        2 => input.buffer,
-        3 => damage::record(rng, &input.file()),
+        2 => long(rng, stock),
+        3 => input.buffer,
+        4 => damage::record(rng, &input.file()),
         _ => input.file(),
     }
+}
+
+/// The largest file, or that and more than a program needs to read.
+fn long(rng: &mut Rng, stock: &Stock) -> Vec<u8> {
+    let mut input = stock.largest(rng);
+    input.resize(input.len() + rng.pick(&[0, 1, 2, 100, 40_000]), 0);
+    input
 }
 
 /// No bytes, or up to a few more than a header has.

@@ -1,6 +1,7 @@
 -- `outline::run` meets its contract.
 use borrow.Author.Needs.{needs}
 use Rattle.outline.proofs.ReadCases.{read-within}
+use Rattle.outline.proofs.TextCases.{text-printed}
 use Rattle.outline.proofs.run.Statement.{statement}
 use Rattle.outline.proofs.run.Tie as tie
 
@@ -9,10 +10,14 @@ text-requires c κs =
     let bound = c .before .before .before in
     let matched = bound .before .before in
     let called = matched .before .before in
-    (read-within _ _ _ (bound .n .given .1) (called .read-all .ensures), search needs)
+    record {
+      within = read-within _ _ _ (bound .n .given .1) (called .read-all .ensures);
+      buf-size = search needs;
+      out-size = search needs;
+    }
 
 print-requires : tie.Need-print-requires
-print-requires c κs = let called = c .before .before .before in (search needs, _, called .text .ensures .0)
+print-requires c κs = let called = c .before .before .before in text-printed _ _ _ _ (search needs) (called .text .ensures .0)
 
 pub run-spec : {M : Type 1} → statement M
 run-spec =

@@ -7,7 +7,10 @@ use Rattle.outline.proofs.text.Statement.{statement}
 use Rattle.outline.proofs.text.Tie as tie
 
 returns : tie.Need-returns
-returns c = let called = c .before .before .before in text-put _ _ (search needs) _ _ (called .outline .ensures) _ (c .counted .ensures)
+returns c =
+    let called = c .before .before .before in
+    let lent = called .before .before .before in
+    text-put _ _ _ (lent .before .before .pre) _ _ (called .outline .ensures) _ (c .counted .ensures)
 
 pub text-spec : {M : Type 1} → statement M
 text-spec =
