@@ -11,7 +11,7 @@ use mathlib.Core.Logic.{⊎-elim}
 use mathlib.Core.Path.{_≡_, refl, sym, ap, _∙_}
 use native.Mathlib.Omega.{arith}
 use Rattle.lists.proofs.ListLaws.{drop-past}
-use Rattle.rules.specs.Answer.{Answer, refused, hadIt, done, accepted, require, ifAccepted}
+use Rattle.rules.specs.Answer.{Answer, refused, hadIt, waiting, done, accepted, require, ifAccepted}
 use Rattle.rules.specs.Bundle.{turnsAnswer, turnsBuffer}
 use Rattle.rules.specs.Deliver.{admitAnswer, deliverAnswer, deliverBuffer, heldAnswer, isHeld}
 use Rattle.rules.specs.File.{append, appended, countsOf, fileEnd, fileOf, largest, logOf}
@@ -94,6 +94,7 @@ module _ (w n : ℕ) (f : List ℕ) (x : Reaches w n f) (r : Op) where
   delivered-part : (a : Answer) → deliverAnswer w f r ≡ a → Delivered a
   delivered-part (refused k) e = record { reaches = x; same-front = refl; same-past = refl }
   delivered-part hadIt e = record { reaches = x; same-front = refl; same-past = refl }
+  delivered-part waiting e = record { reaches = x; same-front = refl; same-past = refl }
   delivered-part done e = record { reaches = x; same-front = refl; same-past = refl }
   delivered-part (accepted k) e =
       let h = admitted w f r k e in

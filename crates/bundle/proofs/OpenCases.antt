@@ -13,7 +13,7 @@ use native.Mathlib.Nat.{le-refl}
 use native.Mathlib.Omega.{arith}
 use Rattle.lists.specs.Lists.{sum}
 use Rattle.lists.proofs.BoolLaws.{never, tested}
-use Rattle.rules.specs.Answer.{Answer, refused, hadIt, done, accepted, require}
+use Rattle.rules.specs.Answer.{Answer, refused, hadIt, waiting, done, accepted, require}
 use Rattle.rules.specs.Bundle.{bodiesIn, headCounts, headSize, openAnswer, openBuffer, openBundle, turnsAnswer, turnsBuffer, unlessRefused, wholeBundle}
 use Rattle.rules.specs.Deliver.{Result, deliver, deliverAnswer, deliverBuffer}
 use Rattle.rules.specs.File.{chunks, fileEnd, headerCounts, largest, startOf, width}
@@ -25,7 +25,7 @@ use Rattle.rules.proofs.SoundLaws.{sound-end, sound-laid}
 use Rattle.oplog.proofs.HeaderLaws.{end-is}
 use Rattle.codec.specs.Asked.{isAccepted}
 use Rattle.codec.specs.Answers.{answerOf, numberOf}
-use Rattle.codec.specs.declared.answer.Answer.the-variants.{Refused, HadIt, Done, Accepted}
+use Rattle.codec.specs.declared.answer.Answer.the-variants.{Refused, HadIt, Waiting, Done, Accepted}
 use Rattle.codec.specs.declared.answer.Refusal.{Refusal}
 use Rattle.codec.specs.declared.answer.Answer as code
 use Rattle.codec.proofs.AnswerLaws.{if-accepted, if-not-accepted}
@@ -50,6 +50,10 @@ module _ (f : List ℕ) (a : code.Answer) (n : ℕ) (is : n ≡ startOf width (h
   pub passed-held : a ≡ HadIt → accepted n ≡ then-end
   unfolding unlessRefused
   passed-held e = rw (e, is, end-is width f)
+
+  pub passed-waiting : a ≡ Waiting → accepted n ≡ then-end
+  unfolding unlessRefused
+  passed-waiting e = rw (e, is, end-is width f)
 
   pub passed-done : a ≡ Done → accepted n ≡ then-end
   unfolding unlessRefused
@@ -137,6 +141,7 @@ module _ (f bodies : List ℕ) (n : ℕ) (buf : List ℕ) (i : ℕ) (x : TakenTo
             → unlessRefused d (turnsAnswer width (deliverBuffer width buf r) (bodiesFrom bodies n (i + 1))) ≡ a
         go (refused m) q = sym (answer-so ∙ rw q)
         go hadIt q = let y : isAccepted a ≡ true = rw (answer-so, q) in never (sym no-end ∙ y)
+        go waiting q = let y : isAccepted a ≡ true = rw (answer-so, q) in never (sym no-end ∙ y)
         go done q = let y : isAccepted a ≡ true = rw (answer-so, q) in never (sym no-end ∙ y)
         go (accepted m) q = let y : isAccepted a ≡ true = rw (answer-so, q) in never (sym no-end ∙ y)
 
@@ -157,6 +162,7 @@ module _ (f bodies : List ℕ) (n : ℕ) (buf : List ℕ) (i : ℕ) (x : TakenTo
         go : (d : Answer) → deliverAnswer width buf r ≡ d → unlessRefused d rest ≡ rest
         go (refused m) q = let y : isAccepted a ≡ false = rw (answer-so, q) in never (sym y ∙ yes-end)
         go hadIt q = refl
+        go waiting q = refl
         go done q = refl
         go (accepted m) q = refl
 
@@ -315,7 +321,7 @@ module _ (f b : List ℕ) where
 
 ---- what the code of opening needs: search opening
 
-pub ruleset passing = (passed-refused, passed-held, passed-done, passed-new, body-sound, body-passed, body-unread)
+pub ruleset passing = (passed-refused, passed-held, passed-waiting, passed-done, passed-new, body-sound, body-passed, body-unread)
 
 pub ruleset taking = (taken-starts, taken-place, taken-refused, taken-on, taken-ends)
 

@@ -12,6 +12,7 @@ use mathlib.Core.Path.{_≡_, refl, sym, ap, _∙_}
 use native.Mathlib.Numerals.{add-one}
 use native.Mathlib.Omega.{arith}
 use Rattle.lists.specs.Lists.{all, filter, sum, upFrom}
+use Rattle.lists.proofs.AllLaws.{PassTo, pass-starts, pass-fails, pass-on, pass-ends}
 use Rattle.lists.proofs.BoolLaws.{tested}
 use Rattle.rules.specs.Bundle.{bodiesIn, headCounts, headSize, opsBy, wholeBundle}
 use Rattle.rules.specs.Bytes.{byte}
@@ -21,34 +22,12 @@ use Rattle.bundle_head.specs.Head.{BodiesOf, HeadEnd, WholeHead, agrees,
 
 ---- count bytes
 
--- from place i on
-pub record NoZeroBefore (bs : List ℕ) (end i : ℕ) : Type 0 where
-  pub whole : end ≡ length bs
-  pub made : i ≤ length bs
-  pub left : all (ltb 0) bs ≡ all (ltb 0) (drop i bs)
+module _ (bs : List ℕ) (end i : ℕ) (x : PassTo (ltb 0) bs end i) (h : i < end) where
+  pub zero-found : getD bs i 0 ≡ 0 → false ≡ all (ltb 0) bs
+  zero-found e = pass-fails (ltb 0) bs end i x h (le-ltb 0 (getD bs i 0) (omega arith))
 
-module _ (bs : List ℕ) where
-  pub zero-starts : NoZeroBefore bs (length bs) 0
-  zero-starts = record { whole = refl; made = omega arith; left = refl }
-
-  module _ (end i : ℕ) (x : NoZeroBefore bs end i) where
-    turn : i < end → all (ltb 0) bs ≡ (ltb 0 (getD bs i 0) && all (ltb 0) (drop (i + 1) bs))
-    unfolding all
-    turn h = x .left ∙ rw (drop-cons bs i 0 (omega (arith, x .whole)), add-one i)
-
-    pub zero-found : i < end → getD bs i 0 ≡ 0 → false ≡ all (ltb 0) bs
-    zero-found h e = sym (turn h ∙ rw (le-ltb 0 (getD bs i 0) (omega arith)))
-
-    pub zero-on : i < end → (getD bs i 0 ≡ 0 → ⊥) → NoZeroBefore bs end (i + 1)
-    zero-on h e = record {
-      whole = x .whole;
-      made = omega (arith, x .whole);
-      left = turn h ∙ rw (lt-ltb 0 (getD bs i 0) (omega (arith, e)));
-    }
-
-    pub zero-ends : end ≤ i → true ≡ all (ltb 0) bs
-    unfolding all
-    zero-ends h = let l : length bs ≤ i = omega (arith, x .whole) in sym (x .left ∙ rw (drop-of-length-le bs l))
+  pub zero-on : (getD bs i 0 ≡ 0 → ⊥) → PassTo (ltb 0) bs end (i + 1)
+  zero-on e = pass-on (ltb 0) bs end i x h (lt-ltb 0 (getD bs i 0) (omega (arith, e)))
 
 ---- bodies of a replica
 
@@ -215,7 +194,7 @@ module _ (b : List ℕ) where
 
 ---- what the code of the test needs: search testing
 
-pub ruleset zeros = (zero-starts, zero-found, zero-on, zero-ends)
+pub ruleset zeros = (pass-starts, zero-found, zero-on, pass-ends)
 
 pub ruleset countings = (count-starts, count-place, count-on, count-ends)
 

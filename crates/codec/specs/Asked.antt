@@ -1,6 +1,6 @@
 -- What inner functions of the codec ask and answer.
 use Prim.Native.Nat.{ℕ, _≤_}
-use Rattle.rules.specs.Answer.{Answer, accepted, done, hadIt, refused}
+use Rattle.rules.specs.Answer.{Answer, accepted, waiting, done, hadIt, refused}
 use Rattle.rules.specs.Op.{replicaOf}
 use mathlib.Core.Bool.{Bool, _&&_, _||_, false, not, true}
 use mathlib.Core.List.{List}
@@ -22,5 +22,6 @@ pub record Origin (b : List ℕ) (s : ℕ) : Type 0 where
 unfoldable pub isAccepted : Answer → Bool
 isAccepted (refused n) = false
 isAccepted hadIt = false
+isAccepted waiting = false
 isAccepted done = false
 isAccepted (accepted n) = true

@@ -1,5 +1,5 @@
 ghost use mathlib.Core.Path.{_≡_};
-ghost use Rattle.codec.specs.Answers.{answerOf};
+ghost use Rattle.codec.specs.Answers.{answerOf, numberOf};
 ghost use Rattle.codec.specs.Asked.{isAccepted};
 
 // Why a call is refused: a case for each of the document's numbers.
@@ -28,6 +28,10 @@ pub enum Refusal {
     Marked,
     // 12: a bundle that has no whole head, or disagrees with it.
     BadBundle,
+    // 13: an early op that is not in the holdback, and no place for it.
+    HoldbackFull,
+    // 14: a holdback of a wrong length or count, or with a byte past its ops.
+    BadHoldback,
 }
 
 // What a call answers.
@@ -35,10 +39,34 @@ pub enum Answer {
     Refused(Refusal),
     // The op was held already.
     HadIt,
+    // The op is early, and held back.
+    Waiting,
     // Judging is done.
     Done,
     // The new file end, the entries of a path, or the bytes of a listing or a bundle.
     Accepted(usize),
+}
+
+// The document's number of a refusal.
+pub fn number_of(why: Refusal) -> usize
+    ensures { λ r. ⌜ r ≡ numberOf why ⌝ }
+{
+    match why {
+        Refusal::Unsound => 1,
+        Refusal::Length => 2,
+        Refusal::Malformed => 3,
+        Refusal::Conflict => 4,
+        Refusal::Early => 5,
+        Refusal::NotClosed => 6,
+        Refusal::Unknown => 7,
+        Refusal::NoRoom => 8,
+        Refusal::Exhausted => 9,
+        Refusal::Cycle => 10,
+        Refusal::Marked => 11,
+        Refusal::BadBundle => 12,
+        Refusal::HoldbackFull => 13,
+        Refusal::BadHoldback => 14,
+    }
 }
 
 // Whether a call was accepted.
@@ -48,6 +76,7 @@ pub fn is_accepted(answer: Answer) -> bool
     match answer {
         Answer::Refused(_) => false,
         Answer::HadIt => false,
+        Answer::Waiting => false,
         Answer::Done => false,
         Answer::Accepted(_) => true,
     }

@@ -7,6 +7,7 @@ mod word;
 pub use answer::Answer;
 pub use answer::Refusal;
 pub use answer::is_accepted;
+pub use answer::number_of;
 pub use field::kind_at;
 pub use field::node_at;
 pub use field::parent_at;

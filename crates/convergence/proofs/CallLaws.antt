@@ -8,12 +8,12 @@ use lib.ListN.{length, drop}
 use lib.Seq.{take-at}
 use Rattle.rules.specs.Op.{Op}
 use Rattle.rules.specs.File.{logOf, fileEnd, appended, width}
-use Rattle.rules.specs.Answer.{Answer, refused, hadIt, done, accepted, ifAccepted}
+use Rattle.rules.specs.Answer.{Answer, refused, hadIt, waiting, done, accepted, ifAccepted}
 use Rattle.rules.specs.Deliver.{makeAnswer, makeBuffer, deliverAnswer, deliverBuffer}
 use Rattle.rules.specs.Issue.{issued, issueAnswer, issueBuffer, issueOut}
 use Rattle.rules.specs.Bundle.{bodiesIn, unlessRefused, turnsAnswer, turnsBuffer, turnsTaken, openAnswer, openBuffer}
 use Rattle.lists.proofs.BoolLaws.{never}
-use Rattle.rules.proofs.DeliverLaws.{required, accepted-same, Admitted, admitted, delivered, appended-end}
+use Rattle.rules.proofs.DeliverLaws.{if-not, required, accepted-same, Admitted, admitted, delivered, appended-end}
 use Rattle.rules.proofs.IssueLaws.{issue-admitted}
 use Rattle.rules.proofs.SoundLaws.{empty-ends}
 use Rattle.rules.proofs.TurnLaws.{OneLog, one-end, turns-end, deliver-alike, turns-alike}
@@ -21,13 +21,6 @@ use Rattle.convergence.specs.Exchange.{Call, make, issue, deliver, openB
 use Rattle.convergence.specs.Lists.{CallsAdd}
 
 ---- what a call adds
-
--- what a call leaves that was not accepted
-if-not : {A : Type 0} (a : Answer) (new old : A) → ifAccepted a true false ≡ false → ifAccepted a new old ≡ old
-if-not (refused n) new old e = refl
-if-not hadIt new old e = refl
-if-not done new old e = refl
-if-not (accepted n) new old e = never (sym e)
 
 adds-one : (f : List ℕ) (r : Op) (n : ℕ) → Admitted width f r n → Adds f (r ∷ []) (appended width f r)
 unfolding deliverBuffer
@@ -48,6 +41,7 @@ turns-add (r ∷ rs) f n e = go (deliverAnswer width f r) refl e (λ g. turns-ad
         → Adds f (ifAccepted a (r ∷ []) [] ++ turnsTaken width next rs) (turnsBuffer width next rs)
     go (refused m) q e ih = let z : _≡_ {A = ℕ} 0 1 = cc in absurd (omega arith)
     go hadIt q e ih = let s : next ≡ f = rw q in rw s (ih f (rw s at e))
+    go waiting q e ih = let s : next ≡ f = rw q in rw s (ih f (rw s at e))
     go done q e ih = let s : next ≡ f = rw q in rw s (ih f (rw s at e))
     go (accepted m) q e ih = (m, q, ih next e)
 

@@ -5,14 +5,14 @@ use mathlib.Core.List.{List, [], _∷_, _++_, append-assoc, append-nil}
 use Prim.Native.Nat.{ℕ}
 use native.Mathlib.Omega.{arith}
 use Rattle.lists.specs.Lists.{all}
-use Rattle.rules.specs.Answer.{Answer, refused, hadIt, done, accepted, ifAccepted}
+use Rattle.rules.specs.Answer.{Answer, refused, hadIt, waiting, done, accepted, ifAccepted}
 use Rattle.rules.specs.Bundle.{unlessRefused, turnsAnswer, turnsBuffer, turnsTaken}
 use Rattle.rules.specs.Deliver.{deliverAnswer, deliverBuffer}
 use Rattle.rules.specs.File.{width}
 use Rattle.rules.specs.Op.{Op}
 use Rattle.convergence.specs.Exchange.{Site, deliver, answer, bufferAfter, begun, added, perform}
 use Rattle.convergence.specs.Handover.{deliverAll, deliverAnswers, takenOrHad}
-use Rattle.rules.proofs.DeliverLaws.{never-done}
+use Rattle.rules.proofs.DeliverLaws.{never-waiting, never-done}
 use Rattle.convergence.proofs.KeptLaws.{Kept, kept-perform}
 
 pub kept-all : (ops : List Op) (x : Site) → Kept x → Kept (deliverAll x ops)
@@ -24,6 +24,7 @@ kept-all (r ∷ ops) x k = kept-all ops (perform x (deliver r)) (kept-perform x 
 held-then : (a : Answer) (held : List Op) (r : Op) → ifAccepted a (held ++ (r ∷ [])) held ≡ held ++ ifAccepted a (r ∷ []) []
 held-then (refused n) held r = sym (append-nil held)
 held-then hadIt held r = sym (append-nil held)
+held-then waiting held r = sym (append-nil held)
 held-then done held r = sym (append-nil held)
 held-then (accepted n) held r = refl
 
@@ -57,5 +58,6 @@ all-answered (r ∷ ops) x n e = go (deliverAnswer width (x .buffer) r) refl e (
         → (takenOrHad a && all takenOrHad (deliverAnswers next ops)) ≡ true
     go (refused m) q e ih = let z : _≡_ {A = ℕ} 0 1 = cc in absurd (omega arith)
     go hadIt q e ih = ih (rw (performed x r) e)
+    go waiting q e ih = absurd (never-waiting width (x .buffer) r q)
     go done q e ih = absurd (never-done width (x .buffer) r q)
     go (accepted m) q e ih = ih (rw (performed x r) e)

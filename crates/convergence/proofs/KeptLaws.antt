@@ -14,7 +14,7 @@ use Rattle.rules.specs.Deliver.{makeAnswer, makeBuffer, isHeld, deliverBuffer}
 use Rattle.convergence.specs.Exchange.{Call, make, Site, answer, bufferAfter, begun, added, Adds, perform, run, standing, has, times, arrange, filed, fileIn}
 use Rattle.lists.specs.Lists.{any, filter}
 use Rattle.rules.specs.Sound.{sound}
-use Rattle.rules.specs.Answer.{Answer, refused, hadIt, accepted, require, ifAccepted, done}
+use Rattle.rules.specs.Answer.{Answer, refused, hadIt, accepted, require, ifAccepted, waiting, done}
 use Rattle.lists.proofs.BoolLaws.{never, fails}
 use Rattle.rules.proofs.ReplicaLaws.{replica-cases}
 use Rattle.rules.proofs.DeliverLaws.{Admitted, admitted, appended-log, appended-sound, appended-front}
@@ -147,6 +147,7 @@ kept-perform x c k = go (answer (x .buffer) c) refl
         → Kept (record { buffer = bufferAfter (x .buffer) c; held = ifAccepted a (begun x c .held ++ added (x .buffer) c) (x .held) })
     go (refused n) e = unchanged (rw e)
     go hadIt e = unchanged (rw e)
+    go waiting e = unchanged (rw e)
     go done e = unchanged (rw e)
     go (accepted n) e =
         kept-adds (added (x .buffer) c) (begun x c) (bufferAfter (x .buffer) c) first (calls-add .adds x c n e)

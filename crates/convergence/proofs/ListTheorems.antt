@@ -9,7 +9,7 @@ use borrow.Author.Tests.{leb-true}
 use lib.ListN.{length, drop, length-append, length-drop, take-append-drop}
 use lib.Seq.{drop-at}
 use lib.Dec.{leb}
-use Rattle.rules.specs.Answer.{Answer, refused, hadIt, done, accepted, require, ifAccepted}
+use Rattle.rules.specs.Answer.{Answer, refused, hadIt, waiting, done, accepted, require, ifAccepted}
 use Rattle.rules.specs.Op.{Op}
 use Rattle.rules.specs.File.{fileOf, fileEnd, logOf, emptyLog, appended, width}
 use Rattle.rules.specs.Sound.{sound}
@@ -142,6 +142,7 @@ calls-keep-past f c = go (answer f c) refl
     go : (a : Answer) → answer f c ≡ a → PastKept f (bufferAfter f c) (fileEnd width first) (added f c) a
     go (refused k) e = unchanged f _ _ _ _ (λ n q. let z : _≡_ {A = ℕ} 0 1 = cc in omega arith) (calls-add .keeps f c (rw e))
     go hadIt e = unchanged f _ _ _ _ (λ n q. let z : _≡_ {A = ℕ} 0 1 = cc in omega arith) (calls-add .keeps f c (rw e))
+    go waiting e = unchanged f _ _ _ _ (λ n q. let z : _≡_ {A = ℕ} 0 1 = cc in omega arith) (calls-add .keeps f c (rw e))
     go done e = unchanged f _ _ _ _ (λ n q. let z : _≡_ {A = ℕ} 0 1 = cc in omega arith) (calls-add .keeps f c (rw e))
     go (accepted k) e =
         let end = calls-add .ends f c k e in

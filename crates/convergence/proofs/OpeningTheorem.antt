@@ -5,13 +5,13 @@ use mathlib.Core.List.{List, [], _∷_}
 use Prim.Native.Nat.{ℕ}
 use native.Mathlib.Omega.{arith}
 use Rattle.lists.specs.Lists.{all}
-use Rattle.rules.specs.Answer.{Answer, refused, hadIt, done, accepted, require}
+use Rattle.rules.specs.Answer.{Answer, refused, hadIt, waiting, done, accepted, require}
 use Rattle.rules.specs.Bundle.{bodiesIn, unlessRefused, turnsAnswer, wholeBundle, openAnswer, openBuffer}
 use Rattle.rules.specs.Deliver.{deliverAnswer, deliverBuffer}
 use Rattle.rules.specs.File.{width}
 use Rattle.rules.specs.Op.{Op}
 use Rattle.rules.specs.Sound.{sound}
-use Rattle.rules.proofs.DeliverLaws.{never-done}
+use Rattle.rules.proofs.DeliverLaws.{never-waiting, never-done}
 use Rattle.convergence.specs.Exchange.{Site, deliver, openBundle, answer, bufferAfter, begun, added, perform}
 use Rattle.convergence.specs.Handover.{deliverAll, deliverAnswers, takenOrHad}
 use Rattle.convergence.specs.Opens.{FirstRefused, OpeningDelivers}
@@ -44,6 +44,7 @@ first-refused (r ∷ ops) x n e = go (deliverAnswer width (x .buffer) r) refl e 
         → (turnsAnswer width (next .buffer) ops ≡ refused n → FirstRefused next ops n) → FirstRefused x (r ∷ ops) n
     go (refused m) q e ih = record { before = []; body = r; after = ops; split = refl; passed = refl; number = q ∙ e }
     go hadIt q e ih = refused-after x r ops n q refl (ih (rw (performed x r) e))
+    go waiting q e ih = absurd (never-waiting width (x .buffer) r q)
     go done q e ih = absurd (never-done width (x .buffer) r q)
     go (accepted m) q e ih = refused-after x r ops n q refl (ih (rw (performed x r) e))
 

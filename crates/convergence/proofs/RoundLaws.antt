@@ -16,7 +16,7 @@ use Rattle.rules.specs.Log.{covered}
 use Rattle.rules.specs.Deliver.{isHeld, deliverAnswer}
 use Rattle.convergence.specs.Exchange.{Site, answer, has, Side, left, right, other, isSide, Pair, missing, Offer, Round, answerTo, offered, after, Answered, answers, acceptances, acceptedBy, offers, ValidRound, EachRound, onlyIn}
 use Rattle.convergence.specs.Converges.{expected}
-use Rattle.rules.specs.Answer.{Answer, refused, hadIt, accepted, ifAccepted, done}
+use Rattle.rules.specs.Answer.{Answer, refused, hadIt, accepted, ifAccepted, waiting, done}
 use Rattle.lists.proofs.BoolLaws.{never, and-left, and-right, or-cases}
 use Rattle.rules.proofs.AppendLaws.{seq-positive}
 use Rattle.rules.proofs.DeliverLaws.{Admitted, admitted}
@@ -173,6 +173,7 @@ module _ (u : Log) (su : SoundLog u) (wu : WideLog width u) (base : Side → Lis
             → Passes u base p (offered p o) (record { offer = o; answered = a } ∷ [])
         go (refused n) e f = pass-same p (offered p o) (record { offer = o; answered = refused n }) s (offered-same p o (rw e))
             (offered-expected fits f) refl
+        go waiting e f = never (offered-expected fits f)
         go done e f = never (offered-expected fits f)
         go hadIt e f = pass-same p (offered p o) (record { offer = o; answered = hadIt }) s (offered-same p o (rw e)) refl refl
         go (accepted n) e f = pass-gain p (offered p o) (o .to) (o .op) n s h i (admitted width (p (o .to) .buffer) (o .op) n e)

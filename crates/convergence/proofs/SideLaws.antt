@@ -8,7 +8,7 @@ use lib.ListN.{length, length-append}
 use Rattle.rules.specs.Op.{Op}
 use Rattle.rules.specs.Deliver.{deliverBuffer}
 use Rattle.convergence.specs.Exchange.{Site, answer, bufferAfter, begun, added, perform, Side, left, right, other, isSide, Pair, missing, Offer, answerTo, offered, after, Answered, answers, acceptances, acceptedBy, onlyIn}
-use Rattle.rules.specs.Answer.{Answer, refused, hadIt, accepted, ifAccepted, done}
+use Rattle.rules.specs.Answer.{Answer, refused, hadIt, accepted, ifAccepted, waiting, done}
 use Rattle.rules.specs.File.{appended, width}
 use Rattle.lists.proofs.BoolLaws.{never}
 use Rattle.lists.proofs.FilterLaws.{filter-append}
@@ -72,6 +72,7 @@ module _ (p : Pair) (o : Offer) where
       go : (a : Answer) → ifAccepted a true false ≡ false → delivered (p (o .to)) (o .op) a ≡ p (o .to)
       go (refused n) e = refl
       go hadIt e = refl
+      go waiting e = refl
       go done e = refl
       go (accepted n) e = never (sym e)
 

@@ -5,7 +5,7 @@ use mathlib.Core.Bool.{Bool, true, false, cond, _&&_, not}
 use mathlib.Core.List.{List, [], _++_}
 use lib.ListN.{length, drop}
 use lib.Dec.{eqb}
-use Rattle.rules.specs.Answer.{Answer, refused, hadIt, done, accepted}
+use Rattle.rules.specs.Answer.{Answer, refused, hadIt, waiting, done, accepted}
 use Rattle.lists.specs.Lists.{concat, all}
 use Rattle.rules.specs.Op.{Op}
 use Rattle.rules.specs.File.{Log, width, largest}
@@ -21,6 +21,7 @@ use Rattle.convergence.specs.Exchange.{Call, run, standing, has, times, 
 unfoldable pub expected : Answer → Bool
 expected (refused n) = eqb n 5
 expected hadIt = true
+expected waiting = false
 expected done = false
 expected (accepted n) = true
 

@@ -5,7 +5,7 @@ use mathlib.Core.Bool.{Bool, true, false, _||_}
 use mathlib.Core.List.{List, [], _∷_, foldl}
 use lib.ListN.{length}
 use Rattle.lists.specs.Lists.{sum, all}
-use Rattle.rules.specs.Answer.{Answer, refused, hadIt, done, accepted}
+use Rattle.rules.specs.Answer.{Answer, refused, hadIt, waiting, done, accepted}
 use Rattle.rules.specs.Op.{Op, vectorOf}
 use Rattle.rules.specs.File.{largest, width}
 use Rattle.convergence.specs.Exchange.{Call, deliver, Site, answer, perform, has, Agreed, Side, left, right, other}
@@ -32,6 +32,7 @@ deliverAnswers x (r ∷ ops) = answer (x .buffer) (deliver r) ∷ deliverAnswers
 unfoldable pub takenOrHad : Answer → Bool
 takenOrHad (refused n) = false
 takenOrHad hadIt = true
+takenOrHad waiting = false
 takenOrHad done = false
 takenOrHad (accepted n) = true
 

@@ -3,10 +3,12 @@ use Rattle.lists.specs.Lists.{all, any, filter}
 use Rattle.lists.proofs.BoolLaws.{and-both, and-left, and-right}
 use mathlib.Core.Bool.{Bool, _&&_, _||_, cond, false, or-assoc, true}
 use mathlib.Core.List.{List, [], _++_, _∷_, map}
-use mathlib.Core.Path.{_≡_, ap, refl, sym}
-use Prim.Native.Nat.{ℕ, _<_, suc, zero}
+use mathlib.Core.Path.{_≡_, ap, refl, sym, _∙_}
+use Prim.Native.Nat.{ℕ, _+_, _<_, _≤_, suc, zero}
 use native.Mathlib.Omega.{arith}
-use lib.ListN.{getD, length}
+use lib.ListN.{drop, drop-of-length-le, getD, length}
+use lib.Seq.{drop-cons}
+use native.Mathlib.Numerals.{add-one}
 use native.Mathlib.Nat.{le-of-suc-le-suc, not-suc-le-zero}
 
 pub all-true : (p : ℕ → Bool) (xs : List ℕ) → ((x : ℕ) → p x ≡ true) → all p xs ≡ true
@@ -60,3 +62,29 @@ pub all-append : {A : Type 0} (p : A → Bool) (xs ys : List A) → all p xs ≡
 unfolding all
 all-append p [] ys a b = b
 all-append p (x ∷ xs) ys a b = and-both (and-left (p x) _ a) (all-append p xs ys (and-right (p x) _ a) b)
+
+---- a loop that tests each element: those before place i pass
+
+pub record PassTo (p : ℕ → Bool) (xs : List ℕ) (end i : ℕ) : Type 0 where
+  pub whole : end ≡ length xs
+  pub made : i ≤ length xs
+  pub left : all p xs ≡ all p (drop i xs)
+
+module _ (p : ℕ → Bool) (xs : List ℕ) where
+  pub pass-starts : PassTo p xs (length xs) 0
+  pass-starts = record { whole = refl; made = omega arith; left = refl }
+
+  module _ (end i : ℕ) (x : PassTo p xs end i) where
+    turn : i < end → all p xs ≡ (p (getD xs i 0) && all p (drop (i + 1) xs))
+    unfolding all
+    turn h = x .left ∙ rw (drop-cons xs i 0 (omega (arith, x .whole)), add-one i)
+
+    pub pass-fails : i < end → p (getD xs i 0) ≡ false → false ≡ all p xs
+    pass-fails h e = sym (turn h ∙ rw e)
+
+    pub pass-on : i < end → p (getD xs i 0) ≡ true → PassTo p xs end (i + 1)
+    pass-on h e = record { whole = x .whole; made = omega (arith, x .whole); left = turn h ∙ rw e }
+
+    pub pass-ends : end ≤ i → true ≡ all p xs
+    unfolding all
+    pass-ends h = let l : length xs ≤ i = omega (arith, x .whole) in sym (x .left ∙ rw (drop-of-length-le xs l))

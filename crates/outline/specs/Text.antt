@@ -3,7 +3,7 @@ use Prim.Native.Nat.{ℕ, _≤_, _<_}
 use lib.ListN.{length, take}
 use mathlib.Core.List.{List}
 use mathlib.Core.Path.{_≡_}
-use Rattle.rules.specs.Answer.{Answer, refused, hadIt, done, accepted}
+use Rattle.rules.specs.Answer.{Answer, refused, hadIt, waiting, done, accepted}
 use Rattle.rules.specs.File.{largest, width}
 use Rattle.rules.specs.Listing.{outline}
 use Rattle.outline.specs.Reading.{ReadFrom}
@@ -12,6 +12,7 @@ use Rattle.outline.specs.Reading.{ReadFrom}
 abbrev pub counted : Answer → ℕ
 counted (refused why) = 0
 counted hadIt = 0
+counted waiting = 0
 counted done = 0
 counted (accepted n) = n
 

@@ -49,6 +49,7 @@ fn counted(answer: Answer) -> usize
         Answer::Accepted(n) => n,
         Answer::Refused(_) => 0,
         Answer::HadIt => 0,
+        Answer::Waiting => 0,
         Answer::Done => 0,
     }
 }

@@ -14,7 +14,7 @@ use Rattle.rules.proofs.IssueLaws.{allowed}
 use Rattle.rules.proofs.SoundLaws.{sound-laid}
 use Rattle.rules.proofs.TurnLaws.{turns-end, turns-length, turns-sound}
 use Rattle.order.proofs.TourLaws.{sound-listing}
-use Rattle.rules.specs.Answer.{Answer, refused, hadIt, done, accepted}
+use Rattle.rules.specs.Answer.{Answer, refused, hadIt, waiting, done, accepted}
 use Rattle.rules.specs.Bundle.{bodiesIn, bundleAnswer, bundleCall, bundleOf, openAnswer, turnsAnswer, turnsBuffer}
 use Rattle.rules.specs.Deliver.{makeAnswer, deliverAnswer}
 use Rattle.rules.specs.Op.{Vector}
@@ -28,6 +28,7 @@ fits-if : (a : Answer) → ((n : ℕ) → a ≡ accepted n → n ≤ 92233720368
 unfolding fits
 fits-if (refused n) h = tt
 fits-if hadIt h = tt
+fits-if waiting h = tt
 fits-if done h = tt
 fits-if (accepted n) h = h n refl
 

@@ -5,7 +5,7 @@ use lib.ListN.{length}
 use mathlib.Core.List.{List}
 use mathlib.Core.Path.{_≡_, ap}
 use Rattle.codec.specs.Answers.{answerOf, numberOf}
-use Rattle.codec.specs.declared.answer.Answer.the-variants.{Refused, HadIt, Done, Accepted}
+use Rattle.codec.specs.declared.answer.Answer.the-variants.{Refused, HadIt, Waiting, Done, Accepted}
 use Rattle.codec.specs.declared.answer.Refusal.{Refusal}
 use Rattle.rules.specs.Answer.{Answer}
 use Rattle.rules.specs.Bundle.{bundleCall, openBundle}
@@ -34,6 +34,10 @@ module _ (a : code.Answer) where
   pub had-it-number : a ≡ HadIt → 128 ≡ number (answerOf a)
   unfolding number
   had-it-number e = rw e
+
+  pub waiting-number : a ≡ Waiting → 130 ≡ number (answerOf a)
+  unfolding number
+  waiting-number e = rw e
 
   pub done-number : a ≡ Done → 129 ≡ number (answerOf a)
   unfolding number
@@ -120,7 +124,7 @@ module _ (a : Answer) where
   opened-fits f bundle b e h = rw (ap (λ (x : Result). x .answer) e) (open-fits f bundle h)
 
 ---- what the code of numbers needs: search numbering
-pub ruleset answers = (refused-number, had-it-number, done-number, accepted-number, accepted-fits)
+pub ruleset answers = (refused-number, had-it-number, waiting-number, done-number, accepted-number, accepted-fits)
 
 pub ruleset handing = (result-over, issued-over, judgement-over, written-over, listing-over, answer-over, size-over)
 

@@ -2,7 +2,7 @@
 use Prim.Native.Nat.{ℕ, _+_}
 use mathlib.Core.Bool.{Bool, true, false}
 use mathlib.Core.List.{List}
-use Rattle.rules.specs.Answer.{Answer, refused, hadIt, done, accepted}
+use Rattle.rules.specs.Answer.{Answer, refused, hadIt, waiting, done, accepted}
 use Rattle.rules.specs.Deliver.{Result}
 use Rattle.rules.specs.Issue.{Issued}
 use Rattle.rules.specs.Judge.{Judgement}
@@ -14,6 +14,7 @@ unfoldable pub number : Answer → ℕ
 number (refused n) = n
 number hadIt = 128
 number done = 129
+number waiting = 130
 number (accepted n) = 256 + n
 
 -- what each call hands over: the number of its answer, and what it leaves in lent memory

@@ -1,5 +1,5 @@
 -- Laws of delivering: what acceptance says, and that an accepted op leaves a sound log.
-use mathlib.Core.Path.{_≡_, refl, _∙_}
+use mathlib.Core.Path.{_≡_, refl, sym, _∙_}
 use mathlib.Core.Bool.{Bool, true, false, cond}
 use mathlib.Core.List.{List, _++_}
 use Prim.Native.Nat.{ℕ, _+_, _≤_}
@@ -8,9 +8,10 @@ use native.Mathlib.Omega.{arith}
 use borrow.Author.Tests.{leb-true, eqb-true, le-leb, eq-eqb}
 use lib.ListN.{length, drop, length-append, length-drop}
 use lib.Seq.{drop-at}
+use Rattle.lists.proofs.BoolLaws.{never}
 use Rattle.rules.specs.Op.{Op}
 use Rattle.rules.specs.File.{Log, countsOf, append, endOf, fileEnd, logOf, fileOf, appended}
-use Rattle.rules.specs.Answer.{Answer, refused, hadIt, done, accepted, require, ifAccepted}
+use Rattle.rules.specs.Answer.{Answer, refused, hadIt, waiting, done, accepted, require, ifAccepted}
 use Rattle.rules.specs.Deliver.{admitAnswer, isHeld, heldAnswer, deliverAnswer, deliverBuffer}
 use Rattle.rules.specs.Sound.{sound}
 use Rattle.rules.proofs.FileLaws.{InFront, WideLog, logOf-fileOf, file-end, length-file, counts-logOf}
@@ -27,6 +28,14 @@ required false k a n e = let z : _≡_ {A = ℕ} 0 1 = cc in absurd (omega arith
 
 pub accepted-same : (m n : ℕ) → accepted m ≡ accepted n → m ≡ n
 accepted-same m n e = cc
+
+-- what a call leaves that was not accepted
+pub if-not : {A : Type 0} (a : Answer) (new old : A) → ifAccepted a true false ≡ false → ifAccepted a new old ≡ old
+if-not (refused n) new old e = refl
+if-not hadIt new old e = refl
+if-not waiting new old e = refl
+if-not done new old e = refl
+if-not (accepted n) new old e = never (sym e)
 
 -- an answer about a held op is no acceptance
 not-had : (log : Log) (r : Op) (n : ℕ) → heldAnswer log r ≡ accepted n → ⊥
@@ -79,21 +88,32 @@ delivered w f r n h =
       h .end,
     )
 
----- a delivery is never done
+---- a delivery is never done, and never waits
 
-not-done : (t : Bool) (k : ℕ) (a : Answer) → (a ≡ done → ⊥) → require t k a ≡ done → ⊥
-unfolding require
-not-done true k a h e = h e
-not-done false k a h e = let z : _≡_ {A = ℕ} 0 1 = cc in omega arith
+module _ (x : Answer) (never-refused : (k : ℕ) → refused k ≡ x → ⊥) where
+  not-required : (t : Bool) (k : ℕ) (a : Answer) → (a ≡ x → ⊥) → require t k a ≡ x → ⊥
+  unfolding require
+  not-required true k a h e = h e
+  not-required false k a h e = never-refused k e
+
+  never-else : (hadIt ≡ x → ⊥) → ((n : ℕ) → accepted n ≡ x → ⊥) → (w : ℕ) (f : List ℕ) (r : Op) → deliverAnswer w f r ≡ x → ⊥
+  unfolding deliverAnswer heldAnswer admitAnswer
+  never-else had took w f r =
+      not-required _ _ _ (not-required _ _ _ (not-required _ _ _ (go (isHeld (logOf w f) r))))
+    where
+      go : (b : Bool) → cond b (heldAnswer (logOf w f) r) (admitAnswer w f r) ≡ x → ⊥
+      go true = not-required _ _ _ had
+      go false = not-required _ _ _ (not-required _ _ _ (not-required _ _ _ (not-required _ _ _ (took _))))
 
 pub never-done : (w : ℕ) (f : List ℕ) (r : Op) → deliverAnswer w f r ≡ done → ⊥
-unfolding deliverAnswer heldAnswer admitAnswer
-never-done w f r =
-    not-done _ _ _ (not-done _ _ _ (not-done _ _ _ (go (isHeld (logOf w f) r))))
-  where
-    go : (b : Bool) → cond b (heldAnswer (logOf w f) r) (admitAnswer w f r) ≡ done → ⊥
-    go true = not-done _ _ _ (λ e. let z : _≡_ {A = ℕ} 0 1 = cc in omega arith)
-    go false = not-done _ _ _ (not-done _ _ _ (not-done _ _ _ (not-done _ _ _ (λ e. let z : _≡_ {A = ℕ} 0 1 = cc in omega arith))))
+never-done =
+    never-else done (λ k e. let z : _≡_ {A = ℕ} 0 1 = cc in omega arith) (λ e. let z : _≡_ {A = ℕ} 0 1 = cc in omega arith)
+    (λ n e. let z : _≡_ {A = ℕ} 0 1 = cc in omega arith)
+
+pub never-waiting : (w : ℕ) (f : List ℕ) (r : Op) → deliverAnswer w f r ≡ waiting → ⊥
+never-waiting =
+    never-else waiting (λ k e. let z : _≡_ {A = ℕ} 0 1 = cc in omega arith) (λ e. let z : _≡_ {A = ℕ} 0 1 = cc in omega arith)
+    (λ n e. let z : _≡_ {A = ℕ} 0 1 = cc in omega arith)
 
 ---- an accepted op leaves a sound log
 
@@ -159,6 +179,7 @@ module _ (w : ℕ) (f : List ℕ) (r : Op) where
       go : (a : Answer) → deliverAnswer w f r ≡ a → sound w (ifAccepted a (appended w f r) f) ≡ true
       go (refused n) e = s
       go hadIt e = s
+      go waiting e = s
       go done e = s
       go (accepted n) e = appended-sound w f r n (admitted w f r n e)
 
@@ -169,5 +190,6 @@ module _ (w : ℕ) (f : List ℕ) (r : Op) where
       go : (a : Answer) → deliverAnswer w f r ≡ a → length (ifAccepted a (appended w f r) f) ≡ length f
       go (refused n) e = refl
       go hadIt e = refl
+      go waiting e = refl
       go done e = refl
       go (accepted n) e = appended-length w f r n (admitted w f r n e)

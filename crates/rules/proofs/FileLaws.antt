@@ -19,12 +19,12 @@ use Rattle.rules.proofs.ReplicaLaws.{map-replicas, replica-cases}
 
 ---- chunks
 
-length-chunks : (w n : ℕ) (bs : List ℕ) → length (chunks w n bs) ≡ n
+pub length-chunks : (w n : ℕ) (bs : List ℕ) → length (chunks w n bs) ≡ n
 unfolding chunks
 length-chunks w zero bs = refl
 length-chunks w (suc n) bs = ap suc (length-chunks w n (drop w bs))
 
-concat-chunks : (w n : ℕ) (bs : List ℕ) → concat (chunks w n bs) ≡ take (w * n) bs
+pub concat-chunks : (w n : ℕ) (bs : List ℕ) → concat (chunks w n bs) ≡ take (w * n) bs
 unfolding chunks concat
 concat-chunks w zero bs = rw mul-zero
 concat-chunks w (suc n) bs = rw (mul-step, take-add, concat-chunks w n (drop w bs))
@@ -111,7 +111,7 @@ chunks-concat w (r ∷ rs) t h = rw (
       rs t (h .1),
 )
 
-drop-concat : (w : ℕ) (ops : List Op) (t : List ℕ) → Wide w ops → drop (w * length ops) (concat ops ++ t) ≡ t
+pub drop-concat : (w : ℕ) (ops : List Op) (t : List ℕ) → Wide w ops → drop (w * length ops) (concat ops ++ t) ≡ t
 unfolding concat
 drop-concat w [] t h = rw mul-zero
 drop-concat w (r ∷ rs) t h = rw (
@@ -172,7 +172,7 @@ fileOf-logOf w f t = rw (take-add, counts-chunksOf, bodies-chunksOf, t)
 
 ---- widths and lengths
 
-wide-chunks : (w n : ℕ) (bs : List ℕ) → w * n ≤ length bs → Wide w (chunks w n bs)
+pub wide-chunks : (w n : ℕ) (bs : List ℕ) → w * n ≤ length bs → Wide w (chunks w n bs)
 unfolding chunks
 wide-chunks w zero bs h = tt
 wide-chunks w (suc n) bs h =
@@ -190,6 +190,20 @@ wide-chunksOf w (n ∷ ns) bs h = (
 pub wide-last : (w : ℕ) (ops : List Op) (r : Op) → Wide w ops → length r ≡ w → Wide w (ops ++ (r ∷ []))
 wide-last w [] r h e = (e, tt)
 wide-last w (x ∷ ops) r h e = (h .0, wide-last w ops r (h .1) e)
+
+pub wide-take : (w i : ℕ) (ops : List Op) → Wide w ops → Wide w (take i ops)
+wide-take w zero ops h = tt
+wide-take w (suc i) [] h = tt
+wide-take w (suc i) (r ∷ ops) h = (h .0, wide-take w i ops (h .1))
+
+pub wide-drop : (w i : ℕ) (ops : List Op) → Wide w ops → Wide w (drop i ops)
+wide-drop w zero ops h = h
+wide-drop w (suc i) [] h = tt
+wide-drop w (suc i) (r ∷ ops) h = wide-drop w i ops (h .1)
+
+pub wide-both : (w : ℕ) (a b : List Op) → Wide w a → Wide w b → Wide w (a ++ b)
+wide-both w [] b h k = k
+wide-both w (r ∷ a) b h k = (h .0, wide-both w a b (h .1) k)
 
 pub wide-at : (w : ℕ) (log : Log) (i : ℕ) → WideLog w log → Wide w (getD log i [])
 wide-at w [] i h = tt

@@ -24,4 +24,7 @@ pub mod CircleLaws
 pub mod StepLaws
 pub mod UnionLaws
 pub mod BundleLaws
+pub mod HoldbackLaws
+pub mod SearchLaws
+pub mod VerdictLaws
 pub mod DecimalLaws

@@ -13,7 +13,7 @@ use Rattle.lists.specs.Lists.{same, any}
 use Rattle.lists.proofs.BoolLaws.{never, or-cases}
 use Rattle.lists.proofs.EachLaws.{Each}
 use Rattle.lists.proofs.ListLaws.{same-eq}
-use Rattle.rules.specs.Answer.{Answer, refused, hadIt, done, accepted, ifAccepted}
+use Rattle.rules.specs.Answer.{Answer, refused, hadIt, waiting, done, accepted, ifAccepted}
 use Rattle.rules.specs.Bundle.{unlessRefused, turnsAnswer, turnsBuffer, turnsTaken}
 use Rattle.rules.specs.Deliver.{deliverAnswer, deliverBuffer, admitAnswer, isHeld}
 use Rattle.rules.specs.File.{Log, opAt, countsOf, endOf, fileEnd, logOf, append, appended, within, Extends}
@@ -57,6 +57,7 @@ module _ (w : ℕ) where
             → logOf w (ifAccepted a (appended w f r) f) ≡ logOf w (ifAccepted a (appended w g r) g)
         go (refused n) e = x .log
         go hadIt e = x .log
+        go waiting e = x .log
         go done e = x .log
         go (accepted n) e =
             appended-log w f r n (admitted w f r n e) ∙ ap (λ t. append t r) (x .log)
@@ -82,6 +83,7 @@ goes-on : (a next : Answer) (n : ℕ) → unlessRefused a next ≡ accepted n �
 unfolding unlessRefused
 goes-on (refused m) next n e = cc
 goes-on hadIt next n e = cc
+goes-on waiting next n e = cc
 goes-on done next n e = cc
 goes-on (accepted m) next n e = cc
 

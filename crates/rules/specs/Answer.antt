@@ -2,11 +2,12 @@
 use Prim.Native.Nat.{ℕ}
 use mathlib.Core.Bool.{Bool, true, false}
 
--- refused with the document's number; "had it"; judging is done; or accepted, with the number handed back: the new
--- file end, the entries of a path, the bytes of a listing or of a bundle
+-- refused with the document's number; "had it"; "waiting", of an early op that is held back; judging is done; or accepted, with the
+-- number handed back: the new file end, the entries of a path, the bytes of a listing or of a bundle
 pub data Answer : Type 0 where
   refused : ℕ → Answer
   hadIt : Answer
+  waiting : Answer
   done : Answer
   accepted : ℕ → Answer
 
@@ -19,6 +20,7 @@ require false n next = refused n
 abbrev pub ifAccepted {ℓ} : {A : Type ℓ} → Answer → A → A → A
 ifAccepted (refused n) new old = old
 ifAccepted hadIt new old = old
+ifAccepted waiting new old = old
 ifAccepted done new old = old
 ifAccepted (accepted n) new old = new
 
@@ -26,5 +28,14 @@ ifAccepted (accepted n) new old = new
 abbrev pub ifDone {ℓ} : {A : Type ℓ} → Answer → A → A → A
 ifDone (refused n) new old = old
 ifDone hadIt new old = old
+ifDone waiting new old = old
 ifDone done new old = new
 ifDone (accepted n) new old = old
+
+-- what an op that waits leaves behind
+abbrev pub ifWaiting {ℓ} : {A : Type ℓ} → Answer → A → A → A
+ifWaiting (refused n) new old = old
+ifWaiting hadIt new old = old
+ifWaiting waiting new old = new
+ifWaiting done new old = old
+ifWaiting (accepted n) new old = old

@@ -7,7 +7,7 @@ use lib.Count.{ones}
 use lib.ListN.{length, take, drop}
 use lib.Dec.{leb, ltb, eqb}
 use Rattle.lists.specs.Lists.{sum, concat, all, filter}
-use Rattle.rules.specs.Answer.{Answer, refused, hadIt, done, accepted, require, ifAccepted}
+use Rattle.rules.specs.Answer.{Answer, refused, hadIt, waiting, done, accepted, require, ifAccepted}
 use Rattle.rules.specs.Bytes.{byte}
 use Rattle.rules.specs.Op.{Op, Vector, replicas, countIn, replicaOf, seqOf}
 use Rattle.rules.specs.File.{Log, countsOf, fileEnd, chunks, logOf}
@@ -88,6 +88,7 @@ wholeBundle w b =
 unfoldable pub unlessRefused : Answer → Answer → Answer
 unlessRefused (refused n) next = refused n
 unlessRefused hadIt next = next
+unlessRefused waiting next = next
 unlessRefused done next = next
 unlessRefused (accepted n) next = next
 

@@ -1,15 +1,16 @@
 -- The document's worked examples P1 to P12 but P4, as rows of one table that one theorem covers.
-use Prim.Native.Nat.{ℕ, zero, suc, _-_, _<_}
+use Prim.Native.Nat.{ℕ, zero, suc, _+_, _-_, _<_}
 use lib.Count.{ones, onesIn}
 use lib.ListN.{length, getD, set, replicate, take}
 use mathlib.Core.Bool.{true}
 use mathlib.Core.List.{List, [], _∷_, _++_, map}
 use mathlib.Core.Path.{_≡_, refl}
 use native.Mathlib.Nat.{le-of-suc-le-suc, not-suc-le-zero}
-use Rattle.rules.specs.Answer.{Answer, refused, hadIt, done, accepted, require}
+use Rattle.rules.specs.Answer.{Answer, refused, hadIt, waiting, done, accepted, require}
 use Rattle.rules.specs.Bytes.{wordAt, word}
 use Rattle.lists.specs.Lists.{upFrom, downFrom, sum, greatest, same, concat, all, any, filter, isIn}
 use Rattle.rules.specs.Bundle.{beyondCounts, headByte, headOf, isBeyond, opsBeyond, bundleOf, bundleAnswer, bundleCall, headSize, countsRead, headCounts, bodiesIn, opsBy, wholeBundle, unlessRefused, turnsAnswer, turnsBuffer, openAnswer, openBuffer, openBundle}
+use Rattle.rules.specs.Holdback.{places, holdbackOps, holdbackOf, soundHoldback, stays, look, searchOn, looks, search, waits, putBack, earlyAnswer, released, answerOn, holdbackAnswer, holdbackBuffer, holdbackAfter, deliverHoldback}
 use Rattle.rules.specs.Deliver.{makeAnswer, isHeld, heldAnswer, admitAnswer, deliverAnswer, deliverBuffer}
 use Rattle.rules.specs.Issue.{Request, add, remove, move, opBytes, issued, requestKnown, requestUnmarked, requestClear, issueAnswer, issueOut}
 use Rattle.rules.specs.Tree.{moveKind, slots, slot, slotOf, parentIn, climb, path, depth, atOrBelow}
@@ -59,6 +60,8 @@ pub data Row : Type 0 where
   bundles : (file : List ℕ) → Vector → (out : List ℕ) → Answer → (after : List ℕ) → Row
   -- opening a bundle at a buffer is answered, and the buffer holds
   opens : (buffer bundle : List ℕ) → Answer → (after : List ℕ) → Row
+  -- delivering with a holdback is answered, and buffer and holdback hold
+  holdsBack : (buffer op holdback : List ℕ) → Answer → (after left : List ℕ) → Row
   -- the program prints
   prints : (input text : List ℕ) → Row
 
@@ -80,6 +83,7 @@ Holds (ends f a) = endAnswer width f ≡ a
 Holds (counts f out a after) = countsCall width f out ≡ record { answer = a; out = after }
 Holds (bundles f v out a after) = bundleCall width f v out ≡ record { answer = a; out = after }
 Holds (opens f b a after) = openBundle width f b ≡ record { answer = a; buffer = after }
+Holds (holdsBack f r h a after left) = deliverHoldback width f r h ≡ record { answer = a; buffer = after; holdback = left }
 Holds (prints f text) = outline width f ≡ text
 
 abbrev pub AllHold : List Row → Type 0
@@ -140,6 +144,10 @@ emptyIn n = emptyFile ++ replicate (n - 32) 0
 -- the same with so many sevens past it
 abbrev pub emptyThen : ℕ → List ℕ
 emptyThen n = emptyFile ++ replicate n 7
+
+-- the log of these ops of replica 1 in a buffer with so many sevens past it
+abbrev pub oneThen : List Op → ℕ → List ℕ
+oneThen ops n = fileOf width (three [] ops [] []) ++ replicate n 7
 
 -- P1 as a bundle: replica 2's move is judged before replica 1's
 abbrev pub p1Bundle : List ℕ
@@ -223,6 +231,28 @@ abbrev pub prunedText : List ℕ
 prunedText =
     48 ∷ 32 ∷ 48 ∷ 32 ∷ 107 ∷ 10 ∷ 49 ∷ 32 ∷ 50 ∷ 53 ∷ 55 ∷ 32 ∷ 114 ∷ 10
     ∷ 50 ∷ 32 ∷ 50 ∷ 53 ∷ 56 ∷ 32 ∷ 107 ∷ 10 ∷ 49 ∷ 32 ∷ 53 ∷ 49 ∷ 51 ∷ 32 ∷ 107 ∷ 10 ∷ []
+
+-- a holdback in which ops wait
+abbrev pub tray : List Op → List ℕ
+tray ops = holdbackOf width ops
+
+-- another op of replica 1's sequence 3; an op that names a node which nobody adds, one whose vector is not closed, and one that does not
+-- read
+abbrev pub rival₃ : Op
+rival₃ = adds 1 3 0 (vector 2 0 0)
+
+abbrev pub unknown₁ : Op
+unknown₁ = adds 2 1 999 (vector 1 0 0)
+
+abbrev pub torn₁ : Op
+torn₁ = adds 3 1 0 (vector 0 1 0)
+
+abbrev pub unread : Op
+unread = replicate 14 0
+
+-- replica 1's ops 2 to 33, each adding a node under the root
+unfoldable pub crowd : List Op
+crowd = map (λ q. adds 1 (1 + q) 0 (vector q 0 0)) (upFrom 1 places)
 
 ---- the table
 
@@ -413,6 +443,49 @@ table =
     ∷ opens (emptyThen 28) (1 ∷ 2 ∷ (a₁ ++ adds 1 2 258 (vector 1 0 0))) (refused 7) (emptyThen 28)
     ∷ opens (emptyThen 55) p1Bundle (refused 8) (emptyThen 55)
     ∷ opens (fileOf width p1Adds) p1Bundle (refused 8) (fileOf width p1Adds)
+    -- an early op goes to the back of the holdback; the same bytes are held once
+    ∷ holdsBack (emptyThen 42) a₃ (tray []) waiting (emptyThen 42) (tray (a₃ ∷ []))
+    ∷ holdsBack (emptyThen 42) a₂ (tray (a₃ ∷ [])) waiting (emptyThen 42) (tray (a₃ ∷ a₂ ∷ []))
+    ∷ holdsBack (emptyThen 42) a₃ (tray (a₃ ∷ a₂ ∷ [])) waiting (emptyThen 42) (tray (a₃ ∷ a₂ ∷ []))
+    -- the op that they wait for: a₂ is found behind a₃, and then a₃ from the front
+    ∷ holdsBack (emptyThen 44) a₁ (tray (a₃ ∷ a₂ ∷ [])) (accepted 74) (oneThen (a₁ ∷ a₂ ∷ a₃ ∷ []) 2) (tray [])
+    -- one that is still early stays, before one that is due and behind it
+    ∷ holdsBack (emptyThen 42) a₁ (tray (a₃ ∷ [])) (accepted 46) (oneThen (a₁ ∷ []) 28) (tray (a₃ ∷ []))
+    ∷ holdsBack (emptyThen 28) a₁ (tray (b₁ ∷ a₂ ∷ a₃ ∷ [])) (accepted 60) (oneThen (a₁ ∷ a₂ ∷ []) 0) (tray (b₁ ∷ a₃ ∷ []))
+    -- dropped: held already, the later of two rivals, an unknown node; an op that does not read; a vector that is not closed, had it, and
+    -- another op of a held sequence. Doubles that are not met by a held one stay
+    ∷ holdsBack (oneThen (a₁ ∷ []) 42) a₂ (tray (a₁ ∷ rival₃ ∷ a₃ ∷ unknown₁ ∷ [])) (accepted 74) (oneThen (a₁ ∷ a₂ ∷ rival₃ ∷ []) 14) (tray [])
+    ∷ holdsBack (oneThen (a₁ ∷ []) 14) a₂ (tray (unread ∷ rival₃ ∷ a₁ ∷ rival₃ ∷ unknown₁ ∷ [])) (accepted 60) (oneThen (a₁ ∷ a₂ ∷ []) 0)
+        (tray (rival₃ ∷ rival₃ ∷ []))
+    ∷ holdsBack p1Buffer (adds 1 4 0 (vector 3 0 0)) (tray (torn₁ ∷ a₂ ∷ set a₂ 5 1 ∷ [])) (accepted 102)
+        (fileOf width (append p1 (adds 1 4 0 (vector 3 0 0)))) (tray [])
+    -- had it: nothing is searched, though a₂ could go
+    ∷ holdsBack (oneThen (a₁ ∷ []) 42) a₁ (tray (a₂ ∷ [])) hadIt (oneThen (a₁ ∷ []) 42) (tray (a₂ ∷ []))
+    -- no room for the second: it stays; no room for the first: nothing changes
+    ∷ holdsBack (emptyThen 14) a₁ (tray (a₂ ∷ unknown₁ ∷ [])) (accepted 46) (oneThen (a₁ ∷ []) 0) (tray (a₂ ∷ []))
+    ∷ holdsBack (emptyThen 13) a₁ (tray (a₂ ∷ [])) (refused 8) (emptyThen 13) (tray (a₂ ∷ []))
+    -- a full holdback: 13 for another early op, waiting for one that is there; the other answers as before
+    ∷ holdsBack (emptyThen 14) b₁ (tray crowd) (refused 13) (emptyThen 14) (tray crowd)
+    ∷ holdsBack (emptyThen 14) (adds 1 33 0 (vector 32 0 0)) (tray crowd) waiting (emptyThen 14) (tray crowd)
+    ∷ holdsBack (emptyThen 14) (adds 1 1 999 (vector 0 0 0)) (tray crowd) (refused 7) (emptyThen 14) (tray crowd)
+    -- one place left
+    ∷ holdsBack (emptyThen 14) b₁ (tray (take 31 crowd)) waiting (emptyThen 14) (tray (take 31 crowd ++ (b₁ ∷ [])))
+    -- refused: another op of a held sequence, a vector that is not closed, an unknown parent
+    ∷ holdsBack p1Buffer (set a₂ 5 1) (tray (a₃ ∷ [])) (refused 4) p1Buffer (tray (a₃ ∷ []))
+    ∷ holdsBack p1Buffer torn₁ (tray (a₃ ∷ [])) (refused 6) p1Buffer (tray (a₃ ∷ []))
+    ∷ holdsBack p1Buffer (adds 1 4 999 (vector 3 0 0)) (tray (a₃ ∷ [])) (refused 7) p1Buffer (tray (a₃ ∷ []))
+    -- 14: a byte too few, a byte too many, a count above 32, a byte past the ops; after 1, before 2
+    ∷ holdsBack (emptyThen 14) a₁ (replicate 448 0) (refused 14) (emptyThen 14) (replicate 448 0)
+    ∷ holdsBack (emptyThen 14) a₁ (replicate 450 0) (refused 14) (emptyThen 14) (replicate 450 0)
+    ∷ holdsBack (emptyThen 14) a₁ (33 ∷ replicate 448 0) (refused 14) (emptyThen 14) (33 ∷ replicate 448 0)
+    ∷ holdsBack (emptyThen 14) a₁ (set (tray (a₃ ∷ [])) 15 1) (refused 14) (emptyThen 14) (set (tray (a₃ ∷ [])) 15 1)
+    ∷ holdsBack (emptyThen 14) a₁ (set (tray []) 448 1) (refused 14) (emptyThen 14) (set (tray []) 448 1)
+    ∷ holdsBack (replicate 31 0) a₁ [] (refused 1) (replicate 31 0) []
+    ∷ holdsBack [] a₁ (tray []) (refused 1) [] (tray [])
+    ∷ holdsBack (emptyThen 14) (take 13 a₁) [] (refused 14) (emptyThen 14) []
+    -- 2 and 3 before the op may wait
+    ∷ holdsBack (emptyThen 14) (take 13 a₂) (tray []) (refused 2) (emptyThen 14) (tray [])
+    ∷ holdsBack (emptyThen 14) (set a₂ 0 9) (tray []) (refused 3) (emptyThen 14) (tray [])
     ∷ []
 
 -- one row holds, and the others
@@ -433,7 +506,8 @@ unfolding ofOps table p1 p1Adds p1File p1Buffer emptyFile p10 p11 p11All p12 p12
     preorder digits decimal lineOf line listingIn listingOf listingAnswer listing listingSize refusedLine outline judgeAnswer pathOf
     pathAnswer pathCall endAnswer countsAnswer countsCall appended deliverBuffer ones onesIn beyondCounts headByte headOf isBeyond
     opsBeyond bundleOf bundleAnswer bundleCall headSize countsRead headCounts bodiesIn opsBy wholeBundle unlessRefused turnsAnswer
-    turnsBuffer openAnswer openBuffer
+    turnsBuffer openAnswer openBuffer crowd holdbackOps holdbackOf soundHoldback stays look searchOn looks search waits putBack earlyAnswer
+    released answerOn holdbackAnswer holdbackBuffer holdbackAfter
 table-holds =
     (refl, refl) & refl & refl & refl & refl & refl & refl & refl & refl & refl & refl & refl & refl & refl & refl
     & refl & refl & refl & refl & refl & refl & refl & refl & refl & refl & refl & refl & refl & refl & refl & refl
@@ -444,7 +518,7 @@ table-holds =
     & refl & refl & refl & refl & refl & refl & refl & refl & refl & refl & refl & refl & (refl, refl) & refl & refl
     & refl & refl & refl & refl & refl & refl & refl & refl & refl & refl & refl & refl & refl & refl & refl & refl
     & refl & refl & refl & refl & refl & refl & refl & refl & refl & refl & refl & refl & refl & refl & refl & refl
-    & refl & refl & refl & refl & refl & refl & refl & refl & refl & refl & refl & refl & refl & refl & tt
+    & refl & refl & refl & refl & refl & refl & refl & refl & refl & refl & refl & refl & refl & refl & refl & refl & refl & refl & refl & refl & refl & refl & refl & refl & refl & refl & refl & refl & refl & refl & refl & refl & refl & refl & refl & refl & refl & refl & refl & refl & refl & refl & refl & tt
 
 -- what holds of all rows holds of each
 each : (xs : List Row) (d : Row) → AllHold xs → (k : ℕ) → k < length xs → Holds (getD xs k d)

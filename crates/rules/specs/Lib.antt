@@ -13,6 +13,7 @@ pub mod Issue
 pub mod Path
 pub mod Measure
 pub mod Bundle
+pub mod Holdback
 pub mod Views
 pub mod Listing
 pub mod TreeClaim

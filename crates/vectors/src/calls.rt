@@ -5,6 +5,7 @@ use crate::print::numbers;
 use crate::print::text;
 use codec::Answer;
 use codec::Refusal;
+use codec::number_of;
 use codec::widen;
 use codec::widen16;
 use codec::word_at;
@@ -13,20 +14,7 @@ use view::View;
 
 fn refused(why: Refusal) {
     text(b"r ");
-    match why {
-        Refusal::Unsound => text(b"1"),
-        Refusal::Length => text(b"2"),
-        Refusal::Malformed => text(b"3"),
-        Refusal::Conflict => text(b"4"),
-        Refusal::Early => text(b"5"),
-        Refusal::NotClosed => text(b"6"),
-        Refusal::Unknown => text(b"7"),
-        Refusal::NoRoom => text(b"8"),
-        Refusal::Exhausted => text(b"9"),
-        Refusal::Cycle => text(b"10"),
-        Refusal::Marked => text(b"11"),
-        Refusal::BadBundle => text(b"12"),
-    }
+    number(number_of(why));
 }
 
 fn accepted(n: usize) {
@@ -38,6 +26,7 @@ fn answered(answer: Answer) {
     match answer {
         Answer::Refused(why) => refused(why),
         Answer::HadIt => text(b"h"),
+        Answer::Waiting => text(b"w"),
         Answer::Done => text(b"d"),
         Answer::Accepted(n) => accepted(n),
     }

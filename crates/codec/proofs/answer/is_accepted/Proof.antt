@@ -20,6 +20,10 @@ returns-4 : tie.Need-returns-4
 unfolding isAccepted
 returns-4 c = rw (c .enum-told4 .given .1)
 
+returns-5 : tie.Need-returns-5
+unfolding isAccepted
+returns-5 c = rw (c .enum-told5 .given .1)
+
 pub is-accepted-spec : {M : Type 1} → statement M
 is-accepted-spec =
     tie.close
@@ -28,7 +32,9 @@ is-accepted-spec =
     (λ c. search needs)
     (λ c. search needs)
     (λ c. search needs)
+    (λ c. search needs)
     returns
     returns-2
     returns-3
-    returns-4)
+    returns-4
+    returns-5)

@@ -1,0 +1,71 @@
+-- What the functions that search a holdback ask and answer.
+use Prim.Native.Nat.{ℕ}
+use mathlib.Core.Bool.{cond, true}
+use mathlib.Core.List.{List, []}
+use mathlib.Core.Path.{_≡_}
+use lib.ListN.{getD}
+use Rattle.rules.specs.Answer.{Answer, ifAccepted}
+use Rattle.rules.specs.Deliver.{deliverAnswer, deliverBuffer}
+use Rattle.rules.specs.File.{width}
+use Rattle.rules.specs.Holdback.{Search, holdbackOf, holdbackOps, search, soundHoldback, stays}
+use Rattle.rules.specs.Op.{Op}
+use Rattle.rules.specs.Sound.{sound}
+use Rattle.holdback.specs.Places.{Occupied, without}
+use Rattle.holdback.specs.declared.searching.Met.{Met}
+use Rattle.holdback.specs.declared.searching.Met.the-variants.{Taken, Stays, Dropped}
+
+-- what becomes of an op that is answered so
+unfoldable pub metOf : Answer → Met
+metOf a = ifAccepted a Taken (cond (stays a) Stays Dropped)
+
+pub record Offer : Type 0 where
+  pub met : Met
+  pub buffer : List ℕ
+
+abbrev pub offered : (buffer : List ℕ) → Op → Offer
+offered f r = record { met = metOf (deliverAnswer width f r); buffer = deliverBuffer width f r }
+
+-- the op that waits at place i
+unfoldable pub waitingAt : (holdback : List ℕ) (i : ℕ) → Op
+waitingAt h i = getD (holdbackOps width h) i []
+
+-- the holdback after its op at place i was met
+unfoldable pub leftBy : Met → (holdback : List ℕ) (i : ℕ) → List ℕ
+leftBy Taken h i = holdbackOf width (without (holdbackOps width h) i)
+leftBy Stays h i = h
+leftBy Dropped h i = holdbackOf width (without (holdbackOps width h) i)
+
+pub record Visit : Type 0 where
+  pub met : Met
+  pub buffer : List ℕ
+  pub holdback : List ℕ
+
+unfoldable pub visited : (buffer holdback : List ℕ) (i : ℕ) → Visit
+visited f h i =
+    let o = offered f (waitingAt h i) in
+    record { met = o .met; buffer = o .buffer; holdback = leftBy (o .met) h i }
+
+-- a sound log, and an op at place i
+pub record Offerable (f h : List ℕ) (i : ℕ) : Type 0 where
+  pub is-sound : sound width f ≡ true
+  pub is-occupied : Occupied h i
+
+-- a sound log and a sound holdback
+pub record Searchable (f h : List ℕ) : Type 0 where
+  pub is-sound : sound width f ≡ true
+  pub is-holdback : soundHoldback width h ≡ true
+
+-- lent buffer and holdback
+pub record Kept : Type 0 where
+  pub buffer : List ℕ
+  pub holdback : List ℕ
+
+abbrev pub kept : List ℕ → List ℕ → Kept
+kept f h = record { buffer = f; holdback = h }
+
+-- what a search leaves there
+abbrev pub left : Search → Kept
+left s = kept (s .buffer) (holdbackOf width (s .left))
+
+unfoldable pub searched : List ℕ → List ℕ → Kept
+searched f h = left (search width f (holdbackOps width h))
