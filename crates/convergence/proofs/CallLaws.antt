@@ -1,8 +1,8 @@
 -- What each call adds, and what settles it: the only laws that go by cases on the call.
-use mathlib.Core.Path.{_≡_, refl, sym, _∙_}
+use mathlib.Core.Path.{_≡_, refl, ap, _∙_}
 use mathlib.Core.Bool.{true, false}
 use mathlib.Core.List.{List, [], _∷_, _++_}
-use Prim.Native.Nat.{ℕ}
+use Prim.Native.Nat.{ℕ, zero, suc}
 use native.Mathlib.Omega.{arith}
 use lib.ListN.{length, drop}
 use lib.Seq.{take-at}
@@ -12,12 +12,14 @@ use Rattle.rules.specs.Answer.{Answer, refused, hadIt, waiting, done, accepted,
 use Rattle.rules.specs.Deliver.{makeAnswer, makeBuffer, deliverAnswer, deliverBuffer}
 use Rattle.rules.specs.Issue.{issued, issueAnswer, issueBuffer, issueOut}
 use Rattle.rules.specs.Bundle.{bodiesIn, unlessRefused, turnsAnswer, turnsBuffer, turnsTaken, openAnswer, openBuffer}
-use Rattle.lists.proofs.BoolLaws.{never}
 use Rattle.rules.proofs.DeliverLaws.{if-not, required, accepted-same, Admitted, admitted, delivered, appended-end}
 use Rattle.rules.proofs.IssueLaws.{issue-admitted}
 use Rattle.rules.proofs.SoundLaws.{empty-ends}
+use Rattle.rules.specs.Holdback.{Look, found, none, look, searchOn, looks, search, holdbackOps, released, holdbackAnswer, holdbackBuffer, holdbackTaken}
+use Rattle.rules.proofs.ReleaseLaws.{accepted-says, released-alike, answer-alike, after-alike}
+use Rattle.rules.proofs.SearchLaws.{look-found}
 use Rattle.rules.proofs.TurnLaws.{OneLog, one-end, turns-end, deliver-alike, turns-alike}
-use Rattle.convergence.specs.Exchange.{Call, make, issue, deliver, openBundle, Site, answer, bufferAfter, begun, added, Adds, reply, outAfter}
+use Rattle.convergence.specs.Exchange.{Call, make, issue, deliver, openBundle, deliverHoldback, Site, answer, bufferAfter, begun, added, Adds, reply, outAfter}
 use Rattle.convergence.specs.Lists.{CallsAdd}
 
 ---- what a call adds
@@ -45,13 +47,31 @@ turns-add (r ∷ rs) f n e = go (deliverAnswer width f r) refl e (λ g. turns-ad
     go done q e ih = let s : next ≡ f = rw q in rw s (ih f (rw s at e))
     go (accepted m) q e ih = (m, q, ih next e)
 
+-- ops of a holdback, each found in its turn
+looks-add : (k : ℕ) (f : List ℕ) (ops : List Op) → Adds f (looks k width f ops .taken) (looks k width f ops .buffer)
+unfolding looks searchOn
+looks-add zero f ops = refl
+looks-add (suc k) f ops = go (look width f [] ops) refl (looks-add k)
+  where
+    go : (a : Look) → look width f [] ops ≡ a
+        → ((g : List ℕ) (xs : List Op) → Adds g (looks k width g xs .taken) (looks k width g xs .buffer))
+        → Adds f (searchOn width f (looks k width) a .taken) (searchOn width f (looks k width) a .buffer)
+    go (found x left) e ih =
+        let (n, took) = look-found width f ops [] x left e in
+        (n, took, ih (deliverBuffer width f x) left)
+    go (none left) e ih = refl
+
+search-adds : (f : List ℕ) (ops : List Op) → Adds f (search width f ops .taken) (search width f ops .buffer)
+unfolding search
+search-adds f ops = looks-add (suc (length ops)) f ops
+
 pub opened : (f b : List ℕ) (n : ℕ) → openAnswer width f b ≡ accepted n → turnsAnswer width f (bodiesIn width b) ≡ accepted n
 unfolding openAnswer
 opened f b n e = required _ _ _ n (required _ _ _ n e .1) .1
 
 adds : (x : Site) (c : Call) (n : ℕ) → answer (x .buffer) c ≡ accepted n
     → Adds (begun x c .buffer) (added (x .buffer) c) (bufferAfter (x .buffer) c)
-unfolding answer begun added bufferAfter issueBuffer issueOut deliverBuffer openBuffer
+unfolding answer begun added bufferAfter issueBuffer issueOut deliverBuffer openBuffer holdbackBuffer holdbackTaken released
 adds x make n e = refl
 adds x (issue out s q) n e =
     let h = issue-admitted (x .buffer) (length out) s q n e in
@@ -59,25 +79,30 @@ adds x (issue out s q) n e =
     rw (e, take-at r (drop width out) width (h .long)) (adds-one (x .buffer) r n h)
 adds x (deliver r) n e = (n, e, refl)
 adds x (openBundle b) n e = rw e (turns-add (bodiesIn width b) (x .buffer) n (opened (x .buffer) b n e))
+adds x (deliverHoldback r h) n e =
+    let y = accepted-says width (x .buffer) r h n e in
+    rw e (y .first, y .takes, search-adds (deliverBuffer width (x .buffer) r) (holdbackOps width h))
 
 made : (f : List ℕ) (n : ℕ) → makeAnswer f ≡ accepted n → accepted 32 ≡ accepted n
 unfolding makeAnswer
 made f n e = required _ _ _ n e .1
 
 ends : (f : List ℕ) (c : Call) (n : ℕ) → answer f c ≡ accepted n → fileEnd width (bufferAfter f c) ≡ n
-unfolding answer bufferAfter makeBuffer issueBuffer deliverBuffer openBuffer
+unfolding answer bufferAfter makeBuffer issueBuffer deliverBuffer openBuffer holdbackBuffer
 ends f make n e =
     rw e (empty-ends width (drop 32 f) ∙ accepted-same 32 n (made f n e))
 ends f (issue out s q) n e = let h = issue-admitted f (length out) s q n e in rw e (appended-end width f _ n h ∙ h .end)
 ends f (deliver r) n e = let h = admitted width f r n e in rw e (appended-end width f r n h ∙ h .end)
 ends f (openBundle b) n e = rw e (turns-end width (bodiesIn width b) f n (opened f b n e))
+ends f (deliverHoldback r h) n e = rw e (accepted-says width f r h n e .end)
 
 keeps : (f : List ℕ) (c : Call) → ifAccepted (answer f c) true false ≡ false → bufferAfter f c ≡ f
-unfolding answer bufferAfter makeBuffer issueBuffer deliverBuffer openBuffer
+unfolding answer bufferAfter makeBuffer issueBuffer deliverBuffer openBuffer holdbackBuffer
 keeps f make e = if-not (makeAnswer f) _ f e
 keeps f (issue out s q) e = if-not (issueAnswer width f (length out) s q) _ f e
 keeps f (deliver r) e = if-not (deliverAnswer width f r) _ f e
 keeps f (openBundle b) e = if-not (openAnswer width f b) _ f e
+keeps f (deliverHoldback r h) e = if-not (holdbackAnswer width f r h) _ f e
 
 pub calls-add : CallsAdd
 calls-add = record { adds = adds; ends = ends; keeps = keeps }
@@ -90,6 +115,7 @@ begun-is P x make m k = m
 begun-is P x (issue out s q) m k = k
 begun-is P x (deliver r) m k = k
 begun-is P x (openBundle b) m k = k
+begun-is P x (deliverHoldback r h) m k = k
 
 pub begun-held : (x y : Site) (c : Call) → x .held ≡ y .held → begun x c .held ≡ begun y c .held
 unfolding begun
@@ -97,6 +123,7 @@ begun-held x y make e = cc
 begun-held x y (issue out s q) e = e
 begun-held x y (deliver r) e = e
 begun-held x y (openBundle b) e = e
+begun-held x y (deliverHoldback r h) e = e
 
 ---- the log and the buffer's length settle it
 
@@ -112,10 +139,12 @@ module _ (f g : List ℕ) (x : OneLog width f g) where
   reply-alike (issue out s q) = rw (x .first, x .second, one-end width f g (x .log), x .log, x .size)
   reply-alike (deliver r) = rw (deliver-alike width f g x r)
   reply-alike (openBundle b) = rw (x .first, x .second, turns-alike width (bodiesIn width b) f g x .0)
+  reply-alike (deliverHoldback r h) = rw (answer-alike width f g x r h, after-alike width f g x r h)
 
   pub added-alike : (c : Call) → added f c ≡ added g c
-  unfolding added issueOut issueAnswer
+  unfolding added issueOut issueAnswer holdbackTaken
   added-alike make = refl
   added-alike (issue out s q) = rw (x .first, x .second, one-end width f g (x .log), x .log, x .size)
   added-alike (deliver r) = refl
   added-alike (openBundle b) = turns-alike width (bodiesIn width b) f g x .1
+  added-alike (deliverHoldback r h) = ap (λ (t : List Op). r ∷ t) (released-alike width f g x r h .same-taken)

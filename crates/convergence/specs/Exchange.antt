@@ -13,6 +13,7 @@ use Rattle.rules.specs.File.{Log, width, fileEnd, fileOf}
 use Rattle.rules.specs.Deliver.{makeAnswer, makeBuffer, deliverAnswer, deliverBuffer}
 use Rattle.rules.specs.Issue.{Request, issueAnswer, issueBuffer, issueOut}
 use Rattle.rules.specs.Bundle.{bodiesIn, turnsTaken, openAnswer, openBuffer}
+use Rattle.rules.specs.Holdback.{holdbackAnswer, holdbackBuffer, holdbackAfter, holdbackTaken}
 
 ---- a list of calls
 
@@ -23,6 +24,7 @@ pub data Call : Type 0 where
   issue : (out : List ℕ) (replica : ℕ) → Request → Call
   deliver : (op : List ℕ) → Call
   openBundle : (bundle : List ℕ) → Call
+  deliverHoldback : (op holdback : List ℕ) → Call
 
 -- a buffer, and the ops held there, in the order in which they were accepted
 pub record Site : Type 0 where
@@ -34,12 +36,14 @@ answer f make = makeAnswer f
 answer f (issue out s q) = issueAnswer width f (length out) s q
 answer f (deliver r) = deliverAnswer width f r
 answer f (openBundle b) = openAnswer width f b
+answer f (deliverHoldback r h) = holdbackAnswer width f r h
 
 unfoldable pub bufferAfter : List ℕ → Call → List ℕ
 bufferAfter f make = makeBuffer width f
 bufferAfter f (issue out s q) = issueBuffer width f (length out) s q
 bufferAfter f (deliver r) = deliverBuffer width f r
 bufferAfter f (openBundle b) = openBuffer width f b
+bufferAfter f (deliverHoldback r h) = holdbackBuffer width f r h
 
 -- what an accepted call adds to: making begins with nothing held, every other call with what there was
 unfoldable pub begun : Site → Call → Site
@@ -47,14 +51,17 @@ begun x make = record { buffer = makeBuffer width (x .buffer); held = [] }
 begun x (issue out s q) = x
 begun x (deliver r) = x
 begun x (openBundle b) = x
+begun x (deliverHoldback r h) = x
 
 -- the ops that an accepted call adds, in this order: the one that issuing put in the first lent bytes; the one that was delivered; the
--- bodies of a bundle but those that are passed by
+-- bodies of a bundle but those that are passed by; the one that was delivered with a holdback, and those that the search finds there,
+-- whatever the holdback has
 unfoldable pub added : List ℕ → Call → List Op
 added f make = []
 added f (issue out s q) = take width (issueOut width f out s q) ∷ []
 added f (deliver r) = r ∷ []
 added f (openBundle b) = turnsTaken width f (bodiesIn width b)
+added f (deliverHoldback r h) = holdbackTaken width f r h
 
 unfoldable pub perform : Site → Call → Site
 perform x c = record {
@@ -75,7 +82,7 @@ lent f = record { buffer = f; held = [] }
 unfoldable pub run : List ℕ → List Call → Site
 run f calls = foldl perform (lent f) (make ∷ calls)
 
--- what a call hands back: its answer, and what it leaves in the bytes that it was lent for the op
+-- what a call hands back: its answer, and what it leaves in the bytes that it was lent for the op, or in the holdback
 pub record Reply : Type 0 where
   pub answer : Answer
   pub out : List ℕ
@@ -85,6 +92,7 @@ outAfter f make = []
 outAfter f (issue out s q) = issueOut width f out s q
 outAfter f (deliver r) = []
 outAfter f (openBundle b) = []
+outAfter f (deliverHoldback r h) = holdbackAfter width f r h
 
 unfoldable pub reply : List ℕ → Call → Reply
 reply f c = record { answer = answer f c; out = outAfter f c }

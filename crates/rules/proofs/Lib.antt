@@ -27,4 +27,5 @@ pub mod BundleLaws
 pub mod HoldbackLaws
 pub mod SearchLaws
 pub mod VerdictLaws
+pub mod ReleaseLaws
 pub mod DecimalLaws

@@ -1,5 +1,5 @@
 -- Laws of the search in a holdback: one step of a look, and that a search is a look and the search after it.
-use mathlib.Core.Path.{_≡_, refl, _∙_}
+use mathlib.Core.Path.{_≡_, refl, ap, _∙_}
 use mathlib.Core.Bool.{Bool, true, false, cond}
 use mathlib.Core.List.{List, [], _∷_, _++_}
 use Prim.Native.Nat.{ℕ, zero, suc, _+_, _≤_, _<_}
@@ -10,7 +10,8 @@ use Rattle.rules.specs.Op.{Op}
 use Rattle.rules.specs.Deliver.{deliverAnswer, deliverBuffer}
 use Rattle.rules.specs.Sound.{sound}
 use Rattle.rules.proofs.DeliverLaws.{deliver-sound, if-not}
-use Rattle.rules.specs.Holdback.{stays, Look, found, none, look, searchOn, looks, search}
+use Rattle.rules.specs.Holdback.{stays, Look, found, none, look, Search, searchOn, looks, search}
+use Rattle.rules.proofs.TurnLaws.{OneLog, deliver-alike, delivered-alike}
 
 ---- one step
 
@@ -106,3 +107,60 @@ looks-sound (suc k) w f ops s = go (look w f [] ops) (looks-sound k w)
 pub search-sound : (w : ℕ) (f : List ℕ) (ops : List Op) → sound w f ≡ true → sound w (search w f ops .buffer) ≡ true
 unfolding search
 search-sound w f ops s = looks-sound (suc (length ops)) w f ops s
+
+---- what is found is accepted
+
+pub look-found : (w : ℕ) (f : List ℕ) (rest kept : List Op) (x : Op) (left : List Op) → look w f kept rest ≡ found x left
+    → (n : ℕ) × (deliverAnswer w f x ≡ accepted n)
+unfolding look
+look-found w f [] kept x left e = let z : _≡_ {A = ℕ} 0 1 = cc in absurd (omega arith)
+look-found w f (y ∷ rest) kept x left e = go (deliverAnswer w f y) refl e (look-found w f rest)
+  where
+    go : (a : Answer) → deliverAnswer w f y ≡ a
+        → ifAccepted a (found y (kept ++ rest)) (look w f (cond (stays a) (kept ++ (y ∷ [])) kept) rest) ≡ found x left
+        → ((ops : List Op) (z : Op) (ys : List Op) → look w f ops rest ≡ found z ys → (n : ℕ) × (deliverAnswer w f z ≡ accepted n))
+        → (n : ℕ) × (deliverAnswer w f x ≡ accepted n)
+    go (refused n) q e ih = ih _ x left e
+    go hadIt q e ih = ih _ x left e
+    go waiting q e ih = ih _ x left e
+    go done q e ih = ih _ x left e
+    go (accepted n) q e ih = let same : y ≡ x = cc in (n, rw (← same) q)
+
+---- the log and the buffer's length settle it
+
+module _ (w : ℕ) where
+  look-alike : (f g : List ℕ) → OneLog w f g → (rest kept : List Op) → look w f kept rest ≡ look w g kept rest
+  unfolding look
+  look-alike f g o [] kept = refl
+  look-alike f g o (x ∷ rest) kept = rw (deliver-alike w f g o x) (go (deliverAnswer w g x) (look-alike f g o rest))
+    where
+      go : (a : Answer) → ((ops : List Op) → look w f ops rest ≡ look w g ops rest)
+          → ifAccepted a (found x (kept ++ rest)) (look w f (cond (stays a) (kept ++ (x ∷ [])) kept) rest)
+          ≡ ifAccepted a (found x (kept ++ rest)) (look w g (cond (stays a) (kept ++ (x ∷ [])) kept) rest)
+      go (refused n) ih = ih _
+      go hadIt ih = ih _
+      go waiting ih = ih _
+      go done ih = ih _
+      go (accepted n) ih = refl
+
+  -- two searches that leave and take the same ops, at one log
+  pub record SearchAlike (s t : Search) : Type 0 where
+    pub one-log : OneLog w (s .buffer) (t .buffer)
+    pub same-left : s .left ≡ t .left
+    pub same-taken : s .taken ≡ t .taken
+
+  looks-alike : (k : ℕ) (f g : List ℕ) → OneLog w f g → (ops : List Op) → SearchAlike (looks k w f ops) (looks k w g ops)
+  unfolding looks searchOn
+  looks-alike zero f g o ops = record { one-log = o; same-left = refl; same-taken = refl }
+  looks-alike (suc k) f g o ops = rw (look-alike f g o ops []) (go (look w g [] ops) (looks-alike k))
+    where
+      go : (a : Look) → ((b c : List ℕ) → OneLog w b c → (xs : List Op) → SearchAlike (looks k w b xs) (looks k w c xs))
+          → SearchAlike (searchOn w f (looks k w) a) (searchOn w g (looks k w) a)
+      go (found x left) ih =
+          let r = ih (deliverBuffer w f x) (deliverBuffer w g x) (delivered-alike w f g o x) left in
+          record { one-log = r .one-log; same-left = r .same-left; same-taken = ap (λ (t : List Op). x ∷ t) (r .same-taken) }
+      go (none left) ih = record { one-log = o; same-left = refl; same-taken = refl }
+
+  pub search-alike : (f g : List ℕ) → OneLog w f g → (ops : List Op) → SearchAlike (search w f ops) (search w g ops)
+  unfolding search
+  search-alike f g o ops = looks-alike (suc (length ops)) f g o ops

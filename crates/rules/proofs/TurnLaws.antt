@@ -63,7 +63,7 @@ module _ (w : ℕ) where
             appended-log w f r n (admitted w f r n e) ∙ ap (λ t. append t r) (x .log)
             ∙ sym (appended-log w g r n (admitted w g r n (sym deliver-alike ∙ e)))
 
-    delivered-alike : OneLog w (deliverBuffer w f r) (deliverBuffer w g r)
+    pub delivered-alike : OneLog w (deliverBuffer w f r) (deliverBuffer w g r)
     delivered-alike = record {
       first = deliver-sound w f r (x .first);
       second = deliver-sound w g r (x .second);
