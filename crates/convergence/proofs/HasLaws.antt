@@ -1,6 +1,6 @@
 -- Laws of lists of ops: what a list has, how often, and what one list has and another lacks.
 use mathlib.Core.Path.{_≡_, refl, sym, ap, _∙_}
-use mathlib.Core.Logic.{⊎-elim}
+use mathlib.Core.Logic.{_⊎_, inl, inr, ⊎-elim}
 use mathlib.Core.Bool.{Bool, true, false, cond, _||_, not, or-false, or-true}
 use mathlib.Core.List.{List, [], _∷_, _++_, map, append-nil}
 use Prim.Native.Nat.{ℕ, zero, suc, _+_, _≤_, _<_}
@@ -40,6 +40,36 @@ has-new a r = rw (has-last, same-refl, or-true)
 
 pub has-old : (a b : List Op) (r : Op) → has a r ≡ true → has (a ++ b) r ≡ true
 has-old a b r e = rw (has-append, e)
+
+pub has-none : {A : Type 0} (r : Op) → has [] r ≡ true → A
+unfolding has any
+has-none r e = never e
+
+pub has-either : (a b : List Op) (r : Op) → has (a ++ b) r ≡ true → (has a r ≡ true) ⊎ (has b r ≡ true)
+has-either a b r e = or-cases (has a r) (has b r) (sym (has-append a b r) ∙ e)
+
+pub has-right : (a b : List Op) (r : Op) → has b r ≡ true → has (a ++ b) r ≡ true
+has-right a b r e = rw (has-append, e, or-true)
+
+pub has-cases : (x : Op) (a : List Op) (r : Op) → has (x ∷ a) r ≡ true → (r ≡ x) ⊎ (has a r ≡ true)
+unfolding has any
+has-cases x a r e = ⊎-elim (λ (z : same r x ≡ true). inl (same-eq r x z)) (λ (z : any (same r) a ≡ true). inr z)
+    (or-cases (same r x) (any (same r) a) e)
+
+-- with an op between a and b, and without
+module _ (a b : List Op) (x : Op) where
+  pub has-between : has (a ++ (x ∷ b)) x ≡ true
+  has-between = has-right a (x ∷ b) x (has-head x b)
+
+  pub has-more : (r : Op) → has (a ++ b) r ≡ true → has (a ++ (x ∷ b)) r ≡ true
+  has-more r e = ⊎-elim (λ (z : has a r ≡ true). has-old a (x ∷ b) r z) (λ (z : has b r ≡ true). has-right a (x ∷ b) r (has-tail x b r z))
+      (has-either a b r e)
+
+  pub has-less : (r : Op) → has (a ++ (x ∷ b)) r ≡ true → (r ≡ x) ⊎ (has (a ++ b) r ≡ true)
+  has-less r e = ⊎-elim
+      (λ (z : has a r ≡ true). inr (has-old a b r z))
+      (λ (z : has (x ∷ b) r ≡ true). ⊎-elim (λ (q : r ≡ x). inl q) (λ (q : has b r ≡ true). inr (has-right a b r q)) (has-cases x b r z))
+      (has-either a (x ∷ b) r e)
 
 pub times-append : (a b : List Op) (r : Op) → times (a ++ b) r ≡ times a r + times b r
 unfolding times

@@ -15,3 +15,8 @@ pub mod DeliverAllLaws
 pub mod HandoverTheorem
 pub mod OpeningTheorem
 pub mod OpenLaws
+pub mod GrownLaws
+pub mod EndLaws
+pub mod LookLaws
+pub mod PlainLaws
+pub mod HoldingTheorem

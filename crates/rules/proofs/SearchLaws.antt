@@ -67,6 +67,10 @@ pub look-less : (w : ℕ) (f : List ℕ) (ops : List Op) (x : Op) (left : List O
 unfolding size
 look-less w f ops x left e = let z = rw e at (size-look w f ops []) in omega arith
 
+pub look-few : (w : ℕ) (f : List ℕ) (ops left : List Op) → look w f [] ops ≡ none left → length left ≤ length ops
+unfolding size
+look-few w f ops left e = let z = rw e at (size-look w f ops []) in omega arith
+
 looks-enough : (k j w : ℕ) (f : List ℕ) (ops : List Op) → length ops < k → length ops < j → looks k w f ops ≡ looks j w f ops
 unfolding looks searchOn
 looks-enough zero j w f ops h l = absurd (omega arith)

@@ -91,9 +91,9 @@ module _ (w : ℕ) (f : List ℕ) (r : Op) (s : sound w f ≡ true) where
       go q (taken h) = h .long
 
   -- in a buffer for all ops there is room for one that the log admits
-  pub room-in-full : largest w ≤ length f → Admits (logOf w f) r → fileEnd w f + w ≤ length f
+  pub admits-room : largest w ≤ length f → Admits (logOf w f) r → fileEnd w f + w ≤ length f
   unfolding fileEnd
-  room-in-full big a =
+  admits-room big a =
       let g = sound-good w f s in
       let i = in-range (logOf w f) r g a in
       let held : Vector = countsOf (logOf w f) in
