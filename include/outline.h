@@ -11,8 +11,10 @@
  * header, then 14 bytes for each op. A replica is a number from 1 to 8; it
  * issues at most 255 ops. An op adds, removes or moves a node. The root is node
  * 0; the node that is added by op q of replica s is node 256 * s + q. A bundle
- * has all ops of a log that another lacks, in one piece. A buffer of length 0
- * holds no log, though the programs print a file of no bytes as one without ops.
+ * has all ops of a log that another lacks, in one piece. A holdback has places
+ * for 32 ops that came before what they count and wait for it. A buffer of length
+ * 0 holds no log, though the programs print a file of no bytes as one without
+ * ops.
  *
  * Memory. Lent memory is a pointer and a length, in elements (bytes, or
  * two-byte entries where the pointer is to uint16_t). The pointer must be valid
@@ -21,16 +23,19 @@
  * pieces of memory that are lent to one call must not overlap, but for two that
  * are both only read. Nothing is kept after a call, nothing is allocated, and
  * there is no global state, so any number of threads may call at once with
- * memory of their own. A call uses less than 64 KiB of stack.
+ * memory of their own; what waits in a holdback lies in the caller's memory too.
+ * A call uses less than 64 KiB of stack.
  *
  * No call asks anything else of its arguments: every content, every length and
  * every number is answered.
  *
  * Answers. Every call but outline_is_sound and outline_version answers one
  * number.
- *   1 to 12   refused, for the reason below; all lent memory is unchanged
+ *   1 to 14   refused, for the reason below; all lent memory is unchanged
  *   128       OUTLINE_HAD_IT: the delivered op was there already; unchanged
  *   129       OUTLINE_DONE: judging is done
+ *   130       OUTLINE_WAITING: the delivered op is early and waits in the
+ *             holdback; the log is unchanged
  *   256 ..    256 and a value: the end of the file, the entries of a path, the
  *             bytes of a listing or a bundle, how many counts; see
  *             outline_value()
@@ -50,28 +55,31 @@ extern "C" {
 
 /* The version of this header; outline_version() answers that of the library. */
 #define OUTLINE_VERSION_MAJOR 0
-#define OUTLINE_VERSION_MINOR 3
+#define OUTLINE_VERSION_MINOR 4
 #define OUTLINE_VERSION_PATCH 0
-#define OUTLINE_VERSION_TEXT "0.3.0"
+#define OUTLINE_VERSION_TEXT "0.4.0"
 #define OUTLINE_VERSION \
     (10000 * OUTLINE_VERSION_MAJOR + 100 * OUTLINE_VERSION_MINOR + OUTLINE_VERSION_PATCH)
 
 /* Why a call is refused. */
-#define OUTLINE_UNSOUND 1     /* the buffer does not hold a sound log */
-#define OUTLINE_LENGTH 2      /* an op of not 14 bytes, or too little lent for an op or a table */
-#define OUTLINE_MALFORMED 3   /* no replica from 1 to 8, or an op out of form */
-#define OUTLINE_CONFLICT 4    /* another op of this replica and sequence is held */
-#define OUTLINE_EARLY 5       /* the op counts ops that are not held yet: deliver those first */
-#define OUTLINE_NOT_CLOSED 6  /* the op counts an op, but not all that this one counts */
-#define OUTLINE_UNKNOWN 7     /* a node that the op does not know, or a move of a node to itself */
-#define OUTLINE_NO_ROOM 8     /* the buffer, or what is lent for an answer, is too short */
-#define OUTLINE_EXHAUSTED 9   /* the replica has issued its 255 ops */
-#define OUTLINE_CYCLE 10      /* the new parent lies below the node */
-#define OUTLINE_MARKED 11     /* the parent of new work, or the node of a move, is removed */
-#define OUTLINE_BAD_BUNDLE 12 /* a bundle without a whole head, or that disagrees with its head */
+#define OUTLINE_UNSOUND 1        /* the buffer does not hold a sound log */
+#define OUTLINE_LENGTH 2         /* an op of not 14 bytes, or too little lent for one or a table */
+#define OUTLINE_MALFORMED 3      /* no replica from 1 to 8, or an op out of form */
+#define OUTLINE_CONFLICT 4       /* another op of this replica and sequence is held */
+#define OUTLINE_EARLY 5          /* the op counts ops that are not held yet: deliver those first */
+#define OUTLINE_NOT_CLOSED 6     /* the op counts an op, but not all that this one counts */
+#define OUTLINE_UNKNOWN 7        /* a node that the op cannot know, or a move of a node to itself */
+#define OUTLINE_NO_ROOM 8        /* the buffer, or what is lent for an answer, is too short */
+#define OUTLINE_EXHAUSTED 9      /* the replica has issued its 255 ops */
+#define OUTLINE_CYCLE 10         /* the new parent lies below the node */
+#define OUTLINE_MARKED 11        /* the parent of new work, or the node of a move, is removed */
+#define OUTLINE_BAD_BUNDLE 12    /* a bundle without a whole head, or that disagrees with it */
+#define OUTLINE_HOLDBACK_FULL 13 /* the op is early, and the holdback has no place left for it */
+#define OUTLINE_BAD_HOLDBACK 14  /* a holdback of not 449 bytes, or not as its count says */
 
 #define OUTLINE_HAD_IT 128
 #define OUTLINE_DONE 129
+#define OUTLINE_WAITING 130
 #define OUTLINE_VALUE 256 /* added to every value */
 
 /* Sizes. What is lent in these sizes is never too short. */
@@ -84,6 +92,8 @@ extern "C" {
 #define OUTLINE_LONGEST_PATH 2041     /* entries of the longest path */
 #define OUTLINE_LONGEST_LISTING 24492 /* bytes that are enough for every listing */
 #define OUTLINE_LARGEST_BUNDLE 28569  /* bytes of the largest bundle */
+#define OUTLINE_HOLDBACK 449          /* bytes of a holdback, which has no other length */
+#define OUTLINE_HOLDBACK_OPS 32       /* ops of a full holdback */
 
 /* Kinds of ops. */
 #define OUTLINE_ADD 1
@@ -139,9 +149,47 @@ size_t outline_counts(const uint8_t *file, size_t file_len, uint8_t *out, size_t
  * The first number of the order 1, 2, 3, (had it or 4), 5, 6, 7, 8 is answered.
  * If accepted, the first `end` bytes are the log with the op; bytes past them
  * keep their content. Else the buffer is unchanged. The op is only read.
- * In the order that outline_causal_order gives no op of a log is early.
+ * In the order that outline_causal_order gives no op of a log is early; for ops
+ * that come in any order there is outline_holdback_deliver.
  */
 size_t outline_deliver(uint8_t *buf, size_t buf_len, const uint8_t *op, size_t op_len);
+
+/*
+ * Delivers an op with a holdback: an early op is not refused but waits there
+ * until what it counts has come. To begin, lend OUTLINE_HOLDBACK zero bytes, an
+ * empty holdback; then lend to each such delivery at this log what the last one
+ * left, and store it with the log.
+ *   value end    accepted: the log has the op and those of the holdback that
+ *                could be taken then, at most 33 in all, and ends at `end`
+ *   128          had it: the same op is there already
+ *   130          waiting: the op is early, and is in the holdback now or was
+ *                there already
+ *   1, 14        unsound; a holdback not of 449 bytes, with a count above 32, or
+ *                with a byte past its ops that is not 0
+ *   2, 3, 4      not 14 bytes; malformed; conflict
+ *   13           early, not in the holdback, and the holdback is full
+ *   6, 7, 8      not closed; unknown; no room for 14 bytes more
+ * The first number of the order 1, 14, 2, 3, (had it or 4), (waiting or 13), 6,
+ * 7, 8 is answered; 5 is not among them. The op is only read.
+ * Byte 0 of a holdback says how many ops wait. Then come 32 places of 14 bytes,
+ * with the ops in the order in which they came. They are not trusted: each is
+ * tested like a delivered op when it is met.
+ * If accepted, the holdback is searched from the front, and again from the
+ * front as soon as one of its ops is accepted. An op met there that the log has
+ * already, or that is refused for another reason than 5 or 8, is dropped. The
+ * ops behind a free place move up, and places at the end become zero bytes. Each
+ * op that is left would be refused with 5 or 8. The first `end` bytes of the
+ * buffer are the log; bytes past them keep their content.
+ * If waiting, the op is the last in the holdback, or stands where it stood, and
+ * the buffer is unchanged. Else buffer and holdback are unchanged.
+ * Ops that are offered in any order so, once each, come to the log that offering
+ * them to outline_deliver over and over would come to: if the holdback began
+ * empty and never got full, the buffer has room, no two ops of one replica and
+ * sequence differ, and nothing else is done to log and holdback in between. No
+ * other call looks at a holdback.
+ */
+size_t outline_holdback_deliver(uint8_t *buf, size_t buf_len, const uint8_t *op, size_t op_len,
+                                uint8_t *holdback, size_t holdback_len);
 
 /*
  * Makes a bundle for another replica: all ops of the log in a buffer beyond the
@@ -277,8 +325,11 @@ static inline const char *outline_text(size_t answer) {
     case OUTLINE_CYCLE: return "the new parent lies below the node";
     case OUTLINE_MARKED: return "the node or the parent is removed";
     case OUTLINE_BAD_BUNDLE: return "a bundle that is not whole, or disagrees with its head";
+    case OUTLINE_HOLDBACK_FULL: return "the op is early, and the holdback is full";
+    case OUTLINE_BAD_HOLDBACK: return "a holdback of not 449 bytes, or not as its count says";
     case OUTLINE_HAD_IT: return "the op was there already";
     case OUTLINE_DONE: return "done";
+    case OUTLINE_WAITING: return "the op is early, and waits in the holdback";
     default: return "no answer of this library";
     }
 }

@@ -18,7 +18,7 @@ static void expect_at(int line, const char *what, bool holds) {
 static uint8_t log_a[OUTLINE_LARGEST], log_b[OUTLINE_LARGEST];
 static uint16_t parents[OUTLINE_TABLE], path[OUTLINE_LONGEST_PATH], places[OUTLINE_MOST_OPS + 1];
 static uint8_t outcomes[OUTLINE_TABLE], text[OUTLINE_LONGEST_LISTING], op[OUTLINE_OP];
-static uint8_t bundle[OUTLINE_LARGEST_BUNDLE + 1];
+static uint8_t bundle[OUTLINE_LARGEST_BUNDLE + 1], holdback[OUTLINE_HOLDBACK];
 static const uint8_t nothing[OUTLINE_REPLICAS] = {0};
 
 static size_t add(uint8_t *log, uint8_t replica, uint16_t parent) {
@@ -31,6 +31,11 @@ static size_t move(uint8_t *log, uint8_t replica, uint16_t node, uint16_t parent
 
 static size_t deliver(uint8_t *log, const uint8_t *bytes) {
     return outline_deliver(log, OUTLINE_LARGEST, bytes, OUTLINE_OP);
+}
+
+static size_t deliver_held(uint8_t *log, const uint8_t *bytes) {
+    return outline_holdback_deliver(log, OUTLINE_LARGEST, bytes, OUTLINE_OP, holdback,
+                                    OUTLINE_HOLDBACK);
 }
 
 static size_t open_bundle(uint8_t *log, size_t length) {
@@ -47,15 +52,19 @@ static void versions(void) {
 
 static void numbers(void) {
     EXPECT(OUTLINE_UNSOUND == 1 && OUTLINE_MARKED == 11 && OUTLINE_BAD_BUNDLE == 12);
-    EXPECT(OUTLINE_HAD_IT == 128 && OUTLINE_DONE == 129 && OUTLINE_VALUE == 256);
-    EXPECT(outline_refused(OUTLINE_UNSOUND) && outline_refused(OUTLINE_BAD_BUNDLE));
+    EXPECT(OUTLINE_HOLDBACK_FULL == 13 && OUTLINE_BAD_HOLDBACK == 14);
+    EXPECT(OUTLINE_HAD_IT == 128 && OUTLINE_DONE == 129 && OUTLINE_WAITING == 130);
+    EXPECT(OUTLINE_VALUE == 256);
+    EXPECT(OUTLINE_HOLDBACK == 1 + OUTLINE_HOLDBACK_OPS * OUTLINE_OP);
+    EXPECT(outline_refused(OUTLINE_UNSOUND) && outline_refused(OUTLINE_BAD_HOLDBACK));
     EXPECT(!outline_refused(OUTLINE_HAD_IT) && !outline_refused(OUTLINE_DONE));
-    EXPECT(!outline_refused(OUTLINE_VALUE));
-    EXPECT(outline_value(OUTLINE_BAD_BUNDLE) == 0 && outline_value(OUTLINE_DONE) == 0);
+    EXPECT(!outline_refused(OUTLINE_WAITING) && !outline_refused(OUTLINE_VALUE));
+    EXPECT(outline_value(OUTLINE_BAD_HOLDBACK) == 0 && outline_value(OUTLINE_DONE) == 0);
+    EXPECT(outline_value(OUTLINE_WAITING) == 0);
     EXPECT(outline_value(VALUE(0)) == 0 && outline_value(VALUE(28592)) == 28592);
     const char *none = outline_text(0);
     for (size_t a = 0; a < 300; a++) {
-        bool named = (a >= 1 && a <= 12) || a == OUTLINE_HAD_IT || a == OUTLINE_DONE || a >= 256;
+        bool named = (a >= 1 && a <= 14) || (a >= 128 && a <= 130) || a >= 256;
         EXPECT(outline_text(a) != NULL && (strcmp(outline_text(a), none) != 0) == named);
         for (size_t b = 0; b < a && a <= OUTLINE_VALUE; b++)
             EXPECT(!named || strcmp(outline_text(a), outline_text(b)) != 0);
@@ -270,6 +279,161 @@ static void bundles(void) {
     EXPECT(open_bundle(log_b, 1) == VALUE(32) && memcmp(before, log_b, sizeof log_b) == 0);
 }
 
+/* Each answer of a delivery with a holdback: what is refused or held changes nothing. */
+static void holdback_answers(void) {
+    static uint8_t before[OUTLINE_LARGEST], held_before[OUTLINE_HOLDBACK];
+    uint8_t first[OUTLINE_OP], second[OUTLINE_OP], third[OUTLINE_OP], bad[OUTLINE_OP];
+    memset(log_b, 9, sizeof log_b);
+    memset(holdback, 0, sizeof holdback);
+    outline_make(log_a, sizeof log_a);
+    outline_make(log_b, sizeof log_b);
+    add(log_a, 1, 0);
+    memcpy(first, op, sizeof first);
+    add(log_a, 1, 0);
+    memcpy(second, op, sizeof second);
+    add(log_a, 2, 258);
+    memcpy(third, op, sizeof third);
+    /* Two that wait, in order of arrival, each once; the log is as before. */
+    memcpy(before, log_b, sizeof before);
+    EXPECT(deliver_held(log_b, third) == OUTLINE_WAITING);
+    EXPECT(deliver_held(log_b, second) == OUTLINE_WAITING);
+    memcpy(held_before, holdback, sizeof holdback);
+    EXPECT(deliver_held(log_b, third) == OUTLINE_WAITING);
+    EXPECT(deliver_held(log_b, second) == OUTLINE_WAITING);
+    EXPECT(memcmp(held_before, holdback, sizeof holdback) == 0);
+    EXPECT(memcmp(before, log_b, sizeof before) == 0);
+    EXPECT(holdback[0] == 2 && memcmp(holdback + 1, third, OUTLINE_OP) == 0);
+    EXPECT(memcmp(holdback + 1 + OUTLINE_OP, second, OUTLINE_OP) == 0);
+    for (size_t i = 1 + 2 * OUTLINE_OP; i < OUTLINE_HOLDBACK; i++) EXPECT(holdback[i] == 0);
+    /* The refusals, one after the other: the first of two causes is answered. */
+    size_t some = OUTLINE_HOLDBACK, more = OUTLINE_HEADER + OUTLINE_OP;
+    EXPECT(outline_holdback_deliver(log_b, 31, first, 13, holdback, 448) == OUTLINE_UNSOUND);
+    EXPECT(outline_holdback_deliver(log_b, 32, first, 13, holdback, 448) == OUTLINE_BAD_HOLDBACK);
+    EXPECT(outline_holdback_deliver(log_b, 32, first, 13, holdback, some) == OUTLINE_LENGTH);
+    memcpy(bad, third, sizeof bad);
+    bad[0] = 5;
+    EXPECT(deliver_held(log_b, bad) == OUTLINE_MALFORMED);
+    memcpy(bad, first, sizeof bad);
+    bad[3] = 2;
+    EXPECT(deliver_held(log_b, bad) == OUTLINE_UNKNOWN);
+    EXPECT(outline_holdback_deliver(log_b, more - 1, bad, 14, holdback, some) == OUTLINE_UNKNOWN);
+    EXPECT(outline_holdback_deliver(log_b, more - 1, first, 14, holdback, some) ==
+           OUTLINE_NO_ROOM);
+    EXPECT(memcmp(before, log_b, sizeof before) == 0);
+    EXPECT(memcmp(held_before, holdback, sizeof holdback) == 0);
+    /* Accepted with the two that waited, and not a byte more lent than they need. */
+    EXPECT(outline_holdback_deliver(log_b, 74, first, 14, holdback, some) == VALUE(74));
+    EXPECT(memcmp(log_a, log_b, 74) == 0);
+    EXPECT(memcmp(before + 74, log_b + 74, sizeof before - 74) == 0);
+    for (size_t i = 0; i < OUTLINE_HOLDBACK; i++) EXPECT(holdback[i] == 0);
+    EXPECT(deliver_held(log_b, second) == OUTLINE_HAD_IT);
+    EXPECT(deliver_held(log_b, bad) == OUTLINE_CONFLICT);
+    memcpy(bad, third, sizeof bad); /* replica 3, which has seen 513 and not what 513 had seen */
+    bad[1] = 3;
+    bad[2] = 3;
+    bad[6] = 1;
+    bad[7] = 1;
+    EXPECT(deliver_held(log_b, bad) == OUTLINE_NOT_CLOSED);
+    /* A delivery without a holdback never leaves one waiting. */
+    outline_make(log_b, sizeof log_b);
+    EXPECT(deliver(log_b, third) == OUTLINE_EARLY);
+}
+
+/* What is no holdback, from every side; and one that is full. */
+static void holdbacks(void) {
+    static uint8_t before[OUTLINE_HOLDBACK + 1];
+    const uint8_t *ops = log_a + OUTLINE_HEADER;
+    const size_t last = OUTLINE_HOLDBACK_OPS + 1; /* the last op of log_a, from 0 */
+    outline_make(log_a, sizeof log_a);
+    outline_make(log_b, sizeof log_b);
+    for (size_t i = 0; i <= last; i++) add(log_a, 1, 0);
+    memset(before, 0, sizeof before);
+    for (size_t length = 0; length <= OUTLINE_HOLDBACK + 1; length++)
+        if (length != OUTLINE_HOLDBACK)
+            EXPECT(outline_holdback_deliver(log_b, sizeof log_b, ops, OUTLINE_OP, before, length) ==
+                   OUTLINE_BAD_HOLDBACK);
+    memset(holdback, 0, sizeof holdback);
+    for (int count = 33; count < 256; count++) {
+        holdback[0] = (uint8_t)count;
+        EXPECT(deliver_held(log_b, ops) == OUTLINE_BAD_HOLDBACK);
+    }
+    holdback[0] = 0;
+    for (size_t i = 1; i < OUTLINE_HOLDBACK; i++) { /* a byte past its ops, for every count */
+        holdback[i] = 1;
+        holdback[0] = (uint8_t)((i - 1) / OUTLINE_OP);
+        EXPECT(deliver_held(log_b, ops) == OUTLINE_BAD_HOLDBACK);
+        holdback[i] = 0;
+    }
+    EXPECT(outline_end(log_b, sizeof log_b) == VALUE(OUTLINE_HEADER));
+    /* From the last on: 32 wait, and then there is no place. */
+    holdback[0] = 0;
+    for (size_t i = last; i > 1; i--)
+        EXPECT(deliver_held(log_b, ops + OUTLINE_OP * i) == OUTLINE_WAITING);
+    EXPECT(holdback[0] == OUTLINE_HOLDBACK_OPS);
+    memcpy(before, holdback, sizeof holdback);
+    EXPECT(deliver_held(log_b, ops + OUTLINE_OP) == OUTLINE_HOLDBACK_FULL);
+    EXPECT(deliver_held(log_b, ops + OUTLINE_OP * last) == OUTLINE_WAITING);
+    EXPECT(deliver_held(log_b, ops + OUTLINE_OP * 2) == OUTLINE_WAITING);
+    EXPECT(memcmp(before, holdback, sizeof holdback) == 0);
+    EXPECT(outline_end(log_b, sizeof log_b) == VALUE(OUTLINE_HEADER));
+    /* An op that is not early needs no place. The next one brings all, 33 in one call. */
+    EXPECT(deliver_held(log_b, ops) == VALUE(OUTLINE_HEADER + OUTLINE_OP));
+    EXPECT(memcmp(before, holdback, sizeof holdback) == 0);
+    EXPECT(deliver_held(log_b, ops + OUTLINE_OP) == outline_end(log_a, sizeof log_a));
+    EXPECT(memcmp(log_a, log_b, OUTLINE_HEADER + OUTLINE_OP * (last + 1)) == 0);
+    for (size_t i = 0; i < OUTLINE_HOLDBACK; i++) EXPECT(holdback[i] == 0);
+}
+
+static void put(size_t place, const uint8_t *bytes) {
+    memcpy(holdback + 1 + OUTLINE_OP * place, bytes, OUTLINE_OP);
+}
+
+static bool waits(size_t place, const uint8_t *bytes) {
+    return memcmp(holdback + 1 + OUTLINE_OP * place, bytes, OUTLINE_OP) == 0;
+}
+
+/* What the search drops and what it leaves, in a holdback that no call has made. */
+static void searches(void) {
+    uint8_t ops[5][OUTLINE_OP], noise[OUTLINE_OP], unknown[OUTLINE_OP], other[OUTLINE_OP];
+    const uint8_t gap[OUTLINE_OP] = {OUTLINE_ADD, 4, 4, 1, 0, 0, 0, 1};
+    const uint8_t *first = ops[0], *second = ops[1], *third = ops[2], *fifth = ops[4];
+    outline_make(log_a, sizeof log_a);
+    outline_make(log_b, sizeof log_b);
+    for (int i = 0; i < 5; i++) {
+        add(log_a, i == 1 ? 2 : 1, 0);
+        memcpy(ops[i], op, sizeof op);
+    }
+    memset(noise, 255, sizeof noise);
+    memcpy(unknown, second, sizeof unknown);
+    unknown[1] = 3;
+    memcpy(other, second, sizeof other);
+    other[4] = 1;
+    other[5] = 1;
+    memset(holdback, 0, sizeof holdback);
+    holdback[0] = 8;
+    put(0, noise);   /* malformed */
+    put(1, fifth);   /* early to the end */
+    put(2, first);   /* held, since it is the one that is delivered */
+    put(3, unknown); /* of replica 3, and adds a node of replica 2 */
+    put(4, other);   /* accepted, with 257 as its parent */
+    put(5, second);  /* in conflict, since the other was in front of it */
+    put(6, gap);     /* has seen an op of replica 2, and not what this had seen */
+    put(7, third);   /* lacks room */
+    EXPECT(outline_holdback_deliver(log_b, 60, first, OUTLINE_OP, holdback, OUTLINE_HOLDBACK) ==
+           VALUE(60));
+    EXPECT(memcmp(log_b + 46, other, OUTLINE_OP) == 0);
+    EXPECT(holdback[0] == 2 && waits(0, fifth) && waits(1, third));
+    for (size_t i = 1 + 2 * OUTLINE_OP; i < OUTLINE_HOLDBACK; i++) EXPECT(holdback[i] == 0);
+    /* Had it, a refusal, one that waits: nothing is searched, though there is room now. */
+    EXPECT(deliver_held(log_b, first) == OUTLINE_HAD_IT);
+    EXPECT(deliver_held(log_b, second) == OUTLINE_CONFLICT);
+    EXPECT(deliver_held(log_b, fifth) == OUTLINE_WAITING);
+    EXPECT(holdback[0] == 2 && outline_end(log_b, sizeof log_b) == VALUE(60));
+    /* The third by itself, which is then met as one that is held. */
+    EXPECT(deliver_held(log_b, third) == VALUE(74) && holdback[0] == 1 && waits(0, fifth));
+    EXPECT(deliver_held(log_b, ops[3]) == VALUE(102) && holdback[0] == 0);
+}
+
 /* Length 0 with NULL. */
 static void nulls(void) {
     uint8_t *none = NULL;
@@ -278,6 +442,7 @@ static void nulls(void) {
     EXPECT(!outline_is_sound(none, 0) && outline_end(none, 0) == OUTLINE_UNSOUND);
     EXPECT(outline_counts(none, 0, none, 0) == OUTLINE_UNSOUND);
     EXPECT(outline_deliver(none, 0, none, 0) == OUTLINE_UNSOUND);
+    EXPECT(outline_holdback_deliver(none, 0, none, 0, none, 0) == OUTLINE_UNSOUND);
     EXPECT(outline_bundle_make(none, 0, nothing, none, 0) == OUTLINE_UNSOUND);
     EXPECT(outline_bundle_open(none, 0, none, 0) == OUTLINE_UNSOUND);
     EXPECT(outline_issue_add(none, 0, 1, 0, none, 0) == OUTLINE_UNSOUND);
@@ -290,6 +455,9 @@ static void nulls(void) {
     EXPECT(outline_causal_order(none, 0, no_entries, 0) == OUTLINE_UNSOUND);
     /* However much is lent beside it, a buffer of length 0 is no log. */
     size_t entries = OUTLINE_TABLE;
+    memset(holdback, 0, sizeof holdback);
+    EXPECT(outline_holdback_deliver(none, 0, op, sizeof op, holdback, sizeof holdback) ==
+           OUTLINE_UNSOUND);
     EXPECT(outline_issue_add(none, 0, 1, 0, op, sizeof op) == OUTLINE_UNSOUND);
     EXPECT(outline_bundle_make(none, 0, nothing, bundle, sizeof bundle) == OUTLINE_UNSOUND);
     EXPECT(outline_judge(none, 0, parents, entries, outcomes, entries) == OUTLINE_UNSOUND);
@@ -300,6 +468,10 @@ static void nulls(void) {
     add(log_a, 1, 0);
     EXPECT(outline_counts(log_a, sizeof log_a, none, 0) == OUTLINE_NO_ROOM);
     EXPECT(outline_deliver(log_a, sizeof log_a, none, 0) == OUTLINE_LENGTH);
+    EXPECT(outline_holdback_deliver(log_a, sizeof log_a, op, sizeof op, none, 0) ==
+           OUTLINE_BAD_HOLDBACK);
+    EXPECT(outline_holdback_deliver(log_a, sizeof log_a, none, 0, holdback, sizeof holdback) ==
+           OUTLINE_LENGTH);
     EXPECT(outline_bundle_make(log_a, sizeof log_a, nothing, none, 0) == OUTLINE_NO_ROOM);
     EXPECT(outline_bundle_open(log_a, sizeof log_a, none, 0) == OUTLINE_BAD_BUNDLE);
     EXPECT(outline_issue_add(log_a, sizeof log_a, 1, 0, none, 0) == OUTLINE_LENGTH);
@@ -359,6 +531,9 @@ int main(void) {
     clashes();
     measures();
     bundles();
+    holdback_answers();
+    holdbacks();
+    searches();
     nulls();
     handing_over();
     if (failures == 0) puts("header: all as said");

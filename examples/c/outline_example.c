@@ -2,7 +2,8 @@
  * Two machines, each with a log of its own. One makes two headings and the
  * other gets them; then, apart, each moves a heading below the other's. They
  * meet, hand each other a bundle, and hold the same file and the same tree.
- * Then one heading is removed, and takes no new work.
+ * Then one heading is removed, and takes no new work. At last a third machine
+ * gets all ops by post, the last first: those that come early wait.
  */
 #include "outline.h"
 
@@ -69,6 +70,28 @@ static void hand_over(const struct machine *from, struct machine *to) {
     to->end = end;
 }
 
+/*
+ * Hands over all that one log has, op by op and from its end. Whatever the order
+ * is, an op that comes before what it counts waits in the holdback.
+ */
+static void post(const struct machine *from, struct machine *to) {
+    uint8_t holdback[OUTLINE_HOLDBACK] = {0};
+    for (size_t at = from->end; at > OUTLINE_HEADER; at -= OUTLINE_OP) {
+        const uint8_t *op = from->log + at - OUTLINE_OP;
+        size_t answer = outline_holdback_deliver(to->log, sizeof to->log, op, OUTLINE_OP, holdback,
+                                                 sizeof holdback);
+        printf("machine %d gets op %d of machine %d: %s\n", to->replica, outline_op_sequence(op),
+               outline_op_replica(op), outline_text(answer));
+        if (outline_value(answer) > 0) to->end = outline_value(answer);
+    }
+}
+
+static bool same_files(const struct machine *m, const struct machine *other) {
+    bool same = m->end == other->end && memcmp(m->log, other->log, m->end) == 0;
+    printf("the files are %s: %zu bytes\n", same ? "the same" : "different", m->end);
+    return same;
+}
+
 static void show(const struct machine *m) {
     static uint8_t text[OUTLINE_LONGEST_LISTING];
     size_t length = value_of(outline_listing(m->log, m->end, false, text, sizeof text));
@@ -100,9 +123,10 @@ static void show_path(const struct machine *m, uint16_t node) {
 }
 
 int main(void) {
-    static struct machine one, two;
+    static struct machine one, two, three;
     start(&one, 1);
     start(&two, 2);
+    start(&three, 3);
 
     uint16_t a = add(&one, OUTLINE_ROOT);
     uint16_t b = add(&one, OUTLINE_ROOT);
@@ -115,8 +139,7 @@ int main(void) {
 
     hand_over(&one, &two);
     hand_over(&two, &one);
-    bool same = one.end == two.end && memcmp(one.log, two.log, one.end) == 0;
-    printf("the files are %s: %zu bytes\n", same ? "the same" : "different", one.end);
+    bool same = same_files(&one, &two);
     show(&one);
     judge(&one);
     show_path(&one, a);
@@ -124,5 +147,8 @@ int main(void) {
     take_away(&one, b);
     move(&one, a, b);
     show(&one);
+
+    post(&one, &three);
+    same = same_files(&one, &three) && same;
     return same ? 0 : 1;
 }

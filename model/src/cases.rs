@@ -6,6 +6,7 @@ mod deliver;
 pub mod examples;
 mod issue;
 mod judge;
+mod tray;
 mod view;
 pub mod world;
 
@@ -56,8 +57,24 @@ impl Script {
         self.push(Case::OpenBundle(bundle.to_vec()))
     }
 
+    /// Delivers with such a tray.
+    pub fn deliver_tray(&mut self, op: &[u8], tray: &[u8]) -> &str {
+        self.push(Case::DeliverTray(op.to_vec(), tray.to_vec()))
+    }
+
+    /// Delivers with the tray as the last delivery with one left it.
+    pub fn deliver_next(&mut self, op: &[u8]) -> &str {
+        let tray = self.tray().to_vec();
+        self.deliver_tray(op, &tray)
+    }
+
     pub fn buffer(&self) -> &[u8] {
         &self.machine.buffer
+    }
+
+    /// What the last delivery with a tray left there.
+    pub fn tray(&self) -> &[u8] {
+        &self.machine.tray
     }
 
     /// Adds the cases of a section; false if there is none of this name.
@@ -68,6 +85,7 @@ impl Script {
             "issue" => issue::write(self),
             "view" => view::write(self),
             "bundle" => bundle::write(self),
+            "tray" => tray::write(self),
             _ => return false,
         }
         true

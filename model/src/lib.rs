@@ -12,6 +12,7 @@ pub mod log;
 pub mod op;
 pub mod rng;
 pub mod script;
+pub mod tray;
 pub mod tree;
 pub mod view;
 
@@ -21,6 +22,7 @@ pub use calls::{
 };
 pub use log::{Knowledge, Log, HEADER_LEN, MAX_FILE};
 pub use op::{Kind, Op, Vector, MAX_SEQUENCE, OP_LEN, REPLICAS};
+pub use tray::{deliver_tray, TRAY_LEN, TRAY_PLACES};
 pub use tree::{slot_of, Tree, NO_PARENT, SLOTS};
 pub use view::{listing, listing_size, outline, path, View};
 
@@ -31,6 +33,8 @@ pub enum Answer {
     Accepted(usize),
     /// The same op was there already; nothing changed.
     HadIt,
+    /// The op is early, and waits in the tray.
+    Waiting,
     /// Judging is done.
     Done,
     /// Entries of a path, bytes of a listing, of a file or of a bundle, or how
@@ -54,4 +58,6 @@ pub mod refusal {
     pub const BELOW_ITSELF: u8 = 10;
     pub const MARKED: u8 = 11;
     pub const BUNDLE: u8 = 12;
+    pub const TRAY_FULL: u8 = 13;
+    pub const BAD_TRAY: u8 = 14;
 }

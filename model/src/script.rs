@@ -2,8 +2,8 @@
 //! The grammar is in README.md.
 
 use crate::{
-    deliver, issue_add, issue_move, issue_remove, judge, listing, make, make_bundle, open_bundle,
-    outline, path, Answer, Vector, View,
+    deliver, deliver_tray, issue_add, issue_move, issue_remove, judge, listing, make, make_bundle,
+    open_bundle, outline, path, Answer, Vector, View,
 };
 
 /// Limits of the grammar.
@@ -13,6 +13,7 @@ pub const MAX_TABLE: u16 = 2_100;
 pub const MAX_LISTING: u16 = 24_000;
 pub const MAX_RECORD: u8 = 40;
 pub const MAX_BUNDLE: u16 = 28_600;
+pub const MAX_TRAY: usize = 600;
 
 /// Bytes with at most this length are printed in full.
 const SHORT: usize = 64;
@@ -36,6 +37,8 @@ pub enum Case {
     Resize(u16),
     MakeBundle(Vector, u16),
     OpenBundle(Vec<u8>),
+    /// A record and a tray.
+    DeliverTray(Vec<u8>, Vec<u8>),
 }
 
 impl Case {
@@ -74,6 +77,11 @@ impl Case {
                 line.extend(room.to_be_bytes());
             }
             Case::OpenBundle(bundle) => start(&mut line, 0x0c, bundle),
+            Case::DeliverTray(op, tray) => {
+                start(&mut line, 0x0d, &[op.len() as u8]);
+                line.extend(op);
+                line.extend(tray);
+            }
         }
         line
     }
@@ -94,6 +102,9 @@ impl Case {
                 Case::Listing(_, room) => *room <= MAX_LISTING,
                 Case::Resize(length) => usize::from(*length) <= MAX_BUFFER,
                 Case::MakeBundle(_, room) => *room <= MAX_BUNDLE,
+                Case::DeliverTray(op, tray) => {
+                    op.len() <= usize::from(MAX_RECORD) && tray.len() <= MAX_TRAY
+                }
                 _ => true,
             }
     }
@@ -113,6 +124,8 @@ fn numbers(line: &mut Vec<u8>, call: u8, numbers: &[u16]) {
 #[derive(Clone, Default)]
 pub struct Machine {
     pub buffer: Vec<u8>,
+    /// What the last delivery with a tray left there.
+    pub tray: Vec<u8>,
 }
 
 impl Machine {
@@ -162,6 +175,11 @@ impl Machine {
                 with_bytes(*room, |out| make_bundle(buffer, *counts, out))
             }
             Case::OpenBundle(bundle) => (text(open_bundle(buffer, bundle)), vec![]),
+            Case::DeliverTray(op, tray) => {
+                self.tray.clone_from(tray);
+                let answer = deliver_tray(buffer, op, &mut self.tray);
+                (text(answer), vec![self.tray.clone()])
+            }
         }
     }
 }
@@ -187,6 +205,7 @@ fn text(answer: Answer) -> String {
     match answer {
         Answer::Accepted(number) | Answer::Count(number) => format!("a {number}"),
         Answer::HadIt => "h".into(),
+        Answer::Waiting => "w".into(),
         Answer::Done => "d".into(),
         Answer::Refused(number) => format!("r {number}"),
     }

@@ -3,7 +3,7 @@
 mod common;
 
 use common::*;
-use outline_model::cases::world::{Style, World};
+use outline_model::cases::world::{self, Style, World};
 use outline_model::cases::{damage, examples};
 use outline_model::rng::Rng;
 use outline_model::*;
@@ -12,6 +12,8 @@ use std::collections::BTreeMap;
 /// A collection with what the calls so far say that it holds.
 struct Side {
     buffer: Vec<u8>,
+    /// Lent with a delivery as the last one left it, or with any other content.
+    tray: Vec<u8>,
     held: Vec<Vec<u8>>,
     /// The replicas that issue here and nowhere else.
     replicas: Vec<u8>,
@@ -31,12 +33,18 @@ struct Tally {
     /// Bundles that were opened, and that were refused.
     opened: usize,
     shut: usize,
+    /// Ops that went to a tray, and that were taken from one.
+    waiting: usize,
+    freed: usize,
+    /// Trays that were refused.
+    bad: usize,
 }
 
 impl Side {
     fn new(length: usize, replicas: Vec<u8>) -> Side {
         Side {
             buffer: empty(length),
+            tray: tray_from(&[]),
             held: vec![],
             replicas,
             tally: Tally::default(),
@@ -74,6 +82,32 @@ impl Side {
             if !self.held.contains(&op) {
                 self.held.push(op);
             }
+        }
+    }
+
+    /// A delivery with a tray joins the list with the op and those that it frees:
+    /// what a plain delivery of each, in the order of the search, would accept.
+    fn deliver_tray(&mut self, op: &[u8]) {
+        let mut plain = self.buffer.clone();
+        let waited = match self.tray.len() {
+            449 if self.tray[0] <= 32 => waiting(&self.tray),
+            _ => vec![],
+        };
+        match tray_checked(&mut self.buffer, op, &mut self.tray) {
+            Waiting => self.tally.waiting += 1,
+            Refused(14) => self.tally.bad += 1,
+            Accepted(_) => {
+                let mut next = Some(op.to_vec());
+                while let Some(op) = next {
+                    assert!(matches!(deliver(&mut plain, &op), Accepted(_)));
+                    self.held.push(op);
+                    let can_go =
+                        |op: &&Vec<u8>| matches!(deliver(&mut plain.clone(), op), Accepted(_));
+                    next = waited.iter().find(can_go).cloned();
+                    self.tally.freed += usize::from(next.is_some());
+                }
+            }
+            _ => {}
         }
     }
 
@@ -133,7 +167,7 @@ impl Meeting {
             sides,
             issued: vec![],
         };
-        for _ in 0..20 + rng.below(200) {
+        for _ in 0..20 + rng.below(300) {
             let at = rng.below(count);
             meeting.step(rng, at);
             meeting.sides[at].check();
@@ -142,7 +176,7 @@ impl Meeting {
     }
 
     fn step(&mut self, rng: &mut Rng, at: usize) {
-        match rng.below(60) {
+        match rng.below(80) {
             0 => self.sides[at].make(),
             1..=3 => self.refused(rng, at),
             4..=25 => self.issue(rng, at),
@@ -153,8 +187,49 @@ impl Meeting {
                 let issued = &self.issued[rng.below(self.issued.len())];
                 self.sides[at].deliver(&damage::record(rng, issued));
             }
-            _ => self.sides[at].deliver(&self.issued[rng.below(self.issued.len())]),
+            37..=59 => self.sides[at].deliver(&self.issued[rng.below(self.issued.len())]),
+            60..=63 => self.lend_tray(rng, at),
+            _ => self.deliver_tray(rng, at),
         }
+    }
+
+    /// Another tray: an empty one, one of ops that were issued, or of any content.
+    fn lend_tray(&mut self, rng: &mut Rng, at: usize) {
+        let side = &mut self.sides[at];
+        side.tray = tray_from(&[]);
+        if !self.issued.is_empty() && !rng.one_in(3) {
+            let count = rng.below(33);
+            let some = |_| self.issued[rng.below(self.issued.len())].clone();
+            side.tray = tray_from(&(0..count).map(some).collect::<Vec<_>>());
+        }
+        match rng.below(12) {
+            0 => side.tray = damage::tray(rng, &side.tray),
+            1 => side.tray = world::tray(rng, &[], &[0; 8]),
+            2 => side.tray = damage::random(rng, &side.tray),
+            _ => {}
+        }
+    }
+
+    /// Mostly one of the next that some other holds, so that some are early.
+    fn deliver_tray(&mut self, rng: &mut Rng, at: usize) {
+        let from = rng.below(self.sides.len());
+        let held = &self.sides[at].held;
+        let lacking = |op: &&Vec<u8>| !held.contains(op);
+        let next: Vec<Vec<u8>> = self.sides[from]
+            .held
+            .iter()
+            .filter(lacking)
+            .take(6)
+            .cloned()
+            .collect();
+        let mut op = match next.len() {
+            0 => self.issued[rng.below(self.issued.len())].clone(),
+            count => next[rng.below(count)].clone(),
+        };
+        if rng.one_in(30) {
+            op = damage::record(rng, &op);
+        }
+        self.sides[at].deliver_tray(&op);
     }
 
     fn refused(&mut self, rng: &mut Rng, at: usize) {
@@ -324,6 +399,9 @@ fn random_lists_then_rounds() {
             all.unmet += tally.unmet;
             all.opened += tally.opened;
             all.shut += tally.shut;
+            all.waiting += tally.waiting;
+            all.freed += tally.freed;
+            all.bad += tally.bad;
         }
         for i in 0..meeting.sides.len() {
             for j in 0..i {
@@ -344,6 +422,8 @@ fn random_lists_then_rounds() {
     assert!(all.removes > 300 && all.marked > 300, "{all:?}");
     assert!(all.unmet > 300, "{all:?}");
     assert!(all.opened > 1000 && all.shut > 300, "{all:?}");
+    assert!(all.waiting > 1000 && all.freed > 500, "{all:?}");
+    assert!(all.bad > 50, "{all:?}");
 }
 
 /// Parts of one large world, as two sides came to hold them.

@@ -443,10 +443,19 @@ fn is_sound(file: &[u8]) -> bool {
 
 /// Tests 3, 5, 6 and 7.
 fn passes(this: &Body, counts: &[usize], body: &dyn Fn(usize, usize) -> Body) -> bool {
+    fault(this, counts, body) == 0
+}
+
+/// The first of the numbers 3, 5, 6 and 7 that a body deserves, or 0. Its replica
+/// and own count are right.
+fn fault(this: &Body, counts: &[usize], body: &dyn Fn(usize, usize) -> Body) -> u8 {
     let count = |replica: usize| usize::from(this[5 + replica]);
     let form = matches!(this[0], 1..=4) && (this[0] != 2 || parent(this) == 0);
-    if !form || (1..=8).any(|replica| count(replica) > counts[replica - 1]) {
-        return false;
+    if !form {
+        return 3;
+    }
+    if (1..=8).any(|replica| count(replica) > counts[replica - 1]) {
+        return 5;
     }
     let closed = (1..=8).all(|replica| {
         count(replica) == 0 || {
@@ -454,15 +463,22 @@ fn passes(this: &Body, counts: &[usize], body: &dyn Fn(usize, usize) -> Body) ->
             (6..14).all(|at| last[at] <= this[at])
         }
     });
+    if !closed {
+        return 6;
+    }
     let known = |node: u16| knowledge(&this[6..], node, body) != Knowledge::Unknown;
     let parent_known = parent(this) == 0 || known(parent(this));
     let (replica, sequence) = own(this);
-    closed
-        && match this[0] {
-            1 => parent_known && usize::from(node(this)) == 256 * replica + sequence,
-            2 => known(node(this)),
-            _ => known(node(this)) && parent_known && node(this) != parent(this),
-        }
+    let names = match this[0] {
+        1 => parent_known && usize::from(node(this)) == 256 * replica + sequence,
+        2 => known(node(this)),
+        _ => known(node(this)) && parent_known && node(this) != parent(this),
+    };
+    if names {
+        0
+    } else {
+        7
+    }
 }
 
 #[test]
@@ -490,4 +506,184 @@ fn soundness() {
         }
     }
     assert!(sound > 300, "{sound}");
+}
+
+/// In the place of a number: the same bytes are held.
+const HELD: u8 = 100;
+
+fn number_at(bytes: &[u8], at: usize) -> usize {
+    usize::from(bytes[at]) * 256 + usize::from(bytes[at + 1])
+}
+
+fn set_number(bytes: &mut [u8], at: usize, number: usize) {
+    bytes[at] = (number / 256) as u8;
+    bytes[at + 1] = (number % 256) as u8;
+}
+
+/// What a plain delivery at a sound file comes to, from test 2 on; 0 if it is
+/// accepted.
+fn tested(buffer: &[u8], record: &[u8]) -> u8 {
+    if record.len() != 14 {
+        return 2;
+    }
+    let replica = usize::from(record[1]);
+    if !(1..=8).contains(&replica) || record[5 + replica] == 255 {
+        return 3;
+    }
+    let counts: Vec<usize> = (0..8).map(|i| number_at(buffer, 4 * i)).collect();
+    let body = |replica: usize, sequence: usize| {
+        let at = number_at(buffer, 4 * replica - 2) + 14 * (sequence - 1);
+        buffer[at..at + 14].to_vec()
+    };
+    let this = record.to_vec();
+    let (_, sequence) = own(&this);
+    match fault(&this, &counts, &body) {
+        3 => 3,
+        _ if sequence <= counts[replica - 1] => {
+            if body(replica, sequence) == this {
+                HELD
+            } else {
+                4
+            }
+        }
+        0 if buffer.len() < 32 + 14 * (counts.iter().sum::<usize>() + 1) => 8,
+        number => number,
+    }
+}
+
+/// Puts a record that passed in its place, byte by byte.
+fn insert(buffer: &mut [u8], record: &[u8]) {
+    let entry = 4 * (usize::from(record[1]) - 1);
+    let count = number_at(buffer, entry);
+    let place = number_at(buffer, entry + 2) + 14 * count;
+    let end = 32 + 14 * (0..8).map(|i| number_at(buffer, 4 * i)).sum::<usize>();
+    for at in (place..end).rev() {
+        buffer[at + 14] = buffer[at];
+    }
+    buffer[place..place + 14].copy_from_slice(record);
+    set_number(buffer, entry, count + 1);
+    for later in (entry + 4..32).step_by(4) {
+        let start = number_at(buffer, later + 2);
+        set_number(buffer, later + 2, start + 14);
+    }
+}
+
+/// Delivery with a tray, in place on the lent bytes.
+fn deliver_in_place(buffer: &mut [u8], record: &[u8], tray: &mut [u8]) -> Answer {
+    if !is_sound(buffer) {
+        return Refused(1);
+    }
+    if tray.len() != 449 || tray[0] > 32 {
+        return Refused(14);
+    }
+    let past = 1 + 14 * usize::from(tray[0]);
+    if (past..449).any(|at| tray[at] != 0) {
+        return Refused(14);
+    }
+    match tested(buffer, record) {
+        0 => insert(buffer, record),
+        HELD => return HadIt,
+        5 if (1..past).step_by(14).any(|at| tray[at..at + 14] == *record) => return Waiting,
+        5 if past == 449 => return Refused(13),
+        5 => {
+            tray[past..past + 14].copy_from_slice(record);
+            tray[0] += 1;
+            return Waiting;
+        }
+        number => return Refused(number),
+    }
+    let mut at = 1;
+    while at < 1 + 14 * usize::from(tray[0]) {
+        let number = tested(buffer, &tray[at..at + 14]);
+        if number == 5 || number == 8 {
+            at += 14;
+            continue;
+        }
+        if number == 0 {
+            insert(buffer, &tray[at..at + 14]);
+        }
+        tray.copy_within(at + 14.., at);
+        tray[435..].fill(0);
+        tray[0] -= 1;
+        if number == 0 {
+            at = 1;
+        }
+    }
+    Accepted(32 + 14 * (0..8).map(|i| number_at(buffer, 4 * i)).sum::<usize>())
+}
+
+/// A part of a world, damaged at times, with any tray and any record.
+#[test]
+fn trays() {
+    let mut seen = [0; 15];
+    let [mut had_it, mut waiting, mut accepted] = [0; 3];
+    // Calls that accepted more than one.
+    let mut several = 0;
+    for seed in 0..12_000 {
+        let rng = &mut Rng::new(50_000 + seed);
+        let style = rng.pick(&[
+            world::Style::mixed as fn(usize, usize) -> world::Style,
+            world::Style::moves,
+        ]);
+        let style = style(1 + rng.below(8), 1 + rng.below(60));
+        let ops = world::World::random(rng, style).ops;
+        let share = rng.below(ops.len() + 1);
+        let held = world::part(rng, &ops[..share], 40);
+        let counts = log_of(&held).held();
+        let mut file = file_of(&held);
+        if rng.one_in(20) {
+            file = damage::random(rng, &file);
+        }
+        let room = rng.pick(&[0, 13, 14, 60, 200, 900, 900, 900]);
+        let mut buffer = in_buffer(&file, file.len() + room);
+        let mut tray = world::tray(rng, &ops, &counts);
+        if rng.one_in(20) {
+            tray = damage::tray(rng, &tray);
+        }
+        // Each call is lent what the last one left.
+        for _ in 0..4 {
+            let next = ops.iter().find(|op| {
+                let held = number_at(&buffer, 4 * op.index());
+                op.sequence() > held
+            });
+            let op = match next {
+                Some(op) if rng.one_in(2) => *op,
+                _ => rng.pick(&ops),
+            };
+            let mut record = op.bytes().to_vec();
+            if rng.one_in(5) {
+                record = damage::record(rng, &record);
+            }
+            let (mut buffer_2, mut tray_2) = (buffer.clone(), tray.clone());
+            let before = bodies_if_sound(&buffer);
+            let answer = deliver_tray(&mut buffer, &record, &mut tray);
+            let expected = deliver_in_place(&mut buffer_2, &record, &mut tray_2);
+            assert_eq!(answer, expected);
+            assert_eq!((&buffer, &tray), (&buffer_2, &tray_2));
+            match answer {
+                Accepted(end) => {
+                    accepted += 1;
+                    several += usize::from(end > 32 + 14 * (before + 1));
+                }
+                HadIt => had_it += 1,
+                Waiting => waiting += 1,
+                Refused(number) => seen[usize::from(number)] += 1,
+                other => panic!("{other:?}"),
+            }
+        }
+    }
+    for number in [1, 2, 3, 4, 6, 7, 8, 13, 14] {
+        assert!(seen[number] > 100, "{seen:?}");
+    }
+    assert_eq!(seen[5], 0);
+    assert!(had_it > 1000 && waiting > 1000, "{had_it} {waiting}");
+    assert!(accepted > 5000 && several > 2000, "{accepted} {several}");
+}
+
+/// How many records a sound file has.
+fn bodies_if_sound(buffer: &[u8]) -> usize {
+    match file_end(buffer) {
+        Count(end) => (end - 32) / 14,
+        _ => 0,
+    }
 }

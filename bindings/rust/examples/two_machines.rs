@@ -1,9 +1,10 @@
 //! Two machines, each with a log of its own. One makes two headings and the
 //! other gets them; then, apart, each moves a heading below the other's. They
 //! meet, hand each other a bundle, and hold the same file and the same tree.
-//! Then one heading is removed, and takes no new work.
+//! Then one heading is removed, and takes no new work. At last a third machine
+//! gets all ops by post, the last first: those that come early wait.
 
-use outline::{Kind, Log, Node, Outcome, Refusal, Replica, View};
+use outline::{Delivery, Holdback, Kind, Log, Node, Op, Outcome, Refusal, Replica, View};
 
 struct Machine {
     replica: Replica,
@@ -46,6 +47,25 @@ impl Machine {
             other.replica,
             bundle.as_bytes().len()
         );
+        Ok(())
+    }
+
+    /// Gets ops one by one, in whatever order: one that comes before what it
+    /// counts waits in the holdback.
+    fn get_by_post(&mut self, ops: impl Iterator<Item = Op>) -> Result<(), Refusal> {
+        let mut holdback = Holdback::new();
+        for op in ops {
+            let said = match self.log.deliver_with_holdback(op, &mut holdback)? {
+                Delivery::Waiting => "early, it waits".to_string(),
+                _ => format!("{} ops are there", self.log.len()),
+            };
+            println!(
+                "machine {} gets op {} of machine {}: {said}",
+                self.replica,
+                op.sequence(),
+                op.replica()
+            );
+        }
         Ok(())
     }
 
@@ -96,5 +116,15 @@ fn main() -> Result<(), Refusal> {
     println!("machine {} removes node {b}", one.replica);
     one.put(a, b);
     one.show();
+
+    let mut three = Machine::new(Replica::try_from(3)?);
+    let mut ops: Vec<Op> = one.log.ops().collect();
+    ops.reverse();
+    three.get_by_post(ops.into_iter())?;
+    assert_eq!(one.log, three.log);
+    println!(
+        "the files are the same: {} bytes",
+        three.log.as_bytes().len()
+    );
     Ok(())
 }

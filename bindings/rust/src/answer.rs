@@ -20,7 +20,8 @@ pub enum Refusal {
     Malformed = 3,
     /// Another op of this replica and sequence is held.
     Conflict = 4,
-    /// The op counts ops that are not held yet; deliver those first.
+    /// The op counts ops that are not held yet; deliver those first, or let it
+    /// wait in a [`Holdback`](crate::Holdback).
     Early = 5,
     /// The op counts an op, but not all that this one counts.
     NotClosed = 6,
@@ -37,6 +38,11 @@ pub enum Refusal {
     Marked = 11,
     /// The bundle has no whole head, or does not agree with its head.
     BadBundle = 12,
+    /// The op is early and not in the holdback, and the holdback is full.
+    HoldbackFull = 13,
+    /// The holdback has not 449 bytes, or counts more than 32 ops, or has bytes
+    /// past its ops that are not zero.
+    BadHoldback = 14,
 }
 
 impl Refusal {
@@ -54,6 +60,8 @@ impl Refusal {
         Refusal::Cycle,
         Refusal::Marked,
         Refusal::BadBundle,
+        Refusal::HoldbackFull,
+        Refusal::BadHoldback,
     ];
 
     /// The number by which the format's rules name it.
@@ -93,6 +101,8 @@ impl fmt::Display for Refusal {
             Refusal::Cycle => "the new parent lies below the node",
             Refusal::Marked => "the node or the parent is removed",
             Refusal::BadBundle => "the bundle is not whole, or does not agree with its head",
+            Refusal::HoldbackFull => "the op is early, and the holdback is full",
+            Refusal::BadHoldback => "the holdback has a wrong length, or is not as its count says",
         })
     }
 }
@@ -101,15 +111,18 @@ impl Error for Refusal {}
 
 /// What a delivery that is not refused answers.
 ///
-/// A later delivery will be able to keep an early op waiting, so a `match`
-/// needs a last arm.
+/// A delivery to come may answer more, so a `match` needs a last arm.
 #[derive(Clone, Copy, PartialEq, Eq, Hash, Debug)]
 #[non_exhaustive]
 pub enum Delivery {
-    /// The log has one op more, and ends here.
+    /// The log has the op, and ends here. With a
+    /// [`Holdback`](crate::Holdback) it has also those that had waited for it.
     Accepted(usize),
     /// The same op was there already; nothing changed.
     HadIt,
+    /// The op is early, and waits in the holdback now, or did so already. The
+    /// log has not changed. A delivery without a holdback does not answer this.
+    Waiting,
 }
 
 /// What a call answered: one number. Refusals have their own, a value has
@@ -123,6 +136,8 @@ enum Said {
     HadIt = 128,
     /// Judging is done.
     Done = 129,
+    /// A delivered op waits in the holdback.
+    Waiting = 130,
 }
 
 const VALUE: usize = 256;
@@ -134,11 +149,14 @@ impl Answer {
         self.0.checked_sub(VALUE).ok_or_else(|| self.refusal())
     }
 
-    /// Of a delivery.
+    /// Of a delivery, with a holdback or without.
     #[inline]
     pub fn delivery(self) -> Result<Delivery, Refusal> {
         if self.0 == Said::HadIt as usize {
             return Ok(Delivery::HadIt);
+        }
+        if self.0 == Said::Waiting as usize {
+            return Ok(Delivery::Waiting);
         }
         self.value().map(Delivery::Accepted)
     }

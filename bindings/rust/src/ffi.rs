@@ -22,6 +22,14 @@ mod c {
         ) -> usize;
         pub fn outline_deliver(buf: *mut u8, buf_len: usize, op: *const u8, op_len: usize)
             -> usize;
+        pub fn outline_holdback_deliver(
+            buf: *mut u8,
+            buf_len: usize,
+            op: *const u8,
+            op_len: usize,
+            holdback: *mut u8,
+            holdback_len: usize,
+        ) -> usize;
         pub fn outline_bundle_make(
             file: *const u8,
             file_len: usize,
@@ -116,6 +124,15 @@ pub fn deliver(buf: &mut [u8], op: &[u8]) -> Answer {
     let (op, op_len) = (op.as_ptr(), op.len());
     // SAFETY: pointers and lengths are those of slices, which do not overlap.
     Answer(unsafe { c::outline_deliver(buf.as_mut_ptr(), buf.len(), op, op_len) })
+}
+
+#[inline]
+pub fn holdback_deliver(buf: &mut [u8], op: &[u8], holdback: &mut [u8]) -> Answer {
+    let (buf, buf_len) = (buf.as_mut_ptr(), buf.len());
+    let (op, op_len) = (op.as_ptr(), op.len());
+    let (holdback, holdback_len) = (holdback.as_mut_ptr(), holdback.len());
+    // SAFETY: pointers and lengths are those of slices, which do not overlap.
+    Answer(unsafe { c::outline_holdback_deliver(buf, buf_len, op, op_len, holdback, holdback_len) })
 }
 
 #[inline]

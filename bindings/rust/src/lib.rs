@@ -45,7 +45,8 @@
 //! all that it lacks, and [opens](Log::open_bundle) it: wholly, or not at all.
 //! One by one, the same are the [ops beyond](Log::ops_beyond) the counts, which
 //! are [delivered](Log::deliver) as they come: their order is causal, and no op
-//! is refused as early.
+//! is refused as early. Where post brings ops in any order, the early ones
+//! [wait](Log::deliver_with_holdback) in a [`Holdback`].
 //!
 //! ```
 //! use outline::{Log, Node, Outcome, Refusal, Replica};
@@ -84,6 +85,7 @@
 //! | [`Log::bundle_for`], [`Log::open_bundle`] | export and import of the updates since a version vector |
 //! | [`Log::ops_beyond`] | the changes since some heads |
 //! | [`Log::deliver`] | applying a change; an early op is refused and not kept |
+//! | [`Log::deliver_with_holdback`] | applying a change; an early op is kept in a [`Holdback`] until what it counts has come |
 //! | [`Log::merge`] | merging |
 //!
 //! # What is refused
@@ -111,6 +113,7 @@
 mod answer;
 mod bundle;
 mod ffi;
+mod holdback;
 mod log;
 mod node;
 mod op;
@@ -121,6 +124,7 @@ mod view;
 
 pub use answer::{Delivery, Refusal};
 pub use bundle::Bundle;
+pub use holdback::Holdback;
 pub use log::{Log, Ops};
 pub use node::Node;
 pub use op::{Kind, Op};

@@ -1,8 +1,8 @@
 //! A log that is always sound.
 
 use crate::plain::{self, HEADER, LARGEST, TABLE};
-use crate::{Bundle, Children, Delivery, Descendants, Lines, Listing, Node, Op, Path};
-use crate::{Refusal, Replica, Tree, Vector, View};
+use crate::{Bundle, Children, Delivery, Descendants, Holdback, Lines, Listing, Node, Op};
+use crate::{Path, Refusal, Replica, Tree, Vector, View};
 use core::fmt;
 use core::iter::FusedIterator;
 
@@ -138,7 +138,9 @@ impl Log {
         Ok(Op::from_bytes(&op).expect("an issued op reads back"))
     }
 
-    /// Takes an op of another machine: an [`Op`], or bytes as they came.
+    /// Takes an op of another machine: an [`Op`], or bytes as they came. An early
+    /// op is not kept: where ops come in any order, see
+    /// [`deliver_with_holdback`](Log::deliver_with_holdback).
     ///
     /// # Errors
     ///
@@ -165,6 +167,62 @@ impl Log {
     /// ```
     pub fn deliver(&mut self, op: impl AsRef<[u8]>) -> Result<Delivery, Refusal> {
         plain::deliver(&mut self.bytes, op.as_ref())
+    }
+
+    /// Takes an op of another machine as it comes: an early one waits in the
+    /// holdback, and goes from there into the log with the op that it waited
+    /// for. What then still waits counts ops that are not held yet.
+    ///
+    /// Ops that are offered once each, in whatever order, come to the log that
+    /// offering them to [`deliver`](Log::deliver) again and again would come to:
+    /// if the holdback began empty and never got [full](Holdback::is_full), no two
+    /// ops of one replica and sequence differ, and nothing else is done to log
+    /// and holdback in between.
+    ///
+    /// # Errors
+    ///
+    /// Log and holdback have not changed then.
+    ///
+    /// - [`Refusal::Length`]: not 14 bytes
+    /// - [`Refusal::Malformed`]: out of form
+    /// - [`Refusal::Conflict`]: another op of this replica and sequence is held
+    /// - [`Refusal::HoldbackFull`]: it counts ops that are not held yet, is not
+    ///   in the holdback, and 32 others are; it has to be offered again
+    /// - [`Refusal::NotClosed`]: it counts an op, but not all that this one
+    ///   counts
+    /// - [`Refusal::Unknown`]: it names a node that its replica could not know
+    ///
+    /// An op that waits is refused no more: if one of the last two reasons, or a
+    /// conflict, shows when its turn comes, it is dropped.
+    ///
+    /// ```
+    /// use outline::{Delivery, Holdback, Log, Node, Refusal, Replica};
+    /// let (me, mut here) = (Replica::try_from(1)?, Log::new());
+    /// let a = here.add(me, Node::ROOT)?;
+    /// let b = here.add(me, a.node())?;
+    /// let c = here.add(me, b.node())?;
+    ///
+    /// // By post, the last first.
+    /// let (mut there, mut holdback) = (Log::new(), Holdback::new());
+    /// let answer = there.deliver_with_holdback(c, &mut holdback);
+    /// assert_eq!(answer, Ok(Delivery::Waiting));
+    /// let answer = there.deliver_with_holdback(b, &mut holdback);
+    /// assert_eq!(answer, Ok(Delivery::Waiting));
+    /// assert_eq!((there.len(), holdback.len()), (0, 2));
+    ///
+    /// // Its end shows that the log has all three now.
+    /// let answer = there.deliver_with_holdback(a, &mut holdback);
+    /// assert_eq!(answer, Ok(Delivery::Accepted(32 + 3 * 14)));
+    /// assert!(holdback.is_empty());
+    /// assert_eq!(here, there);
+    /// # Ok::<(), Refusal>(())
+    /// ```
+    pub fn deliver_with_holdback(
+        &mut self,
+        op: impl AsRef<[u8]>,
+        holdback: &mut Holdback,
+    ) -> Result<Delivery, Refusal> {
+        plain::holdback_deliver(&mut self.bytes, op.as_ref(), holdback.as_mut_bytes())
     }
 
     /// Makes a bundle of all ops that a log of this vector lacks, to be sent in

@@ -50,6 +50,8 @@ pub const LONGEST_PATH: usize = 2041;
 pub const LONGEST_LISTING: usize = 24_492;
 /// Bytes of the largest bundle.
 pub const LARGEST_BUNDLE: usize = 28_569;
+/// Bytes of a holdback; an empty one is as many zeros.
+pub const HOLDBACK: usize = 449;
 /// The root of the tree.
 pub const ROOT: u16 = 0;
 /// The parent entry of a slot without a node, in a table of [`judge`].
@@ -157,7 +159,8 @@ pub fn counts(file: &[u8]) -> Result<[u8; Replica::COUNT], Refusal> {
     Ok(counts)
 }
 
-/// Delivers an op, which another replica issued, to the log in a buffer.
+/// Delivers an op, which another replica issued, to the log in a buffer. It never
+/// answers [`Delivery::Waiting`]; [`holdback_deliver`] does.
 ///
 /// # Errors
 ///
@@ -181,6 +184,65 @@ pub fn counts(file: &[u8]) -> Result<[u8; Replica::COUNT], Refusal> {
 #[inline]
 pub fn deliver(buf: &mut [u8], op: &[u8]) -> Result<Delivery, Refusal> {
     ffi::deliver(buf, op).delivery()
+}
+
+/// Delivers an op with a holdback, in which early ops wait until what they count
+/// has come. An op that is accepted brings with it those that can then be taken
+/// from there, and the answer is where the log ends with them.
+///
+/// A holdback is 449 bytes: how many ops wait, then 32 places of 14 bytes in
+/// order of arrival, with zeros where none waits. It is as little trusted as the
+/// buffer. After an acceptance it is searched from the front, and again from the
+/// front as soon as one of its ops is accepted. An op met there that is held
+/// already, or refused for another reason than [`Early`](Refusal::Early) or
+/// [`NoRoom`](Refusal::NoRoom), is dropped, and those behind it move up. Each op
+/// that is left would be refused for one of these two.
+///
+/// # Errors
+///
+/// The first that applies, in this order: [`Unsound`](Refusal::Unsound),
+/// [`BadHoldback`](Refusal::BadHoldback), [`Length`](Refusal::Length),
+/// [`Malformed`](Refusal::Malformed), [`Conflict`](Refusal::Conflict) (where the
+/// same op is held, [`Delivery::HadIt`] is answered here),
+/// [`HoldbackFull`](Refusal::HoldbackFull) (where an early op waits already, or
+/// finds a place, [`Delivery::Waiting`] is answered here),
+/// [`NotClosed`](Refusal::NotClosed), [`Unknown`](Refusal::Unknown),
+/// [`NoRoom`](Refusal::NoRoom). Neither buffer nor holdback has changed then.
+///
+/// ```
+/// use outline::{plain, Delivery, Refusal};
+/// let (mut one, mut two) = ([0; 60], [0; 60]);
+/// plain::make(&mut one)?;
+/// plain::make(&mut two)?;
+/// let mut ops = [[0; plain::OP]; 2];
+/// for op in &mut ops {
+///     plain::issue_add(&mut one, 1, plain::ROOT, op)?;
+/// }
+///
+/// // The second comes first, and waits.
+/// let mut holdback = [0; plain::HOLDBACK];
+/// let answer = plain::holdback_deliver(&mut two, &ops[1], &mut holdback);
+/// assert_eq!(answer, Ok(Delivery::Waiting));
+/// assert_eq!(holdback[0], 1);
+/// assert_eq!(holdback[1..15], ops[1]);
+///
+/// // The first brings both.
+/// let answer = plain::holdback_deliver(&mut two, &ops[0], &mut holdback);
+/// assert_eq!(answer, Ok(Delivery::Accepted(60)));
+/// assert_eq!(holdback, [0; plain::HOLDBACK]);
+/// assert_eq!(one, two);
+///
+/// let answer = plain::holdback_deliver(&mut two, &ops[0], &mut []);
+/// assert_eq!(answer, Err(Refusal::BadHoldback));
+/// # Ok::<(), Refusal>(())
+/// ```
+#[inline]
+pub fn holdback_deliver(
+    buf: &mut [u8],
+    op: &[u8],
+    holdback: &mut [u8],
+) -> Result<Delivery, Refusal> {
+    ffi::holdback_deliver(buf, op, holdback).delivery()
 }
 
 /// Makes a bundle of all ops of a log beyond another's counts, for the log that

@@ -52,6 +52,65 @@ fn delivery() {
 }
 
 #[test]
+fn delivery_with_a_holdback() {
+    let ops = &two_nodes()[32..60];
+    let (first, second) = ops.split_at(14);
+    let mut holdback = [0; plain::HOLDBACK];
+    let mut buf = empty(80);
+    let answer = plain::holdback_deliver(&mut buf, second, &mut holdback);
+    assert_eq!(answer, Ok(Delivery::Waiting));
+    assert_eq!(buf, empty(80));
+    assert_eq!((holdback[0], &holdback[1..15]), (1, second));
+    assert_eq!(holdback[15..], [0; 434]);
+
+    // What leaves all as it was: in the order of the tests.
+    let unchanged = |buf: &mut [u8], op: &[u8], holdback: &mut [u8]| {
+        let before = (buf.to_vec(), holdback.to_vec());
+        let answer = plain::holdback_deliver(buf, op, holdback);
+        assert_eq!((buf.to_vec(), holdback.to_vec()), before);
+        answer
+    };
+    let with = |changes: &[(usize, u8)]| {
+        let mut op = ADD;
+        changes.iter().for_each(|&(at, byte)| op[at] = byte);
+        op
+    };
+    let answer = unchanged(&mut buf[..31], &[], &mut holdback[..448]);
+    assert_eq!(answer, Err(Refusal::Unsound));
+    let answer = unchanged(&mut buf, &[], &mut holdback[..448]);
+    assert_eq!(answer, Err(Refusal::BadHoldback));
+    let answer = unchanged(&mut buf, &ADD[1..], &mut holdback);
+    assert_eq!(answer, Err(Refusal::Length));
+    let answer = unchanged(&mut buf, &with(&[(1, 9), (7, 1)]), &mut holdback);
+    assert_eq!(answer, Err(Refusal::Malformed));
+    let answer = unchanged(&mut buf, second, &mut holdback);
+    assert_eq!(answer, Ok(Delivery::Waiting));
+    let mut full = [7; plain::HOLDBACK];
+    full[0] = 32;
+    let answer = unchanged(&mut buf, second, &mut full);
+    assert_eq!(answer, Err(Refusal::HoldbackFull));
+    let answer = unchanged(&mut buf[..45], &with(&[(3, 2)]), &mut holdback);
+    assert_eq!(answer, Err(Refusal::Unknown));
+    let answer = unchanged(&mut buf[..45], first, &mut holdback);
+    assert_eq!(answer, Err(Refusal::NoRoom));
+
+    let answer = plain::holdback_deliver(&mut buf, first, &mut holdback);
+    assert_eq!(answer, Ok(Delivery::Accepted(60)));
+    assert_eq!(buf[32..60], *ops);
+    assert_eq!(buf[60..], [0xa5; 20]);
+    assert_eq!(holdback, [0; plain::HOLDBACK]);
+    let answer = unchanged(&mut buf, second, &mut holdback);
+    assert_eq!(answer, Ok(Delivery::HadIt));
+    let answer = unchanged(&mut buf, &with(&[(3, 2)]), &mut holdback);
+    assert_eq!(answer, Err(Refusal::Conflict));
+    // Replica 3 has seen 513, and not what replica 2 had seen.
+    plain::issue_add(&mut buf, 2, 257, &mut [0; 14]).unwrap();
+    let gap = with(&[(1, 3), (2, 3), (7, 1)]);
+    let answer = unchanged(&mut buf, &gap, &mut holdback);
+    assert_eq!(answer, Err(Refusal::NotClosed));
+}
+
+#[test]
 fn issuing() {
     let mut buf = two_nodes();
     let before = buf.clone();

@@ -319,14 +319,14 @@ module _ (f b : List ℕ) where
     pub open-asks : wholeBundle width b ≡ true → Openable f b
     open-asks e = record { is-sound = s; is-whole = e }
 
----- what the code of opening needs: search opening
+---- what the code of opening needs: search opening, and for its loop search taking
 
 pub ruleset passing = (passed-refused, passed-held, passed-waiting, passed-done, passed-new, body-sound, body-passed, body-unread)
 
-pub ruleset taking = (taken-starts, taken-place, taken-refused, taken-on, taken-ends)
+pub ruleset taking = (needs, tested, body-sound, taken-starts, taken-place, taken-refused, taken-on, taken-ends)
 
 pub ruleset trying = (trial-some, trial-front, trial-fits, trial-head, trial-bodies, trial-tried, trial-ended)
 
 pub ruleset copying = (reach-all, reach-most, reach-small, open-trial, open-refused, open-fits, open-done)
 
-pub ruleset opening = (needs, tested, passing, taking, trying, copying, open-unsound, open-torn, open-asks)
+pub ruleset opening = (needs, tested, passing, trying, copying, open-unsound, open-torn, open-asks)

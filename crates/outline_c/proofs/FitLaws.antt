@@ -11,12 +11,14 @@ use Rattle.rules.specs.Measure.{countsAnswer, countsCall, endAnswer}
 use Rattle.rules.specs.Path.{pathAnswer, pathOf, pathCall}
 use Rattle.rules.proofs.DeliverLaws.{admitted, required, accepted-same}
 use Rattle.rules.proofs.IssueLaws.{allowed}
-use Rattle.rules.proofs.SoundLaws.{sound-laid}
+use Rattle.rules.proofs.ReleaseLaws.{accepted-says, released-sound}
+use Rattle.rules.proofs.SoundLaws.{sound-end, sound-laid}
 use Rattle.rules.proofs.TurnLaws.{turns-end, turns-length, turns-sound}
 use Rattle.order.proofs.TourLaws.{sound-listing}
 use Rattle.rules.specs.Answer.{Answer, refused, hadIt, waiting, done, accepted}
 use Rattle.rules.specs.Bundle.{bodiesIn, bundleAnswer, bundleCall, bundleOf, openAnswer, turnsAnswer, turnsBuffer}
 use Rattle.rules.specs.Deliver.{makeAnswer, deliverAnswer}
+use Rattle.rules.specs.Holdback.{holdbackAnswer, released}
 use Rattle.rules.specs.Op.{Vector}
 use Rattle.rules.specs.Issue.{Request, issueAnswer}
 use Rattle.rules.specs.Judge.{judge, judgeAnswer}
@@ -113,6 +115,13 @@ open-fits f b h =
     let t : turnsAnswer width f ops ≡ accepted m = required _ _ _ m (c .1) .1 in
     let inside = sound-laid width (turnsBuffer width f ops) (turns-sound width ops f (c .0)) .fits in
     omega (arith, inside, turns-end width ops f m t, turns-length width ops f))
+
+pub holdback-fits : (f r h : List ℕ) → fits (holdbackAnswer width f r h)
+holdback-fits f r h =
+    fits-if (holdbackAnswer width f r h)
+    (λ m e.
+    let x = accepted-says width f r h m e in
+    omega (arith, x .end, sound-end width (released width f r h .buffer) (released-sound width f r h (x .is-sound))))
 
 -- an answer that fits and accepts a value
 pub value-fits : (a : Answer) (n : ℕ) → a ≡ accepted n → fits a → n ≤ 9223372036854775807

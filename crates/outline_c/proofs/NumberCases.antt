@@ -10,6 +10,7 @@ use Rattle.codec.specs.declared.answer.Refusal.{Refusal}
 use Rattle.rules.specs.Answer.{Answer}
 use Rattle.rules.specs.Bundle.{bundleCall, openBundle}
 use Rattle.rules.specs.Deliver.{Result, make, deliver}
+use Rattle.rules.specs.Holdback.{HoldbackResult, deliverHoldback}
 use Rattle.rules.specs.Op.{Vector}
 use Rattle.rules.specs.Issue.{Issued, Request, issue}
 use Rattle.rules.specs.Judge.{Judgement, judge}
@@ -18,10 +19,10 @@ use Rattle.rules.specs.File.{width}
 use Rattle.rules.specs.Measure.{countsCall, endAnswer}
 use Rattle.rules.specs.Path.{Written, pathCall}
 use Rattle.rules.specs.Views.{View}
-use Rattle.outline_c.specs.Number.{number, ofResult, ofIssued, ofJudgement, ofWritten}
+use Rattle.outline_c.specs.Number.{number, ofResult, ofHoldback, ofIssued, ofJudgement, ofWritten}
 use Rattle.outline_c.specs.Fits.{fits}
 use Rattle.outline_c.proofs.FitLaws.{make-fits, deliver-fits, issue-fits, judge-fits, path-fits, listing-fits}
-use Rattle.outline_c.proofs.FitLaws.{size-fits, end-fits, counts-fits, bundle-fits, open-fits, value-fits}
+use Rattle.outline_c.proofs.FitLaws.{holdback-fits, size-fits, end-fits, counts-fits, bundle-fits, open-fits, value-fits}
 use Rattle.codec.specs.declared.answer.Answer as code
 
 ---- the number of an answer
@@ -56,6 +57,9 @@ module _ (a : code.Answer) where
 module _ (a : Answer) (n : ℕ) (is : n ≡ number a) where
   pub result-over : (b : List ℕ) (x : Result) → record { answer = a; buffer = b } ≡ x → (n, b) ≡ ofResult x
   result-over b x e = rw is (ap ofResult e)
+
+  pub holdback-over : (b h : List ℕ) (x : HoldbackResult) → record { answer = a; buffer = b; holdback = h } ≡ x → (n, b, h) ≡ ofHoldback x
+  holdback-over b h x e = rw is (ap ofHoldback e)
 
   pub issued-over : (b o : List ℕ) (x : Issued) → record { answer = a; buffer = b; out = o } ≡ x → (n, b, o) ≡ ofIssued x
   issued-over b o x e = rw is (ap ofIssued e)
@@ -123,11 +127,15 @@ module _ (a : Answer) where
       (f bundle b : List ℕ) → record { answer = a; buffer = b } ≡ openBundle width f bundle → length f ≤ 9223372036854775807 → fits a
   opened-fits f bundle b e h = rw (ap (λ (x : Result). x .answer) e) (open-fits f bundle h)
 
+  pub held-fits :
+      (f op h b k : List ℕ) → record { answer = a; buffer = b; holdback = k } ≡ deliverHoldback width f op h → fits a
+  held-fits f op h b k e = rw (ap (λ (x : HoldbackResult). x .answer) e) (holdback-fits f op h)
+
 ---- what the code of numbers needs: search numbering
 pub ruleset answers = (refused-number, had-it-number, waiting-number, done-number, accepted-number, accepted-fits)
 
-pub ruleset handing = (result-over, issued-over, judgement-over, written-over, listing-over, answer-over, size-over)
+pub ruleset handing = (result-over, holdback-over, issued-over, judgement-over, written-over, listing-over, answer-over, size-over)
 
-pub ruleset fitting = (made-fits, delivered-fits, issued-fits, judged-fits, path-written, listing-written, sized-fits, counted-fits)
+pub ruleset fitting = (made-fits, delivered-fits, held-fits, issued-fits, judged-fits, path-written, listing-written, sized-fits, counted-fits)
 
 pub ruleset numbering = (needs, answers, handing, fitting)

@@ -4,12 +4,13 @@ use mathlib.Core.Bool.{Bool, true, false}
 use mathlib.Core.List.{List}
 use Rattle.rules.specs.Answer.{Answer, refused, hadIt, waiting, done, accepted}
 use Rattle.rules.specs.Deliver.{Result}
+use Rattle.rules.specs.Holdback.{HoldbackResult}
 use Rattle.rules.specs.Issue.{Issued}
 use Rattle.rules.specs.Judge.{Judgement}
 use Rattle.rules.specs.Path.{Written}
 use Rattle.rules.specs.Views.{View, keeping, skipping}
 
--- a refusal by the document's number; 128 had it, 129 done, above every refusal that may come; from 256 on, 256 and the value
+-- a refusal by the document's number; 128 had it, 129 done, 130 waiting, above every refusal that may come; from 256 on, 256 and the value
 unfoldable pub number : Answer → ℕ
 number (refused n) = n
 number hadIt = 128
@@ -21,6 +22,9 @@ number (accepted n) = 256 + n
 abbrev pub ofResult : Result → ℕ × List ℕ
 ofResult x = (number (x .answer), x .buffer)
 
+abbrev pub ofHoldback : HoldbackResult → ℕ × List ℕ × List ℕ
+ofHoldback x = (number (x .answer), x .buffer, x .holdback)
+
 abbrev pub ofIssued : Issued → ℕ × List ℕ × List ℕ
 ofIssued x = (number (x .answer), x .buffer, x .out)
 
@@ -30,9 +34,9 @@ ofJudgement x = (number (x .answer), x .parents, x .outcomes)
 abbrev pub ofWritten : Written → ℕ × List ℕ
 ofWritten x = (number (x .answer), x .out)
 
--- 0.3.0, as 10000 * major + 100 * minor + patch
+-- 0.4.0, as 10000 * major + 100 * minor + patch
 abbrev pub version : ℕ
-version = 300
+version = 400
 
 -- the view that a caller asks for
 unfoldable pub viewFor : Bool → View

@@ -3,6 +3,7 @@
 mod answer;
 mod bundles;
 mod calls;
+mod holdbacks;
 
 pub use bundles::outline_bundle_make;
 pub use bundles::outline_bundle_open;
@@ -19,3 +20,4 @@ pub use calls::outline_listing_size;
 pub use calls::outline_make;
 pub use calls::outline_path;
 pub use calls::outline_version;
+pub use holdbacks::outline_holdback_deliver;

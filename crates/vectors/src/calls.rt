@@ -213,6 +213,33 @@ fn make_bundle(file: &[u8], line: &[u8]) {
     bundle_part(file, counts, &mut out, n);
 }
 
+fn deliver_with(buf: &mut [u8], op: &[u8], holdback: &mut [u8]) {
+    answered(holdback::deliver(buf, op, holdback));
+    memory(buf);
+    memory(holdback);
+}
+
+fn deliver_part(buf: &mut [u8], op: &[u8], holdback: &mut [u8], n: usize) {
+    if holdback.len() < n {
+        return;
+    }
+    deliver_with(buf, op, &mut holdback[..n]);
+}
+
+// The op's length stands before it, and the holdback behind it.
+fn deliver_held(buf: &mut [u8], line: &[u8]) {
+    if line.len() < 2 {
+        return;
+    }
+    let end = 2 + widen(line[1]);
+    if line.len() < end {
+        return;
+    }
+    let mut holdback = [0u8; 600];
+    let n = load(&mut holdback, &line[end..]);
+    deliver_part(buf, &line[2..end], &mut holdback, n);
+}
+
 fn open_bundle(buf: &mut [u8], bytes: &[u8]) {
     answered(bundle::open(buf, bytes));
     memory(buf);
@@ -290,7 +317,11 @@ fn dispatch(call: u8, line: &[u8], lent: &mut [u8]) {
             open_bundle(lent, &line[1..]);
             return;
         }
-        0 | 10 | 13..=255 => {
+        13 => {
+            deliver_held(lent, line);
+            return;
+        }
+        0 | 10 | 14..=255 => {
             text(b"l");
             memory(lent);
             return;

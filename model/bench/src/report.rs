@@ -11,10 +11,10 @@ Made by `model/bench/run`; do not edit.
 Every call of the library is measured beside the same call in safe Rust, written with equal care for speed over the same algorithms
 (model/bench/src/careful; its tests compare it with the model): no allocation, one pass for soundness, which looks up only those counts of a
 version vector that have changed since its replica's op before, vectors compared four or eight counts at a time, replay level by level, a
-linear listing, a bundle opened in one copy of the log. Both are compiled by LLVM at the highest level for the same processor, the Rust with its
-bounds checks and without checks of overflow. One program calls both in turn, many times; the least time of each counts. It calls the library
-through the Rust crate, which makes a `Result` of the number that the library answers: at `make`, of eight instructions, that is most of the
-time.
+linear listing, a bundle opened in one copy of the log, a holdback searched in place. Both are compiled by LLVM at the highest level for the
+same processor, the Rust with its bounds checks and without checks of overflow. One program calls both in turn, many times; the least time of
+each counts. It calls the library through the Rust crate, which makes a `Result` of the number that the library answers: at `make`, of eight
+instructions, that is most of the time.
 
 Logs: **flat** has adds under the root, of all eight replicas, each by itself; **deep** is one chain, each node under the one before and each
 op counting all before; **random** has replicas that add, remove and move, and hear of each other now and then. The size is the number of
@@ -26,9 +26,14 @@ A whole exchange delivers all ops of a log to an empty one, one by one, in causa
 **interleaved**: one chain in which the eight replicas take turns, the highest first. Offered in the order of the file until none is early, its
 2,040 ops would take 1,786 rounds.
 
-A bundle is made of all ops of the log, and opened at an empty one. The last two rows have two random logs of 1,000 ops each, one of replicas
+A bundle is made of all ops of the log, and opened at an empty one. Two logs that meet are random logs of 1,000 ops each, one of replicas
 1 to 4 and the other of 5 to 8, which have nothing in common. By bundles, each makes one for the counts of the other, and opens the one that
 it gets; op by op, each delivers the ops of the other in causal order.
+
+A delivery with a holdback: with an empty one, of the same op as by `deliver`. In the rows below that, the interleaved log lacks its last 33
+ops. One **waits**: the very last comes, and 31 of the others wait; a plain delivery refuses it as early. One **frees 32**: the first comes,
+and the others wait, the last of them first, so that the search starts again from the front 32 times; or the 33 come one by one, in causal
+order.
 ";
 
 pub fn text(found: &[Found]) -> String {

@@ -8,7 +8,7 @@ use outline_bench::careful;
 use outline_model::cases::examples;
 use outline_model::cases::world::{Style, World};
 use outline_model::rng::Rng;
-use outline_model::{Answer, Op, View, MAX_FILE, OP_LEN, REPLICAS, SLOTS};
+use outline_model::{Answer, Op, View, MAX_FILE, OP_LEN, REPLICAS, SLOTS, TRAY_PLACES};
 use std::hint::black_box;
 
 pub const SIZES: [usize; 4] = [0, 100, 1000, 2040];
@@ -48,16 +48,7 @@ impl Shape {
             }
             Shape::Deep => examples::longest_chain()[..size].to_vec(),
             Shape::Random => World::random(&mut Rng::new(7), Style::mixed(8, size)).ops,
-            Shape::Interleaved => {
-                let mut ops: Vec<Op> = vec![];
-                let mut counts = [0; REPLICAS];
-                for (index, _) in (0..REPLICAS).rev().cycle().zip(0..size) {
-                    let parent = ops.last().map_or(0, |op| op.node);
-                    ops.push(examples::add(index as u8 + 1, parent, &counts));
-                    counts[index] += 1;
-                }
-                ops
-            }
+            Shape::Interleaved => examples::turns(size),
         }
     }
 }
@@ -83,9 +74,19 @@ pub enum Call {
     Bundles,
     /// The same two op by op, in causal order.
     OpByOp,
+    /// A delivery with an empty holdback.
+    Holdback,
+    /// One of an early op, where 31 others of a chain wait.
+    Waits,
+    /// The same op by a plain delivery, which refuses it.
+    Early,
+    /// One of the first op of a chain, where the 32 others wait, the last first.
+    Frees,
+    /// The same 33 ops by plain deliveries, in causal order.
+    InTurn,
 }
 
-pub const CALLS: [Call; 14] = [
+pub const CALLS: [Call; 19] = [
     Call::Make,
     Call::Deliver,
     Call::Add,
@@ -100,6 +101,11 @@ pub const CALLS: [Call; 14] = [
     Call::Exchange,
     Call::Bundles,
     Call::OpByOp,
+    Call::Holdback,
+    Call::Waits,
+    Call::Early,
+    Call::Frees,
+    Call::InTurn,
 ];
 
 impl Call {
@@ -119,17 +125,42 @@ impl Call {
             Call::Exchange => "a whole exchange",
             Call::Bundles => "two logs meet, by bundles",
             Call::OpByOp => "two logs meet, op by op",
+            Call::Holdback => "holdback_deliver, empty",
+            Call::Waits => "holdback_deliver, waits",
+            Call::Early => "the same by deliver, early",
+            Call::Frees => "holdback_deliver, frees 32",
+            Call::InTurn => "the same 33 by deliver",
         }
     }
 
     /// Whether the call adds an op, so that a full log can take none.
     fn adds(self) -> bool {
-        matches!(self, Call::Deliver | Call::Add | Call::Remove | Call::Move)
+        self.brings_last() || matches!(self, Call::Add | Call::Remove | Call::Move)
+    }
+
+    /// Whether the call delivers the last op of the log.
+    fn brings_last(self) -> bool {
+        matches!(self, Call::Deliver | Call::Holdback)
+    }
+
+    /// Whether the log lacks a chain.
+    fn has_chain(self) -> bool {
+        matches!(self, Call::Waits | Call::Early | Call::Frees | Call::InTurn)
     }
 
     /// Whether the call fills an empty log.
     fn fills(self) -> bool {
         matches!(self, Call::BundleOpen | Call::Exchange)
+    }
+
+    /// Whether the call changes its buffer.
+    fn changes(self) -> bool {
+        self.adds() || self.fills() || matches!(self, Call::Frees | Call::InTurn)
+    }
+
+    /// Whether the call is lent a holdback.
+    fn has_holdback(self) -> bool {
+        matches!(self, Call::Holdback | Call::Waits | Call::Frees)
     }
 
     /// Whether two logs meet.
@@ -149,8 +180,11 @@ pub struct Work {
     call: Call,
     file: Vec<u8>,
     buffer: Vec<u8>,
-    /// What an exchange or a bundle hands over.
+    /// What an exchange, a bundle or a chain hands over.
     offered: Vec<u8>,
+    /// What a delivery is lent as its holdback, and what it makes of it.
+    waiting: Vec<u8>,
+    holdback: Vec<u8>,
     meeting: Meeting,
     op: Vec<u8>,
     replica: u8,
@@ -164,25 +198,38 @@ pub struct Work {
 impl Work {
     pub fn new(call: Call, shape: Shape, size: usize) -> Work {
         let mut ops = shape.ops(size.max(1));
+        let chain = if call.has_chain() {
+            ops.split_off(ops.len() - CHAIN)
+        } else {
+            vec![]
+        };
         let last = last(&ops);
-        // What a delivery brings: an op that no other counts.
-        let op = ops[last].bytes().to_vec();
+        // What a delivery brings: an op that no other counts, or one of the chain.
+        let op = match call {
+            Call::Frees => chain[0],
+            Call::Waits | Call::Early => chain[CHAIN - 1],
+            _ => ops[last],
+        };
         // A call that adds fills a log of the greatest size.
-        if size == 0 || call == Call::Deliver || (call.adds() && ops.len() == MAX_OPS) {
+        if size == 0 || call.brings_last() || (call.adds() && ops.len() == MAX_OPS) {
             ops.remove(last);
         }
         let log = examples::log_of(&ops);
         let mut file = log.bytes();
         let offered = match call {
             Call::BundleOpen => examples::bundle_for(&file, [0; REPLICAS]),
+            Call::InTurn => chain.iter().flat_map(Op::bytes).collect(),
             _ => file.clone(),
         };
+        let others = chain.iter().skip(1).rev().filter(|&other| *other != op);
+        let waiting = examples::tray_of(&others.copied().collect::<Vec<_>>());
         if call.fills() {
             let length = file.len();
             file = examples::file_of(&[]);
             file.resize(length, 0);
         }
-        file.resize((file.len() + OP_LEN).min(MAX_FILE), 0);
+        let room = OP_LEN * chain.len().max(1);
+        file.resize((file.len() + room).min(MAX_FILE), 0);
         let counts = log.held();
         let replica = counts.iter().position(|&count| count < 255).unwrap_or(0);
         let (node, parent) = names(&log);
@@ -191,12 +238,14 @@ impl Work {
             buffer: file.clone(),
             file,
             offered,
+            holdback: waiting.clone(),
+            waiting,
             meeting: if call.meets() {
                 Meeting::new(size)
             } else {
                 Meeting::default()
             },
-            op,
+            op: op.bytes().to_vec(),
             replica: replica as u8 + 1,
             node,
             parent,
@@ -210,8 +259,11 @@ impl Work {
     /// accepted.
     #[inline]
     pub fn once(&mut self, side: Side) -> bool {
-        if self.call.adds() || self.call.fills() {
+        if self.call.changes() {
             self.buffer.copy_from_slice(&self.file);
+        }
+        if self.call.has_holdback() {
+            self.holdback.copy_from_slice(&self.waiting);
         }
         if self.call.meets() {
             self.meeting.part();
@@ -220,10 +272,12 @@ impl Work {
         match (self.call, side) {
             (Call::Make, Side::Library) => callgrind::count(|| plain::make(buffer).is_ok()),
             (Call::Make, Side::Rust) => accepted(|| careful::make(buffer)),
-            (Call::Deliver, Side::Library) => {
+            (Call::Deliver | Call::Early, Side::Library) => {
                 callgrind::count(|| plain::deliver(buffer, &self.op).is_ok())
             }
-            (Call::Deliver, Side::Rust) => accepted(|| careful::deliver(buffer, &self.op)),
+            (Call::Deliver | Call::Early, Side::Rust) => {
+                accepted(|| careful::deliver(buffer, &self.op))
+            }
             (Call::Add, Side::Library) => callgrind::count(|| {
                 plain::issue_add(buffer, self.replica, self.parent, &mut self.out).is_ok()
             }),
@@ -283,6 +337,13 @@ impl Work {
             (Call::Exchange, _) => callgrind::count(|| hand_over(&self.offered, buffer, side)),
             (Call::Bundles, _) => callgrind::count(|| self.meeting.by_bundles(side)),
             (Call::OpByOp, _) => callgrind::count(|| self.meeting.op_by_op(side)),
+            (Call::Holdback | Call::Waits | Call::Frees, Side::Library) => callgrind::count(|| {
+                plain::holdback_deliver(buffer, &self.op, &mut self.holdback).is_ok()
+            }),
+            (Call::Holdback | Call::Waits | Call::Frees, Side::Rust) => {
+                accepted(|| careful::deliver_tray(buffer, &self.op, &mut self.holdback))
+            }
+            (Call::InTurn, _) => callgrind::count(|| in_turn(&self.offered, buffer, side)),
         }
     }
 
@@ -297,6 +358,7 @@ impl Work {
             left.push((
                 accepted,
                 self.buffer.clone(),
+                self.holdback.clone(),
                 self.meeting.buffers.clone(),
                 self.out.clone(),
                 self.words.clone(),
@@ -309,6 +371,16 @@ impl Work {
 }
 
 const MAX_OPS: usize = SLOTS - 1;
+/// One op, and those that can wait for it.
+const CHAIN: usize = 1 + TRAY_PLACES;
+
+/// Delivers these ops one by one.
+fn in_turn(ops: &[u8], buffer: &mut [u8], side: Side) -> bool {
+    ops.chunks_exact(OP_LEN).all(|op| match side {
+        Side::Library => plain::deliver(buffer, op).is_ok(),
+        Side::Rust => matches!(careful::deliver(buffer, op), Answer::Accepted(_)),
+    })
+}
 
 #[inline]
 fn accepted(call: impl FnOnce() -> Answer) -> bool {
@@ -323,6 +395,7 @@ pub fn all() -> impl Iterator<Item = (Call, Shape, usize)> {
                 (Call::Make, _) => shape == Shape::Flat && size == 0,
                 (Call::Exchange, _) => shape == Shape::Interleaved && size > 0,
                 (Call::Bundles | Call::OpByOp, _) => shape == Shape::Random && size == 1000,
+                _ if call.has_chain() => shape == Shape::Interleaved && size > CHAIN,
                 (_, Shape::Interleaved) => false,
                 _ => size > 0 || shape == Shape::Flat,
             };

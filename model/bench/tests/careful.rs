@@ -1,7 +1,7 @@
 //! The measured Rust answers and leaves behind what the model does.
 
 use outline_bench::careful;
-use outline_model::cases::world::{full, part, Style, World};
+use outline_model::cases::world::{self, full, part, Style, World};
 use outline_model::cases::{damage, examples};
 use outline_model::rng::Rng;
 use outline_model::{Answer, Op, Vector, View, MAX_FILE, SLOTS};
@@ -94,6 +94,10 @@ fn all_calls(rng: &mut Rng, buffer: &[u8], ops: &[Op]) {
     ] {
         open(buffer, &bundle);
     }
+    for tray in [vec![], vec![0; 449], examples::tray_of(&examples::p1())] {
+        let op = ops.first().map_or(vec![1; 14], |op| op.bytes().to_vec());
+        deliver_tray(buffer, &op, &tray);
+    }
     make(
         buffer,
         counts_near(rng, [3; 8]),
@@ -132,6 +136,22 @@ fn open(buffer: &[u8], bundle: &[u8]) -> Answer {
         },
     );
     answer
+}
+
+/// Delivers with a tray at both, and hands back the answer, the buffer and the
+/// tray.
+fn deliver_tray(buffer: &[u8], op: &[u8], tray: &[u8]) -> (Answer, Vec<u8>, Vec<u8>) {
+    let mut answer = Answer::Done;
+    let (buffer, tray) = both(
+        buffer,
+        tray,
+        |b, t| careful::deliver_tray(b, op, t),
+        |b, t| {
+            answer = outline_model::deliver_tray(b, op, t);
+            answer
+        },
+    );
+    (answer, buffer, tray)
 }
 
 /// A bit more or less than these, or any below them.
@@ -346,4 +366,106 @@ fn changed_counts() {
         }
     }
     assert!(sound[0] > 100 && sound[1] > 100, "{sound:?}");
+}
+
+/// Parts of worlds with trays of the rest of them, and of any other content. Each
+/// call is lent what the last one left.
+#[test]
+fn trays() {
+    let mut rng = Rng::new(7);
+    let mut refused = [0; 15];
+    let [mut accepted, mut had_it, mut waiting, mut freed] = [0; 4];
+    for round in 0..8000 {
+        let style = [Style::moves, Style::mixed][round % 2](1 + round % 8, 1 + rng.below(50));
+        let ops = World::random(&mut rng, style).ops;
+        let share = rng.below(ops.len() + 1);
+        let held = part(&mut rng, &ops[..share], 40);
+        let mut buffer = examples::file_of(&held);
+        let room = rng.pick(&[0, 13, 14, 60, 700, 700, 700]);
+        buffer.resize(buffer.len() + room, 9);
+        if rng.one_in(25) {
+            buffer = damage::random(&mut rng, &buffer);
+        }
+        let counts = examples::log_of(&held).held();
+        let mut tray = world::tray(&mut rng, &ops, &counts);
+        match rng.below(25) {
+            0 => tray = damage::tray(&mut rng, &tray),
+            1 => tray = damage::random(&mut rng, &tray),
+            2 => tray = (0..449).map(|_| rng.byte()).collect(),
+            _ => {}
+        }
+        let next = ops
+            .iter()
+            .find(|op| op.sequence() > usize::from(counts[op.index()]));
+        for call in 0..3 {
+            let op = match next {
+                Some(op) if call == 0 => *op,
+                _ => rng.pick(&ops),
+            };
+            let mut op = op.bytes().to_vec();
+            if rng.one_in(5) {
+                op = damage::record(&mut rng, &op);
+            }
+            let end = outline_model::file_end(&buffer);
+            let answer;
+            (answer, buffer, tray) = deliver_tray(&buffer, &op, &tray);
+            match (end, answer) {
+                (Answer::Count(old), Answer::Accepted(new)) => {
+                    accepted += 1;
+                    freed += (new - old) / 14 - 1;
+                }
+                (_, Answer::HadIt) => had_it += 1,
+                (_, Answer::Waiting) => waiting += 1,
+                (_, Answer::Refused(number)) => refused[usize::from(number)] += 1,
+                other => panic!("{other:?}"),
+            }
+        }
+    }
+    for number in [1, 2, 3, 4, 6, 7, 8, 13, 14] {
+        assert!(refused[number] > 20, "{refused:?}");
+    }
+    assert!(had_it > 500 && waiting > 500, "{had_it} {waiting}");
+    assert!(accepted > 3000 && freed > 3000, "{accepted} {freed}");
+}
+
+/// Every byte of a small tray changed, and every length.
+#[test]
+fn damaged_trays() {
+    for ops in examples::small_logs() {
+        let waiting: Vec<Op> = ops.iter().skip(1).rev().copied().collect();
+        let tray = examples::tray_of(&waiting);
+        let op = ops.first().map_or(vec![1; 14], |op| op.bytes().to_vec());
+        let mut buffer = examples::file_of(&[]);
+        buffer.resize(buffer.len() + 14 * ops.len(), 9);
+        for damaged in damage::changed(&tray).chain(damage::cut(&tray)) {
+            deliver_tray(&buffer, &op, &damaged);
+            deliver_tray(&buffer, &op, &[damaged, vec![0]].concat());
+        }
+    }
+}
+
+/// A chain of 33 in any order, at a short log and at one that it fills.
+#[test]
+fn chains() {
+    let mut rng = Rng::new(8);
+    for ops in [examples::turns(2040), examples::longest_chain()] {
+        for end in [33, 500, 2040] {
+            let (held, chain) = ops[..end].split_at(end - 33);
+            let mut waiting = chain[1..].to_vec();
+            waiting.reverse();
+            for room in [33, 33, 32, 20, 0] {
+                let mut buffer = examples::file_of(held);
+                let first = chain[0].bytes();
+                buffer.resize(buffer.len() + 14 * room, 9);
+                deliver_tray(&buffer, &first, &examples::tray_of(&waiting));
+                deliver_tray(&buffer, &waiting[3].bytes(), &examples::tray_of(&waiting));
+                deliver_tray(
+                    &buffer,
+                    &waiting[3].bytes(),
+                    &examples::tray_of(&waiting[4..]),
+                );
+                rng.shuffle(&mut waiting);
+            }
+        }
+    }
 }

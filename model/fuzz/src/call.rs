@@ -50,9 +50,13 @@ pub enum Call {
         room: usize,
     },
     BundleOpen(Vec<u8>),
+    HoldbackDeliver {
+        op: Vec<u8>,
+        holdback: Vec<u8>,
+    },
 }
 
-pub const NAMES: [&str; 14] = [
+pub const NAMES: [&str; 15] = [
     "make",
     "deliver",
     "issue_add",
@@ -67,6 +71,7 @@ pub const NAMES: [&str; 14] = [
     "counts",
     "bundle_make",
     "bundle_open",
+    "holdback_deliver",
 ];
 
 impl Call {
@@ -87,6 +92,7 @@ impl Call {
             Call::Counts { .. } => 11,
             Call::BundleMake { .. } => 12,
             Call::BundleOpen(_) => 13,
+            Call::HoldbackDeliver { .. } => 14,
         }
     }
 }
@@ -96,6 +102,7 @@ impl Call {
 pub enum Outcome {
     Refused(u8),
     HadIt,
+    Waiting,
     Done,
     Value(usize),
 }
@@ -129,6 +136,7 @@ pub trait Side {
     fn counts(file: &[u8], out: &mut [u8]) -> Outcome;
     fn bundle_make(file: &[u8], counts: &Vector, out: &mut [u8]) -> Outcome;
     fn bundle_open(buf: &mut [u8], bundle: &[u8]) -> Outcome;
+    fn holdback_deliver(buf: &mut [u8], op: &[u8], holdback: &mut [u8]) -> Outcome;
 }
 
 pub struct Library;
@@ -136,6 +144,16 @@ pub struct Model;
 
 fn value(answer: Result<usize, Refusal>) -> Outcome {
     answer.map_or_else(|why| Outcome::Refused(why.number()), Outcome::Value)
+}
+
+/// What a plain delivery can answer.
+fn delivered(answer: Result<Delivery, Refusal>) -> Outcome {
+    match answer {
+        Ok(Delivery::Accepted(end)) => Outcome::Value(end),
+        Ok(Delivery::HadIt) => Outcome::HadIt,
+        Ok(other) => unreachable!("a plain delivery answers {other:?}"),
+        Err(why) => Outcome::Refused(why.number()),
+    }
 }
 
 /// The number of an answer that is refused or has a value.
@@ -159,12 +177,7 @@ impl Side for Library {
     }
 
     fn deliver(buf: &mut [u8], op: &[u8]) -> Outcome {
-        match plain::deliver(buf, op) {
-            Ok(Delivery::Accepted(end)) => Outcome::Value(end),
-            Ok(Delivery::HadIt) => Outcome::HadIt,
-            Ok(other) => unreachable!("a plain delivery answers {other:?}"),
-            Err(why) => Outcome::Refused(why.number()),
-        }
+        delivered(plain::deliver(buf, op))
     }
 
     fn issue_add(buf: &mut [u8], replica: u8, parent: u16, out: &mut [u8]) -> Outcome {
@@ -217,6 +230,13 @@ impl Side for Library {
     fn bundle_open(buf: &mut [u8], bundle: &[u8]) -> Outcome {
         value(plain::bundle_open(buf, bundle))
     }
+
+    fn holdback_deliver(buf: &mut [u8], op: &[u8], holdback: &mut [u8]) -> Outcome {
+        match plain::holdback_deliver(buf, op, holdback) {
+            Ok(Delivery::Waiting) => Outcome::Waiting,
+            other => delivered(other),
+        }
+    }
 }
 
 impl From<Answer> for Outcome {
@@ -224,6 +244,7 @@ impl From<Answer> for Outcome {
         match answer {
             Answer::Accepted(value) | Answer::Count(value) => Outcome::Value(value),
             Answer::HadIt => Outcome::HadIt,
+            Answer::Waiting => Outcome::Waiting,
             Answer::Done => Outcome::Done,
             Answer::Refused(number) => Outcome::Refused(number),
         }
@@ -285,6 +306,10 @@ impl Side for Model {
 
     fn bundle_open(buf: &mut [u8], bundle: &[u8]) -> Outcome {
         outline_model::open_bundle(buf, bundle).into()
+    }
+
+    fn holdback_deliver(buf: &mut [u8], op: &[u8], holdback: &mut [u8]) -> Outcome {
+        outline_model::deliver_tray(buf, op, holdback).into()
     }
 }
 
@@ -385,6 +410,16 @@ pub fn run<S: Side>(call: &Call, buffer: &mut Lent<u8>, guards: Guards, salt: us
         Call::BundleOpen(ref bundle) => {
             bytes.push(lender.copy(bundle));
             S::bundle_open(buf, bytes[0].get())
+        }
+        Call::HoldbackDeliver {
+            ref op,
+            ref holdback,
+        } => {
+            let op = lender.copy(op);
+            let mut holdback = lender.copy(holdback);
+            let outcome = S::holdback_deliver(buf, op.get(), holdback.get_mut());
+            bytes.extend([op, holdback]);
+            outcome
         }
     };
     After {

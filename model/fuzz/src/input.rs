@@ -1,11 +1,11 @@
 //! What is called: files, sound and damaged, short and full, and calls on them.
 
 use crate::call::Call;
-use outline::plain::LARGEST_BUNDLE;
-use outline_model::cases::world::{full, part, Style, World};
+use outline::plain::{HOLDBACK, LARGEST_BUNDLE};
+use outline_model::cases::world::{full, part, tray, Style, World};
 use outline_model::cases::{damage, examples};
 use outline_model::rng::Rng;
-use outline_model::{Kind, Log, Op, Vector, View, MAX_FILE, OP_LEN, SLOTS};
+use outline_model::{Kind, Log, Op, Vector, View, MAX_FILE, OP_LEN, SLOTS, TRAY_PLACES};
 
 /// A buffer with a log at its front, and ops to call it with.
 pub struct Input {
@@ -157,9 +157,9 @@ impl Input {
         20 + rng.below(60)
     }
 
-    /// A call on the buffer as the calls before have left it.
-    pub fn call(&self, rng: &mut Rng, buffer: &[u8]) -> Call {
-        match rng.below(112) {
+    /// A call on buffer and holdback as the calls before have left them.
+    pub fn call(&self, rng: &mut Rng, buffer: &[u8], holdback: &[u8]) -> Call {
+        match rng.below(140) {
             0 => Call::Make,
             1..=35 => Call::Deliver(self.record(rng)),
             36 => Call::IsSound,
@@ -198,6 +198,11 @@ impl Input {
             },
             91..=95 => bundle_make(rng, buffer),
             96..=102 => Call::BundleOpen(self.bundle(rng, buffer)),
+            112.. => {
+                let holdback = self.holdback(rng, buffer, holdback);
+                let op = self.next(rng, buffer, &holdback);
+                Call::HoldbackDeliver { op, holdback }
+            }
             _ => Call::Listing {
                 view: view(rng),
                 room: if self.is_large() || rng.one_in(4) {
@@ -269,6 +274,55 @@ impl Input {
         }
     }
 
+    /// A holdback: as it was left, or with ops that come next, often the last of
+    /// them first, and others that never go, or of any bytes; some are damaged.
+    /// The model takes as long for an op that it meets as for a delivery, so few
+    /// have many at a large log.
+    fn holdback(&self, rng: &mut Rng, buffer: &[u8], left: &[u8]) -> Vec<u8> {
+        let mut holdback = match rng.below(12) {
+            0 => any_holdback(rng),
+            1..=4 => left.to_vec(),
+            _ => tray(rng, &self.ops, &held(buffer)),
+        };
+        if self.is_large() && is_in_order(&holdback) && !rng.one_in(20) {
+            let count = holdback[0].min(3);
+            holdback[0] = count;
+            holdback[1 + OP_LEN * usize::from(count)..].fill(0);
+        }
+        match rng.below(40) {
+            0 | 1 if is_in_order(&holdback) => damage::tray(rng, &holdback),
+            2 if !holdback.is_empty() => damage::random(rng, &holdback),
+            _ => holdback,
+        }
+    }
+
+    /// An op to deliver with a holdback: often the first that the log lacks, which
+    /// frees others, or one soon after it, which waits; or a new one, if it lacks
+    /// none. Now and then one that waits already, or that a full holdback refuses.
+    fn next(&self, rng: &mut Rng, buffer: &[u8], holdback: &[u8]) -> Vec<u8> {
+        if is_in_order(holdback) && rng.one_in(6) {
+            let count = usize::from(holdback[0]);
+            if count > 0 && rng.one_in(2) {
+                let at = 1 + OP_LEN * rng.below(count);
+                return holdback[at..at + OP_LEN].to_vec();
+            }
+            let (replica, early) = (1 + rng.below(8), 200 + rng.below(55));
+            let early = examples::add(replica as u8, 0, &[early as u8; 8]);
+            return early.bytes().to_vec();
+        }
+        let held = held(buffer);
+        let is_lacking = |op: &&Op| op.sequence() > usize::from(held[op.index()]);
+        let lacking: Vec<&Op> = self.ops.iter().filter(is_lacking).take(9).collect();
+        let replica = 1 + rng.below(8);
+        match (rng.below(8), &lacking[..]) {
+            (0 | 1, _) => self.record(rng),
+            (2 | 3, [_, later @ ..]) if !later.is_empty() => rng.pick(later).bytes().to_vec(),
+            (_, [first, ..]) => first.bytes().to_vec(),
+            _ if held[replica - 1] == 255 => self.record(rng),
+            _ => examples::add(replica as u8, 0, &held).bytes().to_vec(),
+        }
+    }
+
     /// Some ops of the world, each once or more, in any order.
     fn some(&self, rng: &mut Rng) -> Vec<Op> {
         if self.ops.is_empty() {
@@ -288,6 +342,27 @@ impl Input {
         }
         rng.pick(&self.ops).node
     }
+}
+
+/// Whether ops can be counted in it.
+fn is_in_order(holdback: &[u8]) -> bool {
+    holdback.len() == HOLDBACK && usize::from(holdback[0]) <= TRAY_PLACES
+}
+
+/// Any bytes; most have the right length, and many nothing past their ops.
+fn any_holdback(rng: &mut Rng) -> Vec<u8> {
+    let mut holdback: Vec<u8> = (0..HOLDBACK).map(|_| rng.byte()).collect();
+    match rng.below(4) {
+        0 => holdback.resize(rng.below(2 * HOLDBACK), 0),
+        1 => {}
+        _ => {
+            holdback[0] %= 34;
+            let past = 1 + OP_LEN * usize::from(holdback[0]);
+            holdback.truncate(past);
+            holdback.resize(HOLDBACK, 0);
+        }
+    }
+    holdback
 }
 
 /// Those that can stand in a bundle: 14 bytes, and one of the replicas.

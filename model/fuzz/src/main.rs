@@ -11,6 +11,8 @@ mod raw;
 use call::{run, Call, Library, Model, Outcome, NAMES};
 use input::{Input, Stock};
 use lent::{Guards, Lent};
+use outline::plain::HOLDBACK;
+use outline_model::refusal;
 use outline_model::rng::Rng;
 use std::time::Instant;
 
@@ -62,10 +64,11 @@ fn number(word: &str) -> Result<u64, String> {
     word.parse().map_err(|_| format!("{word} is no number"))
 }
 
-/// How often each call gave each answer: refusals by number, had it, done, a value.
+/// How often each call gave each answer: refusals by number, had it, waiting, done,
+/// a value.
 #[derive(Default)]
 struct Tally {
-    counts: [[u64; 16]; NAMES.len()],
+    counts: [[u64; 19]; NAMES.len()],
     full: u64,
 }
 
@@ -73,9 +76,10 @@ impl Tally {
     fn add(&mut self, call: &Call, outcome: Outcome) {
         let column = match outcome {
             Outcome::Refused(number) => usize::from(number),
-            Outcome::HadIt => 13,
-            Outcome::Done => 14,
-            Outcome::Value(_) => 15,
+            Outcome::HadIt => 15,
+            Outcome::Waiting => 16,
+            Outcome::Done => 17,
+            Outcome::Value(_) => 18,
         };
         self.counts[call.index()][column] += 1;
     }
@@ -85,13 +89,16 @@ impl Tally {
     }
 
     fn print(&self) {
-        print!("{:<14}", "call");
-        for column in 1..=12 {
+        print!("{:<17}", "call");
+        for column in 1..=14 {
             print!("{:>8}", format!("ref {column}"));
         }
-        println!("{:>8}{:>8}{:>8}", "had it", "done", "value");
+        for column in ["had it", "waiting", "done", "value"] {
+            print!("{column:>8}");
+        }
+        println!();
         for (name, counts) in NAMES.iter().zip(&self.counts) {
-            print!("{name:<14}");
+            print!("{name:<17}");
             for count in &counts[1..] {
                 print!("{count:>8}");
             }
@@ -137,8 +144,9 @@ fn compare_calls(options: &Options) -> u64 {
         let salt = rng.below(1 << 16);
         let mut ours = Lent::new(&input.buffer, guards, |i| (i ^ salt) as u8);
         let mut theirs = ours.clone();
+        let mut holdback = vec![0; HOLDBACK];
         for _ in 0..input.calls(&mut rng) {
-            let call = input.call(&mut rng, ours.get());
+            let call = input.call(&mut rng, ours.get(), &holdback);
             if options.without.as_deref() == Some(NAMES[call.index()]) {
                 continue;
             }
@@ -146,6 +154,11 @@ fn compare_calls(options: &Options) -> u64 {
             let library = run::<Library>(&call, &mut ours, guards, salt);
             let model = run::<Model>(&call, &mut theirs, guards, salt);
             tally.add(&call, model.outcome);
+            if let (Call::HoldbackDeliver { .. }, [_, left]) = (&call, &model.bytes[..]) {
+                if model.outcome != Outcome::Refused(refusal::BAD_TRAY) {
+                    holdback = left.get().to_vec();
+                }
+            }
             if input.held >= 2000 {
                 tally.full += 1;
             }

@@ -230,12 +230,12 @@ fn orders(script: &mut Script) {
 }
 
 /// What the receiver has for `refused`: 8:1 counts 7:1.
-fn receiver() -> Vec<Op> {
+pub(super) fn receiver() -> Vec<Op> {
     vec![add(7, 0, &[]), add(8, 0, &[0, 0, 0, 0, 0, 0, 1])]
 }
 
 /// Bodies that the receiver refuses with 3, 4, 5, 6 and 7, some of each.
-fn refused() -> Vec<[u8; OP_LEN]> {
+pub(super) fn refused() -> Vec<[u8; OP_LEN]> {
     let mut kind = add(6, 0, &[]).bytes();
     kind[0] = 5;
     let mut own_count = add(6, 0, &[]).bytes();

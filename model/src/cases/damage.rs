@@ -1,6 +1,7 @@
 //! Damaged bytes: one changed, or the end cut off.
 
 use crate::rng::Rng;
+use crate::{OP_LEN, TRAY_LEN, TRAY_PLACES};
 
 /// Values for a damaged byte, given the old one.
 pub fn values(old: u8) -> impl Iterator<Item = u8> {
@@ -57,4 +58,23 @@ pub fn record(rng: &mut Rng, bytes: &[u8]) -> Vec<u8> {
         1 => [bytes, &[rng.byte()]].concat(),
         _ => random(rng, bytes),
     }
+}
+
+/// A tray of this content that is not in good order: of another length, with too
+/// great a count, or with a byte past its ops, if there is one.
+pub fn tray(rng: &mut Rng, good: &[u8]) -> Vec<u8> {
+    let mut tray = good.to_vec();
+    let past = 1 + OP_LEN * usize::from(tray[0]);
+    match rng.below(6) {
+        0 => tray.truncate(rng.below(TRAY_LEN)),
+        1 => tray.truncate(TRAY_LEN - 1 - rng.below(OP_LEN)),
+        2 => tray.resize(TRAY_LEN + 1 + rng.below(OP_LEN), 0),
+        3 | 4 if past < TRAY_LEN => {
+            let any = past + rng.below(TRAY_LEN - past);
+            let at = rng.pick(&[past, TRAY_LEN - 1, any]);
+            tray[at] = rng.pick(&[1, 2, 128, 255]);
+        }
+        _ => tray[0] = rng.pick(&[TRAY_PLACES as u8 + 1, 34, 64, 128, 255]),
+    }
+    tray
 }

@@ -1,7 +1,7 @@
 //! Small logs that the document or its traps name.
 
 use crate::op::{node_number, MAX_SEQUENCE, OP_LEN, REPLICAS};
-use crate::{make_bundle, Answer, Kind, Log, Op, Vector};
+use crate::{make_bundle, Answer, Kind, Log, Op, Vector, TRAY_LEN};
 
 /// Counts of the first replicas; the rest are 0.
 pub fn v(counts: &[u8]) -> Vector {
@@ -76,6 +76,20 @@ pub fn bundle_for(file: &[u8], counts: Vector) -> Vec<u8> {
         Answer::Count(length) => bundle[..length].to_vec(),
         _ => vec![],
     }
+}
+
+/// The tray in which these ops wait, in this order.
+pub fn tray_of(ops: &[Op]) -> Vec<u8> {
+    let bodies: Vec<[u8; OP_LEN]> = ops.iter().map(Op::bytes).collect();
+    tray_with(&bodies)
+}
+
+/// The tray with these bodies, of any form.
+pub fn tray_with(bodies: &[[u8; OP_LEN]]) -> Vec<u8> {
+    let mut tray = vec![bodies.len() as u8];
+    tray.extend(bodies.concat());
+    tray.resize(TRAY_LEN, 0);
+    tray
 }
 
 pub fn p1() -> Vec<Op> {
@@ -240,6 +254,18 @@ pub fn longest_chain() -> Vec<Op> {
             parent = op.node;
             ops.push(op);
         }
+    }
+    ops
+}
+
+/// A chain in which the replicas take turns, the highest first.
+pub fn turns(count: usize) -> Vec<Op> {
+    let mut ops: Vec<Op> = vec![];
+    let mut counts = [0; REPLICAS];
+    for (index, _) in (0..REPLICAS).rev().cycle().zip(0..count) {
+        let parent = ops.last().map_or(0, |op| op.node);
+        ops.push(add(index as u8 + 1, parent, &counts));
+        counts[index] += 1;
     }
     ops
 }

@@ -1,8 +1,10 @@
 //! Random sound logs: replicas that hear of each other now and then.
 
-use crate::op::{at_most, join, node_number, replica_index, MAX_SEQUENCE, REPLICAS};
+use super::damage;
+use super::examples::tray_with;
+use crate::op::{at_most, join, node_number, replica_index, MAX_SEQUENCE, OP_LEN, REPLICAS};
 use crate::rng::Rng;
-use crate::{Kind, Op, Vector};
+use crate::{Kind, Op, Vector, TRAY_PLACES};
 
 /// How a world grows.
 #[derive(Clone, Copy)]
@@ -163,4 +165,66 @@ pub fn held_by(ops: &[Op], replicas: &[u8]) -> Vec<Op> {
     }
     let within = |op: &&Op| op.sequence() <= usize::from(held[op.index()]);
     ops.iter().filter(within).copied().collect()
+}
+
+/// A tray in good order for a log with these counts. Most that wait there come
+/// next, often the last of them first; others are early for long, or never go.
+pub fn tray(rng: &mut Rng, ops: &[Op], held: &Vector) -> Vec<u8> {
+    let places = rng.pick(&[0, 1, 3, 8, 20, 31, TRAY_PLACES, TRAY_PLACES]);
+    let lacking = |op: &&Op| op.sequence() > usize::from(held[op.index()]);
+    let mut next: Vec<Op> = ops.iter().filter(lacking).take(places).copied().collect();
+    match rng.below(4) {
+        0 => {}
+        1 => rng.shuffle(&mut next),
+        _ => next.reverse(),
+    }
+    let mut bodies: Vec<[u8; OP_LEN]> = next.iter().map(Op::bytes).collect();
+    if rng.one_in(3) {
+        bodies.retain(|_| !rng.one_in(5));
+    }
+    for _ in 0..rng.pick(&[0, 0, 1, 3, 9]) {
+        let at = rng.below(bodies.len() + 1);
+        let other = stranger(rng, ops, &bodies);
+        bodies.insert(at, other);
+    }
+    bodies.truncate(places);
+    if rng.one_in(2) {
+        bodies.resize_with(places, || never(rng));
+    }
+    tray_with(&bodies)
+}
+
+/// A body that comes twice or is held, a changed one, or noise.
+fn stranger(rng: &mut Rng, ops: &[Op], bodies: &[[u8; OP_LEN]]) -> [u8; OP_LEN] {
+    let some = match rng.below(3) {
+        0 if !bodies.is_empty() => rng.pick(bodies),
+        _ if !ops.is_empty() => rng.pick(ops).bytes(),
+        _ => never(rng),
+    };
+    match rng.below(6) {
+        0 => std::array::from_fn(|_| rng.byte()),
+        1 | 2 => some,
+        // A rival: the count of another replica, or what is said of the nodes.
+        3 => {
+            let mut rival = some;
+            let count = 6 + rng.below(REPLICAS);
+            let at = rng.pick(&[0, 3, 5, count]);
+            rival[at] = rng.below(5) as u8;
+            rival
+        }
+        _ => {
+            let changed = damage::random(rng, &some);
+            std::array::from_fn(|at| changed[at])
+        }
+    }
+}
+
+/// An op that is early in any log but a very long one.
+fn never(rng: &mut Rng) -> [u8; OP_LEN] {
+    let mut op = [0; OP_LEN];
+    op[0] = 1;
+    op[1] = 1 + rng.below(REPLICAS) as u8;
+    op[6 + rng.below(REPLICAS)] = 200 + rng.below(55) as u8;
+    op[3] = rng.byte();
+    op
 }

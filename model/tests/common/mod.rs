@@ -5,7 +5,7 @@
 
 use outline_model::*;
 
-pub use Answer::{Accepted, Count, Done, HadIt, Refused};
+pub use Answer::{Accepted, Count, Done, HadIt, Refused, Waiting};
 
 pub const FULL: usize = 28_592;
 pub const MAX_BUNDLE: usize = 28_569;
@@ -47,6 +47,80 @@ pub fn deliver_checked(buffer: &mut [u8], op: &[u8]) -> Answer {
         other => panic!("{other:?}"),
     }
     answer
+}
+
+/// The tray with these records, of at most 32.
+pub fn tray_from(records: &[Vec<u8>]) -> Vec<u8> {
+    let mut tray = [vec![records.len() as u8], records.concat()].concat();
+    assert!(tray.len() <= 449);
+    tray.resize(449, 0);
+    tray
+}
+
+/// The records in a tray, read by its count alone.
+pub fn waiting(tray: &[u8]) -> Vec<Vec<u8>> {
+    let (count, places) = (usize::from(tray[0]), &tray[1..]);
+    places[..14 * count]
+        .chunks(14)
+        .map(<[u8]>::to_vec)
+        .collect()
+}
+
+pub fn tray_checked(buffer: &mut [u8], op: &[u8], tray: &mut [u8]) -> Answer {
+    let (before, lent) = (buffer.to_vec(), tray.to_vec());
+    let answer = deliver_tray(buffer, op, tray);
+    match answer {
+        Accepted(end) => {
+            check_searched(&before, buffer, op, end, &waiting(&lent));
+            check_left(buffer, &waiting(&lent), tray);
+        }
+        Waiting => {
+            assert_eq!(deliver(&mut before.clone(), op), Refused(5));
+            let mut records = waiting(&lent);
+            if !records.iter().any(|record| record == op) {
+                records.push(op.to_vec());
+            }
+            assert_eq!(tray, tray_from(&records));
+            assert_eq!(buffer, before);
+        }
+        // Never 5: its place is taken.
+        HadIt | Refused(1..=4 | 6..=8 | 13 | 14) => {
+            assert_eq!(buffer, before);
+            assert_eq!(tray, lent);
+        }
+        other => panic!("{other:?}"),
+    }
+    answer
+}
+
+/// The buffer is the old file with the op and some of those that waited, at most
+/// 33 in all, and nothing else changed.
+fn check_searched(before: &[u8], after: &[u8], op: &[u8], end: usize, waited: &[Vec<u8>]) {
+    assert!(Log::open(after).is_some());
+    let (old, new) = (bodies(before), bodies(after));
+    assert!(old.iter().all(|body| new.contains(body)));
+    let added: Vec<&Vec<u8>> = new.iter().filter(|body| !old.contains(body)).collect();
+    assert!(added.iter().any(|&body| body == op));
+    assert!(added
+        .iter()
+        .all(|&body| body == op || waited.contains(body)));
+    assert!(added.len() <= 33);
+    assert_eq!(end, 32 + 14 * (old.len() + added.len()));
+    assert_eq!(after[..end], layout(&new));
+    assert_eq!(after[end..], before[end..]);
+}
+
+/// After an acceptance: what is left would be refused with 5 or 8, what is gone
+/// is held or can never go, and the rest stands as it stood, closed up.
+fn check_left(buffer: &[u8], waited: &[Vec<u8>], tray: &[u8]) {
+    let would = |record: &Vec<u8>| deliver(&mut buffer.to_vec(), record);
+    let stays = |record: &&Vec<u8>| match would(record) {
+        Refused(5 | 8) => true,
+        HadIt | Refused(3 | 4 | 6 | 7) => false,
+        other => panic!("{other:?}"),
+    };
+    let left: Vec<Vec<u8>> = waited.iter().filter(stays).cloned().collect();
+    assert_eq!(tray, tray_from(&left));
 }
 
 /// Makes a bundle with so many bytes lent, and hands it back.

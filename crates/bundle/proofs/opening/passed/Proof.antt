@@ -19,4 +19,6 @@ passed-spec =
     (λ c. search opening)
     (λ c. search opening)
     (λ c. search opening)
+    (λ c. search opening)
+    (λ c. search opening)
     (λ c. search opening))

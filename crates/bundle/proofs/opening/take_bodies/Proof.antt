@@ -1,5 +1,5 @@
 -- `bundle::opening::take_bodies` meets its contract.
-use Rattle.bundle.proofs.OpenCases.{opening, TakenTo}
+use Rattle.bundle.proofs.OpenCases.{taking, TakenTo}
 use Prim.Native.Nat.{_-_}
 use Rattle.soundness.proofs.SoundCases.{end-asks}
 use Rattle.bundle.proofs.opening.take_bodies.Statement.{statement}
@@ -12,7 +12,7 @@ abbrev μ-loop : tie.MeasureT-loop
 μ-loop buf₀ bodies n i₀ buf i = n - i
 
 end-of-requires : tie.Need-end-of-requires Inv-loop μ-loop
-end-of-requires c κs = end-asks _ (search opening)
+end-of-requires c κs = end-asks _ (search taking)
 
 pub take-bodies-spec : {M : Type 1} → statement M
 take-bodies-spec =
@@ -20,19 +20,19 @@ take-bodies-spec =
     (tie.spec
     Inv-loop
     μ-loop
-    (λ c. search opening)
-    (λ c. search opening)
-    (λ c. search opening)
-    (λ c. search opening)
-    (λ c. search opening)
-    (λ c. search opening)
-    (λ c κs. search opening)
-    (λ c κs. search opening)
-    (λ c. search opening)
-    (λ c. search opening)
-    (λ c. search opening)
-    (λ c. search opening)
-    (λ c. search opening)
+    (λ c. search taking)
+    (λ c. search taking)
+    (λ c. search taking)
+    (λ c. search taking)
+    (λ c. search taking)
+    (λ c. search taking)
+    (λ c κs. search taking)
+    (λ c κs. search taking)
+    (λ c. search taking)
+    (λ c. search taking)
+    (λ c. search taking)
+    (λ c. search taking)
+    (λ c. search taking)
     end-of-requires
-    (λ c. search opening)
-    (λ c. search opening))
+    (λ c. search taking)
+    (λ c. search taking))
