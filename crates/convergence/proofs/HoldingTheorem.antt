@@ -346,11 +346,13 @@ module _ (w : ℕ) (f : List ℕ) (rs : List (List ℕ)) where
     row-end : NeverFull w (cleared w f) rs
         → Fits w rs f (posted w (cleared w f) rs .buffer) × Ended w f rs (posted w (cleared w f) rs .buffer)
     row-end ok =
-        let y = row rs (cleared w f) first (λ r j. j) ok in
-        (y .desked .reached, λ r j e a. ⊎-elim
-        (λ z. settled-out _ r z a)
-        (λ z. never (sym (y .desked .is-early r z) ∙ a .is-covered))
-        (y .gains r j e))
+        let y = row rs (cleared w f) first (λ r j. j) ok in (
+          y .desked .reached,
+          λ r j e a. ⊎-elim
+              (λ z. settled-out _ r z a)
+              (λ z. never (sym (y .desked .is-early r z) ∙ a .is-covered))
+              (y .gains r j e),
+        )
 
     -- two buffers at the end are one
     one-buffer : (a b : List ℕ) → Fits w rs f a → Fits w rs f b → Ended w f rs a → Ended w f rs b → a ≡ b

@@ -456,9 +456,9 @@ table =
     -- another op of a held sequence. Doubles that are not met by a held one stay
     ∷ holdsBack (oneThen (a₁ ∷ []) 42) a₂ (tray (a₁ ∷ rival₃ ∷ a₃ ∷ unknown₁ ∷ [])) (accepted 74) (oneThen (a₁ ∷ a₂ ∷ rival₃ ∷ []) 14) (tray [])
     ∷ holdsBack (oneThen (a₁ ∷ []) 14) a₂ (tray (unread ∷ rival₃ ∷ a₁ ∷ rival₃ ∷ unknown₁ ∷ [])) (accepted 60) (oneThen (a₁ ∷ a₂ ∷ []) 0)
-        (tray (rival₃ ∷ rival₃ ∷ []))
+    (tray (rival₃ ∷ rival₃ ∷ []))
     ∷ holdsBack p1Buffer (adds 1 4 0 (vector 3 0 0)) (tray (torn₁ ∷ a₂ ∷ set a₂ 5 1 ∷ [])) (accepted 102)
-        (fileOf width (append p1 (adds 1 4 0 (vector 3 0 0)))) (tray [])
+    (fileOf width (append p1 (adds 1 4 0 (vector 3 0 0)))) (tray [])
     -- had it: nothing is searched, though a₂ could go
     ∷ holdsBack (oneThen (a₁ ∷ []) 42) a₁ (tray (a₂ ∷ [])) hadIt (oneThen (a₁ ∷ []) 42) (tray (a₂ ∷ []))
     -- no room for the second: it stays; no room for the first: nothing changes
