@@ -6,3 +6,4 @@ pub mod Opens
 pub mod Holding
 pub mod Clash
 pub mod Meeting
+pub mod ByPost
