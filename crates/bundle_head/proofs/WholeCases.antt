@@ -4,8 +4,8 @@ use borrow.Author.Needs.{needs}
 use borrow.Author.Tests.{eq-eqb, ne-eqb, le-leb, lt-leb, lt-ltb, le-ltb}
 use lib.Count.{ones}
 use lib.Dec.{leb, eqb, ltb}
-use lib.ListN.{length, length-drop, take, drop, drop-of-length-le, getD}
-use lib.Seq.{drop-cons, drop-drop, getD-take, take-all}
+use lib.ListN.{length, length-drop, take, drop, getD}
+use lib.Seq.{drop-drop, getD-take, take-all}
 use mathlib.Core.Bool.{Bool, true, false, cond, _&&_}
 use mathlib.Core.List.{List, _∷_}
 use mathlib.Core.Path.{_≡_, refl, sym, ap, _∙_}

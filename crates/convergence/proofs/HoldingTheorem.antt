@@ -1,16 +1,16 @@
 -- Deliveries with one holdback, each lent what the last one left, end as plain offers, over and over, do: every offered op is held, can
 -- never be, or waits; and what waits is early.
-use mathlib.Core.Path.{_≡_, refl, sym, ap, _∙_}
+use mathlib.Core.Path.{_≡_, refl, sym, _∙_}
 use mathlib.Core.Logic.{_⊎_, inl, inr, ⊎-elim}
 use mathlib.Core.Bool.{Bool, true, false, cond, _||_}
 use mathlib.Core.List.{List, [], _∷_, _++_}
 use Prim.Native.Nat.{ℕ, zero, suc, _+_, _≤_, _<_}
 use native.Mathlib.Omega.{arith}
 use borrow.Author.Tests.{ltb-true}
-use lib.Dec.{eqb, ltb}
+use lib.Dec.{ltb}
 use lib.ListN.{length, length-append}
 use Rattle.lists.proofs.BoolLaws.{never}
-use Rattle.rules.specs.Answer.{Answer, refused, hadIt, waiting, done, accepted, require, ifAccepted, ifWaiting}
+use Rattle.rules.specs.Answer.{Answer, refused, hadIt, waiting, accepted, require, ifAccepted, ifWaiting}
 use Rattle.rules.specs.Bytes.{byte}
 use Rattle.rules.specs.Op.{Op, vectorOf, wellFormed}
 use Rattle.rules.specs.File.{Log, Extends, fileEnd, logOf, appended}
@@ -234,7 +234,10 @@ module _ (w : ℕ) (f : List ℕ) (rs : List (List ℕ)) where
                 (λ (q : has (r ∷ []) y ≡ true). rw (last y q) c)
                 (has-either ops (r ∷ []) y j));
           };
-          keeps = λ y e q. ⊎-elim (λ (z : Settled (logOf w g) y). inl z) (λ (z : has ops y ≡ true). inr (rw back (has-old ops (r ∷ []) y z))) q;
+          keeps = λ y e q. ⊎-elim
+              (λ (z : Settled (logOf w g) y). inl z)
+              (λ (z : has ops y ≡ true). inr (rw back (has-old ops (r ∷ []) y z)))
+              q;
           gains = λ e. inr (rw back (has-new ops r));
         }
 
@@ -243,7 +246,10 @@ module _ (w : ℕ) (f : List ℕ) (rs : List (List ℕ)) where
     heldDesk b c =
         let a = require (b || c) 13 waiting in
         let t = cond b h (holdbackOf w (ops ++ (r ∷ []))) in
-        record { buffer = ifAccepted a (released w g r h .buffer) g; holdback = ifAccepted a (holdbackOf w (released w g r h .left)) (ifWaiting a t h) }
+        record {
+          buffer = ifAccepted a (released w g r h .buffer) g;
+          holdback = ifAccepted a (holdbackOf w (released w g r h .left)) (ifWaiting a t h);
+        }
 
     on-early : length r ≡ w → wellFormed r ≡ true → covered (logOf w g) (vectorOf r) ≡ false → (b c : Bool) → waits w r h ≡ b
         → ltb (byte h 0) places ≡ c → (require (b || c) 13 waiting ≡ refused 13 → ⊥) → Next d r (heldDesk b c)

@@ -7,7 +7,7 @@ use mathlib.Core.List.{List, [], _∷_}
 use Prim.Native.Nat.{ℕ, zero, suc, _+_, _*_, _≤_, _<_}
 use native.Mathlib.Nat.{le-refl, mul-le-mul-left, mul-one}
 use native.Mathlib.Omega.{arith}
-use borrow.Author.Tests.{leb-true, le-leb, not-true}
+use borrow.Author.Tests.{leb-true, le-leb}
 use lib.ListN.{length}
 use Rattle.lists.specs.Lists.{all, filter}
 use Rattle.lists.proofs.BoolLaws.{never, and-both, and-left, and-right}
@@ -18,7 +18,6 @@ use Rattle.rules.specs.Op.{Op, countIn, replicaOf, seqOf}
 use Rattle.rules.specs.File.{Log, Extends, countsOf, fileEnd, largest, logOf, appended}
 use Rattle.rules.specs.Bundle.{turnsBuffer}
 use Rattle.rules.specs.Deliver.{isHeld, deliverAnswer, deliverBuffer}
-use Rattle.rules.specs.Sound.{sound}
 use Rattle.rules.proofs.AppendLaws.{Admits, extends, in-range, own-next, replica-formed}
 use Rattle.rules.proofs.DeliverLaws.{Admitted, admitted, appended-log, appended-length, appended-end, if-not}
 use Rattle.rules.proofs.InLaws.{new-in}
@@ -81,7 +80,8 @@ unfolding different
 different-has [] r i = i
 different-has (x ∷ rs) r i = go (has rs x) refl (different-has rs r)
   where
-    go : (b : Bool) → has rs x ≡ b → (has rs r ≡ true → has (different rs) r ≡ true) → has (cond b (different rs) (x ∷ different rs)) r ≡ true
+    go : (b : Bool) → has rs x ≡ b → (has rs r ≡ true → has (different rs) r ≡ true)
+        → has (cond b (different rs) (x ∷ different rs)) r ≡ true
     go true e ih = ⊎-elim (λ (z : r ≡ x). ih (rw z e)) (λ (z : has rs r ≡ true). ih z) (has-cases x rs r i)
     go false e ih = ⊎-elim
         (λ (z : r ≡ x). rw z (has-head x (different rs)))
@@ -99,7 +99,8 @@ different-few (x ∷ rs) = go (has rs x) (different-few rs)
 
 ---- what a delivery leaves
 
-pub held-more : (log more : Log) → Extends log more → (r : Op) → 1 ≤ replicaOf r → replicaOf r ≤ 8 → isHeld log r ≡ true → isHeld more r ≡ true
+pub held-more : (log more : Log) → Extends log more → (r : Op) → 1 ≤ replicaOf r → replicaOf r ≤ 8 → isHeld log r ≡ true
+    → isHeld more r ≡ true
 unfolding isHeld
 held-more log more x r l u e =
     let h = leb-true (seqOf r) (countIn (countsOf log) (replicaOf r)) e in

@@ -2,7 +2,7 @@
 use Prim.Native.Nat.{ℕ}
 use lib.ListN.{replicate}
 use mathlib.Core.Bool.{true, false}
-use mathlib.Core.List.{List, [], _∷_, _++_, map}
+use mathlib.Core.List.{List, [], _∷_, _++_}
 use mathlib.Core.Path.{refl, _≡_}
 use Rattle.convergence.specs.Exchange.{deliverHoldback, perform, lent, answer, bufferAfter, begun, added, has}
 use Rattle.convergence.specs.Holding.{Desk, post, posted, cleared, accepts, noneAccepted, rounds, overAndOver, reads, different}
@@ -12,7 +12,7 @@ use Rattle.rules.specs.Bytes.{wordAt, word}
 use Rattle.rules.specs.Bundle.{turnsBuffer}
 use Rattle.rules.specs.Deliver.{deliverBuffer, deliverAnswer, heldAnswer, admitAnswer, isHeld}
 use Rattle.rules.specs.Examples.{a₁, a₂, a₃, b₁, unknown₁, p1, p1File, emptyFile, emptyThen}
-use Rattle.rules.specs.File.{Log, emptyLog, opsOf, opAt, countsOf, append, countAt, startAt, headerCounts, startOf, endOf, fileEnd, chunks, chunksOf, logOf, headerEntry, headerOf, fileOf, within, appended, width}
+use Rattle.rules.specs.File.{emptyLog, opsOf, opAt, countsOf, append, countAt, startAt, headerCounts, startOf, endOf, fileEnd, chunks, chunksOf, logOf, headerEntry, headerOf, fileOf, within, appended, width}
 use Rattle.rules.specs.Holdback.{holdbackOps, holdbackOf, soundHoldback, stays, look, searchOn, looks, search, waits, putBack, earlyAnswer, released, answerOn, holdbackAnswer, holdbackBuffer, holdbackAfter, holdbackTaken}
 use Rattle.rules.specs.Issue.{opBytes}
 use Rattle.rules.specs.Log.{covered, closedAt, closed, knownParent, namesKnown, soundOp, soundOps, soundLog, soundHeader, laid, structural}

@@ -3,7 +3,6 @@ use Prim.Native.Nat.{ℕ, _≤_, _<_}
 use borrow.Author.Needs.{needs}
 use borrow.Author.Tests.{eqb-true, le-ltb, lt-ltb}
 use lib.Dec.{eqb, ltb}
-use lib.ListN.{length}
 use mathlib.Core.Bool.{Bool, true, false, _||_}
 use mathlib.Core.List.{List, [], _∷_, _++_}
 use mathlib.Core.Path.{_≡_, refl, sym, ap, _∙_}
@@ -12,9 +11,8 @@ use Rattle.lists.proofs.BoolLaws.{never, tested}
 use Rattle.rules.specs.Answer.{Answer, refused, hadIt, waiting, done, accepted, require, ifAccepted, ifWaiting}
 use Rattle.rules.specs.Bytes.{byte}
 use Rattle.rules.specs.Deliver.{Result, deliver, deliverAnswer, deliverBuffer}
-use Rattle.rules.specs.File.{fileEnd, headerCounts, startOf, width}
+use Rattle.rules.specs.File.{headerCounts, startOf, width}
 use Rattle.rules.specs.Holdback.{HoldbackResult, places, holdbackOf, holdbackOps, soundHoldback, search, waits, putBack, earlyAnswer, released, answerOn, holdbackAnswer, holdbackBuffer, holdbackAfter, deliverHoldback}
-use Rattle.rules.specs.Op.{Op}
 use Rattle.rules.specs.Sound.{sound}
 use Rattle.rules.proofs.DeliverLaws.{deliver-sound, never-waiting}
 use Rattle.rules.proofs.SearchLaws.{search-sound}

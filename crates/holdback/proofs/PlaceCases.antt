@@ -2,10 +2,10 @@
 use Prim.Native.Nat.{ℕ, suc, _+_, _*_, _-_, _≤_, _<_}
 use borrow.Author.Needs.{needs}
 use borrow.Author.Tests.{eq-eqb, ne-eqb, le-leb, lt-leb}
-use lib.Dec.{eqb, leb}
-use lib.ListN.{length, length-append, length-drop, length-take, take, drop, drop-of-length-le, getD, set, replicate, length-replicate}
+use lib.Dec.{eqb}
+use lib.ListN.{length, length-append, length-drop, length-take, take, drop, drop-of-length-le, getD, set, replicate}
 use lib.Seq.{drop-at, drop-cons, drop-drop, getD-drop, length-take-le, take-all, take-at}
-use mathlib.Core.Bool.{Bool, true, false, cond, _||_}
+use mathlib.Core.Bool.{Bool, true, false, _||_}
 use mathlib.Core.List.{List, [], _∷_, _++_, append-nil}
 use mathlib.Core.Path.{_≡_, refl, sym, ap, _∙_}
 use native.Mathlib.Nat.{le-refl}
@@ -20,7 +20,7 @@ use Rattle.rules.specs.Holdback.{places, holdbackOps, holdbackOf, soundHoldback
 use Rattle.rules.specs.Op.{Op}
 use Rattle.rules.proofs.FileLaws.{chunk-at}
 use Rattle.rules.proofs.HoldbackLaws.{sound-reads, ops-count, place-filled, place-freed}
-use Rattle.oplog.proofs.InsertLaws.{Fronted, front-first, front-next, front-last}
+use Rattle.oplog.proofs.InsertLaws.{Fronted, front-next, front-last}
 use Rattle.holdback.specs.Places.{Compared, Roomy, Occupied, closeAt, putAt, without}
 
 ---- zero bytes
@@ -128,7 +128,13 @@ module _ (h op : List ℕ) where
 
 module _ (w : ℕ) (p : List ℕ) where
   pub down-first : w ≤ length p → (end : ℕ) → end ≡ length p - w → Fronted (drop w p) p p end 0
-  down-first h end e = record { whole = rw length-drop e; long = rw length-drop (omega arith); few = omega arith; same = refl; bytes = refl }
+  down-first h end e = record {
+    whole = rw length-drop e;
+    long = rw length-drop (omega arith);
+    few = omega arith;
+    same = refl;
+    bytes = refl;
+  }
 
   module _ (part : List ℕ) (end k : ℕ) (t : Fronted (drop w p) p part end k) (h : k < end) where
     down-inside : k + w < length part

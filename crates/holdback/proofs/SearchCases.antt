@@ -3,24 +3,24 @@ use Prim.Native.Nat.{ℕ, suc, _+_, _*_, _-_, _≤_, _<_}
 use borrow.Author.Needs.{needs}
 use borrow.Author.Tests.{eq-eqb, ne-eqb}
 use lib.Dec.{eqb}
-use lib.ListN.{length, length-append, length-drop, length-take, take, drop, drop-of-length-le, getD}
+use lib.ListN.{length, length-append, length-drop, length-take, take, drop, drop-of-length-le}
 use lib.Seq.{drop-at, drop-cons, drop-drop, length-take-le, take-all, take-at, take-suc}
-use mathlib.Core.Bool.{Bool, true, false, cond, _||_}
+use mathlib.Core.Bool.{Bool, true, false, cond}
 use mathlib.Core.List.{List, [], _∷_, _++_}
 use mathlib.Core.Path.{_≡_, refl, sym, ap, _∙_}
 use native.Mathlib.Numerals.{add-one}
 use native.Mathlib.Omega.{arith}
-use Rattle.lists.proofs.BoolLaws.{never, tested}
+use Rattle.lists.proofs.BoolLaws.{tested}
 use Rattle.rules.specs.Answer.{Answer, refused, hadIt, waiting, done, accepted, ifAccepted}
 use Rattle.rules.specs.Bytes.{byte}
 use Rattle.rules.specs.Deliver.{Result, deliver, deliverAnswer, deliverBuffer}
 use Rattle.rules.specs.File.{width}
-use Rattle.rules.specs.Holdback.{Look, found, holdbackOf, holdbackOps, look, search, searchOn, soundHoldback, stays}
+use Rattle.rules.specs.Holdback.{holdbackOf, holdbackOps, look, search, searchOn, soundHoldback, stays}
 use Rattle.rules.specs.Op.{Op, wellFormed}
 use Rattle.rules.specs.Sound.{sound}
 use Rattle.rules.proofs.DeliverLaws.{deliver-length, deliver-sound, if-not}
 use Rattle.rules.proofs.FileLaws.{Wide, chunk-at, wide-both, wide-drop, wide-take}
-use Rattle.rules.proofs.HoldbackLaws.{sound-reads, ops-count, ops-few, ops-wide, ops-back, holdback-back, holdback-sound}
+use Rattle.rules.proofs.HoldbackLaws.{sound-reads, ops-count, ops-wide, ops-back, holdback-back, holdback-sound}
 use Rattle.rules.proofs.SearchLaws.{look-taken, look-stays, look-drops, search-is}
 use Rattle.codec.specs.Answers.{answerOf, numberOf}
 use Rattle.codec.specs.declared.answer.Answer.the-variants.{Refused, HadIt, Waiting, Done, Accepted}
@@ -29,7 +29,7 @@ use Rattle.codec.specs.declared.answer.Answer as code
 use Rattle.codec.specs.declared.answer.Refusal.the-variants.{Length, Malformed}
 use Rattle.codec.specs.Read.{fieldsOf, readOf}
 use Rattle.codec.specs.declared.op.Read.{Read}
-use Rattle.codec.specs.declared.op.Read as read
+use Rattle.codec.specs.declared.op.Read.the-variants as read
 use Rattle.delivery.proofs.DeliverCases.{delivering, unread}
 use Rattle.holdback.specs.Places.{Occupied, without}
 use Rattle.holdback.specs.Searching.{Kept, Offer, Offerable, Searchable, Visit, kept, left, leftBy, metOf, offered, searched, visited, waitingAt}
@@ -123,12 +123,16 @@ module _ (f : List ℕ) (x : Op) where
       rw (is, answer-so, buffer-so)
 
   -- an op that does not read is refused with 2 or 3
-  pub offer-unread : (r : Read) → r ≡ readOf width x → sound width f ≡ true → (why : Refusal) → r ≡ read.the-variants.Refused why
+  pub offer-unread : (r : Read) → r ≡ readOf width x → sound width f ≡ true → (why : Refusal) → r ≡ read.Refused why
       → record { met = Dropped; buffer = f } ≡ offered f x
   unfolding readOf metOf stays
-  offer-unread r is s why e = offer-is (refused (numberOf why)) f (unread f x s r is why e) Dropped (go (eqb (length x) width) (wellFormed x) (sym is ∙ e))
+  offer-unread r is s why e =
+      offer-is (refused (numberOf why)) f (unread f x s r is why e) Dropped (go (eqb (length x) width) (wellFormed x) (sym is ∙ e))
     where
-      go : (l m : Bool) → cond l (cond m (read.the-variants.Op (fieldsOf x)) (read.the-variants.Refused Malformed)) (read.the-variants.Refused Length) ≡ read.the-variants.Refused why → Dropped ≡ metOf (refused (numberOf why))
+      -- l and m are the tests of length and form
+      go : (l m : Bool)
+          → cond l (cond m (read.Op (fieldsOf x)) (read.Refused Malformed)) (read.Refused Length) ≡ read.Refused why
+          → Dropped ≡ metOf (refused (numberOf why))
       go true true z = cc
       go true false z = let m : Malformed ≡ why = cc in rw (← m)
       go false m z = let l : Length ≡ why = cc in rw (← l)
@@ -395,8 +399,10 @@ module _ (f₀ h₀ f h : List ℕ) (i : ℕ) (x : ScanTo f₀ h₀ f h i) where
     pub holdback-kept : length h ≡ length b
     holdback-kept = x .holdback-size ∙ y .holdback-size
 
----- what the code of the search needs: search searching
-pub ruleset meeting = (needs, tested, stays-early, stays-else, refused-stays, refused-dropped, met-refused, met-held, met-waiting, met-done, met-taken)
+---- what the code of the search needs: search meeting, offering, searching
+pub ruleset staying = (stays-early, stays-else, refused-stays, refused-dropped)
+
+pub ruleset meeting = (needs, tested, staying, met-refused, met-held, met-waiting, met-done, met-taken)
 
 pub ruleset offering = (delivering, offer-is, offer-unread, offer-inside, offer-place, visit-stays, visit-taken, visit-dropped)
 

@@ -37,7 +37,8 @@ fn is_early(answer: Answer) -> bool
 // Has an early op wait at the back, once.
 fn hold(op: &[u8], holdback: &mut [u8]) -> Answer
     requires { ⌜ Compared (now holdback) (now op) ⌝ }
-    ensures { λ r. ⌜ record { answer = answerOf r; holdback = now (holdback .exit) } ≡ heldBack (now (op .entry)) (now (holdback .entry)) ⌝ }
+    ensures { λ r. ⌜ record { answer = answerOf r; holdback = now (holdback .exit) }
+        ≡ heldBack (now (op .entry)) (now (holdback .entry)) ⌝ }
 {
     if is_waiting(holdback, op) {
         return Answer::Waiting;

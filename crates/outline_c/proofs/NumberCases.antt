@@ -136,6 +136,8 @@ pub ruleset answers = (refused-number, had-it-number, waiting-number, done-numbe
 
 pub ruleset handing = (result-over, holdback-over, issued-over, judgement-over, written-over, listing-over, answer-over, size-over)
 
-pub ruleset fitting = (made-fits, delivered-fits, held-fits, issued-fits, judged-fits, path-written, listing-written, sized-fits, counted-fits)
+pub ruleset delivering = (made-fits, delivered-fits, held-fits, issued-fits)
+
+pub ruleset fitting = (delivering, judged-fits, path-written, listing-written, sized-fits, counted-fits)
 
 pub ruleset numbering = (needs, answers, handing, fitting)

@@ -1,15 +1,14 @@
 -- What the answers of a delivery with a holdback say.
-use mathlib.Core.Path.{_≡_, refl, sym, ap, _∙_}
-use mathlib.Core.Bool.{Bool, true, false, cond, _||_}
+use mathlib.Core.Path.{_≡_, refl, ap}
+use mathlib.Core.Bool.{Bool, true, false, cond}
 use mathlib.Core.List.{List}
 use Prim.Native.Nat.{ℕ}
 use native.Mathlib.Omega.{arith}
-use lib.Dec.{eqb, ltb}
-use Rattle.rules.specs.Answer.{Answer, refused, hadIt, waiting, done, accepted, require, ifAccepted, ifWaiting}
-use Rattle.rules.specs.Bytes.{byte}
+use lib.Dec.{eqb}
+use Rattle.rules.specs.Answer.{Answer, refused, hadIt, waiting, done, accepted}
 use Rattle.rules.specs.Deliver.{deliverAnswer, deliverBuffer}
 use Rattle.rules.specs.File.{fileEnd}
-use Rattle.rules.specs.Holdback.{places, holdbackOps, soundHoldback, waits, earlyAnswer, released, answerOn, holdbackAnswer, holdbackBuffer, holdbackAfter}
+use Rattle.rules.specs.Holdback.{holdbackOps, soundHoldback, earlyAnswer, released, answerOn, holdbackAnswer, holdbackAfter}
 use Rattle.rules.specs.Sound.{sound}
 use Rattle.rules.proofs.DeliverLaws.{accepted-same, deliver-sound, required}
 use Rattle.rules.proofs.SearchLaws.{SearchAlike, search-alike, search-sound}

@@ -454,7 +454,8 @@ table =
     ∷ holdsBack (emptyThen 28) a₁ (tray (b₁ ∷ a₂ ∷ a₃ ∷ [])) (accepted 60) (oneThen (a₁ ∷ a₂ ∷ []) 0) (tray (b₁ ∷ a₃ ∷ []))
     -- dropped: held already, the later of two rivals, an unknown node; an op that does not read; a vector that is not closed, had it, and
     -- another op of a held sequence. Doubles that are not met by a held one stay
-    ∷ holdsBack (oneThen (a₁ ∷ []) 42) a₂ (tray (a₁ ∷ rival₃ ∷ a₃ ∷ unknown₁ ∷ [])) (accepted 74) (oneThen (a₁ ∷ a₂ ∷ rival₃ ∷ []) 14) (tray [])
+    ∷ holdsBack (oneThen (a₁ ∷ []) 42) a₂ (tray (a₁ ∷ rival₃ ∷ a₃ ∷ unknown₁ ∷ [])) (accepted 74) (oneThen (a₁ ∷ a₂ ∷ rival₃ ∷ []) 14)
+    (tray [])
     ∷ holdsBack (oneThen (a₁ ∷ []) 14) a₂ (tray (unread ∷ rival₃ ∷ a₁ ∷ rival₃ ∷ unknown₁ ∷ [])) (accepted 60) (oneThen (a₁ ∷ a₂ ∷ []) 0)
     (tray (rival₃ ∷ rival₃ ∷ []))
     ∷ holdsBack p1Buffer (adds 1 4 0 (vector 3 0 0)) (tray (torn₁ ∷ a₂ ∷ set a₂ 5 1 ∷ [])) (accepted 102)
@@ -518,7 +519,9 @@ table-holds =
     & refl & refl & refl & refl & refl & refl & refl & refl & refl & refl & refl & refl & (refl, refl) & refl & refl
     & refl & refl & refl & refl & refl & refl & refl & refl & refl & refl & refl & refl & refl & refl & refl & refl
     & refl & refl & refl & refl & refl & refl & refl & refl & refl & refl & refl & refl & refl & refl & refl & refl
-    & refl & refl & refl & refl & refl & refl & refl & refl & refl & refl & refl & refl & refl & refl & refl & refl & refl & refl & refl & refl & refl & refl & refl & refl & refl & refl & refl & refl & refl & refl & refl & refl & refl & refl & refl & refl & refl & refl & refl & refl & refl & refl & refl & tt
+    & refl & refl & refl & refl & refl & refl & refl & refl & refl & refl & refl & refl & refl & refl & refl & refl
+    & refl & refl & refl & refl & refl & refl & refl & refl & refl & refl & refl & refl & refl & refl & refl & refl
+    & refl & refl & refl & refl & refl & refl & refl & refl & refl & refl & refl & tt
 
 -- what holds of all rows holds of each
 each : (xs : List Row) (d : Row) → AllHold xs → (k : ℕ) → k < length xs → Holds (getD xs k d)
