@@ -88,7 +88,7 @@ impl Holdback {
         &self.bytes
     }
 
-    /// The same, for a call of the library, which leaves a right one.
+    /// The same, for a call of the library, which leaves a sound one.
     pub(crate) fn as_mut_bytes(&mut self) -> &mut [u8] {
         &mut self.bytes
     }

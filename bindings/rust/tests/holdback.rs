@@ -273,7 +273,7 @@ fn bytes_that_do_not_read() {
     assert_eq!(noise, Holdback::new());
 }
 
-/// A holdback goes by its bytes; they are right exactly if the call takes them.
+/// A holdback goes by its bytes; they are sound exactly if the call takes them.
 #[test]
 fn damaged() {
     let ops: Vec<Op> = interleaved(40).ops().collect();

@@ -232,9 +232,9 @@ prunedText =
     48 ∷ 32 ∷ 48 ∷ 32 ∷ 107 ∷ 10 ∷ 49 ∷ 32 ∷ 50 ∷ 53 ∷ 55 ∷ 32 ∷ 114 ∷ 10
     ∷ 50 ∷ 32 ∷ 50 ∷ 53 ∷ 56 ∷ 32 ∷ 107 ∷ 10 ∷ 49 ∷ 32 ∷ 53 ∷ 49 ∷ 51 ∷ 32 ∷ 107 ∷ 10 ∷ []
 
--- a holdback in which ops wait
-abbrev pub tray : List Op → List ℕ
-tray ops = holdbackOf width ops
+-- a holdback in which these ops wait
+abbrev pub back : List Op → List ℕ
+back ops = holdbackOf width ops
 
 -- another op of replica 1's sequence 3; an op that names a node which nobody adds, one whose vector is not closed, and one that does not
 -- read
@@ -444,49 +444,49 @@ table =
     ∷ opens (emptyThen 55) p1Bundle (refused 8) (emptyThen 55)
     ∷ opens (fileOf width p1Adds) p1Bundle (refused 8) (fileOf width p1Adds)
     -- an early op goes to the back of the holdback; the same bytes are held once
-    ∷ holdsBack (emptyThen 42) a₃ (tray []) waiting (emptyThen 42) (tray (a₃ ∷ []))
-    ∷ holdsBack (emptyThen 42) a₂ (tray (a₃ ∷ [])) waiting (emptyThen 42) (tray (a₃ ∷ a₂ ∷ []))
-    ∷ holdsBack (emptyThen 42) a₃ (tray (a₃ ∷ a₂ ∷ [])) waiting (emptyThen 42) (tray (a₃ ∷ a₂ ∷ []))
+    ∷ holdsBack (emptyThen 42) a₃ (back []) waiting (emptyThen 42) (back (a₃ ∷ []))
+    ∷ holdsBack (emptyThen 42) a₂ (back (a₃ ∷ [])) waiting (emptyThen 42) (back (a₃ ∷ a₂ ∷ []))
+    ∷ holdsBack (emptyThen 42) a₃ (back (a₃ ∷ a₂ ∷ [])) waiting (emptyThen 42) (back (a₃ ∷ a₂ ∷ []))
     -- the op that they wait for: a₂ is found behind a₃, and then a₃ from the front
-    ∷ holdsBack (emptyThen 44) a₁ (tray (a₃ ∷ a₂ ∷ [])) (accepted 74) (oneThen (a₁ ∷ a₂ ∷ a₃ ∷ []) 2) (tray [])
+    ∷ holdsBack (emptyThen 44) a₁ (back (a₃ ∷ a₂ ∷ [])) (accepted 74) (oneThen (a₁ ∷ a₂ ∷ a₃ ∷ []) 2) (back [])
     -- one that is still early stays, before one that is due and behind it
-    ∷ holdsBack (emptyThen 42) a₁ (tray (a₃ ∷ [])) (accepted 46) (oneThen (a₁ ∷ []) 28) (tray (a₃ ∷ []))
-    ∷ holdsBack (emptyThen 28) a₁ (tray (b₁ ∷ a₂ ∷ a₃ ∷ [])) (accepted 60) (oneThen (a₁ ∷ a₂ ∷ []) 0) (tray (b₁ ∷ a₃ ∷ []))
+    ∷ holdsBack (emptyThen 42) a₁ (back (a₃ ∷ [])) (accepted 46) (oneThen (a₁ ∷ []) 28) (back (a₃ ∷ []))
+    ∷ holdsBack (emptyThen 28) a₁ (back (b₁ ∷ a₂ ∷ a₃ ∷ [])) (accepted 60) (oneThen (a₁ ∷ a₂ ∷ []) 0) (back (b₁ ∷ a₃ ∷ []))
     -- dropped: held already, the later of two rivals, an unknown node; an op that does not read; a vector that is not closed, had it, and
     -- another op of a held sequence. Doubles that are not met by a held one stay
-    ∷ holdsBack (oneThen (a₁ ∷ []) 42) a₂ (tray (a₁ ∷ rival₃ ∷ a₃ ∷ unknown₁ ∷ [])) (accepted 74) (oneThen (a₁ ∷ a₂ ∷ rival₃ ∷ []) 14)
-    (tray [])
-    ∷ holdsBack (oneThen (a₁ ∷ []) 14) a₂ (tray (unread ∷ rival₃ ∷ a₁ ∷ rival₃ ∷ unknown₁ ∷ [])) (accepted 60) (oneThen (a₁ ∷ a₂ ∷ []) 0)
-    (tray (rival₃ ∷ rival₃ ∷ []))
-    ∷ holdsBack p1Buffer (adds 1 4 0 (vector 3 0 0)) (tray (torn₁ ∷ a₂ ∷ set a₂ 5 1 ∷ [])) (accepted 102)
-    (fileOf width (append p1 (adds 1 4 0 (vector 3 0 0)))) (tray [])
+    ∷ holdsBack (oneThen (a₁ ∷ []) 42) a₂ (back (a₁ ∷ rival₃ ∷ a₃ ∷ unknown₁ ∷ [])) (accepted 74) (oneThen (a₁ ∷ a₂ ∷ rival₃ ∷ []) 14)
+    (back [])
+    ∷ holdsBack (oneThen (a₁ ∷ []) 14) a₂ (back (unread ∷ rival₃ ∷ a₁ ∷ rival₃ ∷ unknown₁ ∷ [])) (accepted 60) (oneThen (a₁ ∷ a₂ ∷ []) 0)
+    (back (rival₃ ∷ rival₃ ∷ []))
+    ∷ holdsBack p1Buffer (adds 1 4 0 (vector 3 0 0)) (back (torn₁ ∷ a₂ ∷ set a₂ 5 1 ∷ [])) (accepted 102)
+    (fileOf width (append p1 (adds 1 4 0 (vector 3 0 0)))) (back [])
     -- had it: nothing is searched, though a₂ could go
-    ∷ holdsBack (oneThen (a₁ ∷ []) 42) a₁ (tray (a₂ ∷ [])) hadIt (oneThen (a₁ ∷ []) 42) (tray (a₂ ∷ []))
+    ∷ holdsBack (oneThen (a₁ ∷ []) 42) a₁ (back (a₂ ∷ [])) hadIt (oneThen (a₁ ∷ []) 42) (back (a₂ ∷ []))
     -- no room for the second: it stays; no room for the first: nothing changes
-    ∷ holdsBack (emptyThen 14) a₁ (tray (a₂ ∷ unknown₁ ∷ [])) (accepted 46) (oneThen (a₁ ∷ []) 0) (tray (a₂ ∷ []))
-    ∷ holdsBack (emptyThen 13) a₁ (tray (a₂ ∷ [])) (refused 8) (emptyThen 13) (tray (a₂ ∷ []))
+    ∷ holdsBack (emptyThen 14) a₁ (back (a₂ ∷ unknown₁ ∷ [])) (accepted 46) (oneThen (a₁ ∷ []) 0) (back (a₂ ∷ []))
+    ∷ holdsBack (emptyThen 13) a₁ (back (a₂ ∷ [])) (refused 8) (emptyThen 13) (back (a₂ ∷ []))
     -- a full holdback: 13 for another early op, waiting for one that is there; the other answers as before
-    ∷ holdsBack (emptyThen 14) b₁ (tray crowd) (refused 13) (emptyThen 14) (tray crowd)
-    ∷ holdsBack (emptyThen 14) (adds 1 33 0 (vector 32 0 0)) (tray crowd) waiting (emptyThen 14) (tray crowd)
-    ∷ holdsBack (emptyThen 14) (adds 1 1 999 (vector 0 0 0)) (tray crowd) (refused 7) (emptyThen 14) (tray crowd)
+    ∷ holdsBack (emptyThen 14) b₁ (back crowd) (refused 13) (emptyThen 14) (back crowd)
+    ∷ holdsBack (emptyThen 14) (adds 1 33 0 (vector 32 0 0)) (back crowd) waiting (emptyThen 14) (back crowd)
+    ∷ holdsBack (emptyThen 14) (adds 1 1 999 (vector 0 0 0)) (back crowd) (refused 7) (emptyThen 14) (back crowd)
     -- one place left
-    ∷ holdsBack (emptyThen 14) b₁ (tray (take 31 crowd)) waiting (emptyThen 14) (tray (take 31 crowd ++ (b₁ ∷ [])))
+    ∷ holdsBack (emptyThen 14) b₁ (back (take 31 crowd)) waiting (emptyThen 14) (back (take 31 crowd ++ (b₁ ∷ [])))
     -- refused: another op of a held sequence, a vector that is not closed, an unknown parent
-    ∷ holdsBack p1Buffer (set a₂ 5 1) (tray (a₃ ∷ [])) (refused 4) p1Buffer (tray (a₃ ∷ []))
-    ∷ holdsBack p1Buffer torn₁ (tray (a₃ ∷ [])) (refused 6) p1Buffer (tray (a₃ ∷ []))
-    ∷ holdsBack p1Buffer (adds 1 4 999 (vector 3 0 0)) (tray (a₃ ∷ [])) (refused 7) p1Buffer (tray (a₃ ∷ []))
+    ∷ holdsBack p1Buffer (set a₂ 5 1) (back (a₃ ∷ [])) (refused 4) p1Buffer (back (a₃ ∷ []))
+    ∷ holdsBack p1Buffer torn₁ (back (a₃ ∷ [])) (refused 6) p1Buffer (back (a₃ ∷ []))
+    ∷ holdsBack p1Buffer (adds 1 4 999 (vector 3 0 0)) (back (a₃ ∷ [])) (refused 7) p1Buffer (back (a₃ ∷ []))
     -- 14: a byte too few, a byte too many, a count above 32, a byte past the ops; after 1, before 2
     ∷ holdsBack (emptyThen 14) a₁ (replicate 448 0) (refused 14) (emptyThen 14) (replicate 448 0)
     ∷ holdsBack (emptyThen 14) a₁ (replicate 450 0) (refused 14) (emptyThen 14) (replicate 450 0)
     ∷ holdsBack (emptyThen 14) a₁ (33 ∷ replicate 448 0) (refused 14) (emptyThen 14) (33 ∷ replicate 448 0)
-    ∷ holdsBack (emptyThen 14) a₁ (set (tray (a₃ ∷ [])) 15 1) (refused 14) (emptyThen 14) (set (tray (a₃ ∷ [])) 15 1)
-    ∷ holdsBack (emptyThen 14) a₁ (set (tray []) 448 1) (refused 14) (emptyThen 14) (set (tray []) 448 1)
+    ∷ holdsBack (emptyThen 14) a₁ (set (back (a₃ ∷ [])) 15 1) (refused 14) (emptyThen 14) (set (back (a₃ ∷ [])) 15 1)
+    ∷ holdsBack (emptyThen 14) a₁ (set (back []) 448 1) (refused 14) (emptyThen 14) (set (back []) 448 1)
     ∷ holdsBack (replicate 31 0) a₁ [] (refused 1) (replicate 31 0) []
-    ∷ holdsBack [] a₁ (tray []) (refused 1) [] (tray [])
+    ∷ holdsBack [] a₁ (back []) (refused 1) [] (back [])
     ∷ holdsBack (emptyThen 14) (take 13 a₁) [] (refused 14) (emptyThen 14) []
     -- 2 and 3 before the op may wait
-    ∷ holdsBack (emptyThen 14) (take 13 a₂) (tray []) (refused 2) (emptyThen 14) (tray [])
-    ∷ holdsBack (emptyThen 14) (set a₂ 0 9) (tray []) (refused 3) (emptyThen 14) (tray [])
+    ∷ holdsBack (emptyThen 14) (take 13 a₂) (back []) (refused 2) (emptyThen 14) (back [])
+    ∷ holdsBack (emptyThen 14) (set a₂ 0 9) (back []) (refused 3) (emptyThen 14) (back [])
     ∷ []
 
 -- one row holds, and the others
