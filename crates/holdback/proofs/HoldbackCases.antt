@@ -25,7 +25,7 @@ use Rattle.codec.specs.declared.answer.Answer as code
 use Rattle.codec.proofs.AnswerLaws.{accepted-with, if-not-accepted}
 use Rattle.oplog.proofs.HeaderLaws.{end-is}
 use Rattle.holdback.specs.Delivering.{Held, afterSearch, heldBack, isEarly}
-use Rattle.holdback.specs.Places.{Compared, Roomy}
+use Rattle.holdback_places.specs.Places.{Compared, Roomy}
 use Rattle.holdback.specs.Searching.{Kept, Searchable, kept, searched}
 
 -- what a call hands back

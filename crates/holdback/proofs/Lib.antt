@@ -1,3 +1,2 @@
-pub mod PlaceCases
 pub mod SearchCases
 pub mod HoldbackCases

@@ -31,11 +31,11 @@ use Rattle.codec.specs.Read.{fieldsOf, readOf}
 use Rattle.codec.specs.declared.op.Read.{Read}
 use Rattle.codec.specs.declared.op.Read.the-variants as read
 use Rattle.delivery.proofs.DeliverCases.{delivering, unread}
-use Rattle.holdback.specs.Places.{Occupied, without}
+use Rattle.holdback_places.specs.Places.{Occupied, without}
 use Rattle.holdback.specs.Searching.{Kept, Offer, Offerable, Searchable, Visit, kept, left, leftBy, metOf, offered, searched, visited, waitingAt}
 use Rattle.holdback.specs.declared.searching.Met.{Met}
 use Rattle.holdback.specs.declared.searching.Met.the-variants.{Taken, Stays, Dropped}
-use Rattle.holdback.proofs.PlaceCases.{occupied}
+use Rattle.holdback_places.proofs.PlaceCases.{occupied}
 
 ---- what becomes of an op
 

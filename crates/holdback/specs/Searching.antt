@@ -10,7 +10,7 @@ use Rattle.rules.specs.File.{width}
 use Rattle.rules.specs.Holdback.{Search, holdbackOf, holdbackOps, search, soundHoldback, stays}
 use Rattle.rules.specs.Op.{Op}
 use Rattle.rules.specs.Sound.{sound}
-use Rattle.holdback.specs.Places.{Occupied, without}
+use Rattle.holdback_places.specs.Places.{Occupied, without}
 use Rattle.holdback.specs.declared.searching.Met.{Met}
 use Rattle.holdback.specs.declared.searching.Met.the-variants.{Taken, Stays, Dropped}
 

@@ -1,14 +1,14 @@
-use crate::places::PLACES;
-use crate::places::count;
-use crate::places::is_holdback;
-use crate::places::is_waiting;
-use crate::places::put_last;
 use crate::searching::search;
 use codec::Answer;
 use codec::Refusal;
 use codec::is_accepted;
 use codec::number_of;
 use delivery::deliver_next;
+use holdback_places::PLACES;
+use holdback_places::count;
+use holdback_places::is_holdback;
+use holdback_places::is_waiting;
+use holdback_places::put_last;
 use oplog::end_of;
 use soundness::WIDTH;
 use soundness::is_sound;
@@ -17,7 +17,7 @@ ghost use lib.Dec.{eqb};
 ghost use Rattle.rules.specs.File.{width};
 ghost use Rattle.rules.specs.Holdback.{deliverHoldback};
 ghost use Rattle.codec.specs.Answers.{answerOf, numberOf};
-ghost use Rattle.holdback.specs.Places.{Compared};
+ghost use Rattle.holdback_places.specs.Places.{Compared};
 ghost use Rattle.holdback.specs.Delivering.{afterSearch, isEarly, heldBack};
 ghost use Rattle.holdback.specs.Searching.{Searchable};
 

@@ -1,11 +1,11 @@
-use crate::places::count;
-use crate::places::free_place;
 use codec::Answer;
 use codec::Read;
 use codec::Refusal;
 use codec::number_of;
 use codec::read_op;
 use delivery::deliver_read;
+use holdback_places::count;
+use holdback_places::free_place;
 use soundness::WIDTH;
 ghost use mathlib.Core.Path.{_≡_};
 ghost use mathlib.Core.Bool.{true};

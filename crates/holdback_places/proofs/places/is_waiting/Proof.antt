@@ -1,8 +1,8 @@
--- `holdback::places::is_waiting` meets its contract.
+-- `holdback_places::places::is_waiting` meets its contract.
 use Prim.Native.Nat.{_-_}
-use Rattle.holdback.proofs.PlaceCases.{OthersTo, placing}
-use Rattle.holdback.proofs.places.is_waiting.Statement.{statement}
-use Rattle.holdback.proofs.places.is_waiting.Tie as tie
+use Rattle.holdback_places.proofs.PlaceCases.{OthersTo, placing}
+use Rattle.holdback_places.proofs.places.is_waiting.Statement.{statement}
+use Rattle.holdback_places.proofs.places.is_waiting.Tie as tie
 
 abbrev Inv-loop : tie.InvT-loop
 Inv-loop holdback op n i₀ i = OthersTo holdback op n i

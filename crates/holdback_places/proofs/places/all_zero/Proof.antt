@@ -1,10 +1,10 @@
--- `holdback::places::all_zero` meets its contract.
+-- `holdback_places::places::all_zero` meets its contract.
 use Prim.Native.Nat.{_-_}
 use lib.Dec.{eqb}
 use Rattle.lists.proofs.AllLaws.{PassTo}
-use Rattle.holdback.proofs.PlaceCases.{placing}
-use Rattle.holdback.proofs.places.all_zero.Statement.{statement}
-use Rattle.holdback.proofs.places.all_zero.Tie as tie
+use Rattle.holdback_places.proofs.PlaceCases.{placing}
+use Rattle.holdback_places.proofs.places.all_zero.Statement.{statement}
+use Rattle.holdback_places.proofs.places.all_zero.Tie as tie
 
 abbrev Inv-loop : tie.InvT-loop
 Inv-loop bytes i₀ i-end i = PassTo (eqb 0) bytes i-end i

@@ -21,7 +21,7 @@ use Rattle.rules.specs.Op.{Op}
 use Rattle.rules.proofs.FileLaws.{chunk-at}
 use Rattle.rules.proofs.HoldbackLaws.{sound-reads, ops-count, place-filled, place-freed}
 use Rattle.oplog.proofs.InsertLaws.{Fronted, front-next, front-last}
-use Rattle.holdback.specs.Places.{Compared, Roomy, Occupied, closeAt, putAt, without}
+use Rattle.holdback_places.specs.Places.{Compared, Roomy, Occupied, closeAt, putAt, without}
 
 ---- zero bytes
 

@@ -12,10 +12,10 @@ ghost use Rattle.lists.specs.Lists.{all};
 ghost use Rattle.rules.specs.Bytes.{byte};
 ghost use Rattle.rules.specs.File.{width};
 ghost use Rattle.rules.specs.Holdback.{holdbackOps, holdbackOf, soundHoldback, waits};
-ghost use Rattle.holdback.specs.Places.{Roomy, Occupied, Compared, closeAt, putAt, without};
+ghost use Rattle.holdback_places.specs.Places.{Roomy, Occupied, Compared, closeAt, putAt, without};
 
 // How many ops can wait.
-pub(crate) const PLACES: usize = 32;
+pub const PLACES: usize = 32;
 
 // Whether all bytes are zero.
 fn all_zero(bytes: &[u8]) -> bool
@@ -30,7 +30,7 @@ fn all_zero(bytes: &[u8]) -> bool
 }
 
 // Number 14: whether bytes are a holdback.
-pub(crate) fn is_holdback(bytes: &[u8]) -> bool
+pub fn is_holdback(bytes: &[u8]) -> bool
     ensures { λ r. ⌜ r ≡ soundHoldback width (now (bytes .entry)) ⌝ }
 {
     if bytes.len() != 1 + WIDTH * PLACES {
@@ -45,7 +45,7 @@ pub(crate) fn is_holdback(bytes: &[u8]) -> bool
 }
 
 // How many ops wait.
-pub(crate) fn count(holdback: &[u8]) -> usize
+pub fn count(holdback: &[u8]) -> usize
     requires { ⌜ soundHoldback width (now holdback) ≡ true ⌝ }
     ensures { λ r. ⌜ r ≡ byte (now (holdback .entry)) 0 ⌝ }
 {
@@ -53,7 +53,7 @@ pub(crate) fn count(holdback: &[u8]) -> usize
 }
 
 // Whether the same bytes wait already.
-pub(crate) fn is_waiting(holdback: &[u8], op: &[u8]) -> bool
+pub fn is_waiting(holdback: &[u8], op: &[u8]) -> bool
     requires { ⌜ Compared (now holdback) (now op) ⌝ }
     ensures { λ r. ⌜ r ≡ waits width (now (op .entry)) (now (holdback .entry)) ⌝ }
 {
@@ -75,7 +75,7 @@ fn put_at(holdback: &mut [u8], at: usize, op: &[u8])
 }
 
 // Puts an op into the first free place.
-pub(crate) fn put_last(holdback: &mut [u8], op: &[u8])
+pub fn put_last(holdback: &mut [u8], op: &[u8])
     requires { ⌜ Roomy (now holdback) (now op) ⌝ }
     ensures { λ _. ⌜ now (holdback .exit)
         ≡ holdbackOf width (holdbackOps width (now (holdback .entry)) ++ (now (op .entry) ∷ [])) ⌝ }
@@ -117,7 +117,7 @@ fn close_at(holdback: &mut [u8], at: usize)
 }
 
 // Frees a place: the ops behind it close up.
-pub(crate) fn free_place(holdback: &mut [u8], i: usize)
+pub fn free_place(holdback: &mut [u8], i: usize)
     requires { ⌜ Occupied (now holdback) i ⌝ }
     ensures { λ _. ⌜ now (holdback .exit) ≡ holdbackOf width (without (holdbackOps width (now (holdback .entry))) i) ⌝ }
 {
