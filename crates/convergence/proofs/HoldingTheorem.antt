@@ -27,7 +27,7 @@ use Rattle.rules.proofs.ReleaseLaws.{accepted-says}
 use Rattle.rules.proofs.SearchLaws.{look-less}
 use Rattle.rules.proofs.VerdictLaws.{Verdict, short, unformed, rival, had, early, torn, unknown, full, taken, verdict}
 use Rattle.convergence.specs.Exchange.{has}
-use Rattle.convergence.specs.Holding.{AtMost33, RestRefused, Desk, post, posted, cleared, NeverFull, noneAccepted, overAndOver, reads, Offers, OrderFree, HoldbackPromise}
+use Rattle.convergence.specs.Holding.{AtMost33, RestRefused, Desk, post, posted, cleared, NeverFull, noneAccepted, overAndOver, reads, FairOffers, OrderFree, HoldbackPromise}
 use Rattle.convergence.proofs.HasLaws.{has-head, has-tail, has-old, has-new, has-none, has-cases, has-either}
 use Rattle.convergence.proofs.GrownLaws.{same-bytes}
 use Rattle.convergence.proofs.EndLaws.{Ended, reads-of, reads-long, reads-formed, one-log}
@@ -336,7 +336,7 @@ module _ (w : ℕ) (f : List ℕ) (rs : List (List ℕ)) where
             (has-cases r os y j);
       }
 
-  module _ (x : Offers w f rs) where
+  module _ (x : FairOffers w f rs) where
     first : Desked (cleared w f)
     unfolding cleared
     first =

@@ -24,7 +24,7 @@ use Rattle.rules.proofs.InLaws.{new-in}
 use Rattle.rules.proofs.SoundLaws.{sound-good}
 use Rattle.rules.proofs.VerdictLaws.{admits-room}
 use Rattle.convergence.specs.Exchange.{has}
-use Rattle.convergence.specs.Holding.{accepts, noneAccepted, rounds, overAndOver, reads, different, Offers, PlainEnds}
+use Rattle.convergence.specs.Holding.{accepts, noneAccepted, offerRounds, overAndOver, reads, different, FairOffers, PlainEnds}
 use Rattle.convergence.proofs.HasLaws.{has-head, has-tail, has-none, has-cases}
 use Rattle.convergence.proofs.GrownLaws.{grown-first, grown-deliver}
 use Rattle.convergence.proofs.EndLaws.{Reached, Ended, reads-of, reads-formed, not-admitted}
@@ -197,14 +197,14 @@ module _ (w : ℕ) (rs : List (List ℕ)) where
       → noneAccepted w g os ≡ true
   none-comes g h os i = ⊎-elim (λ (e : noneAccepted w g os ≡ true). e) (λ l. absurd (omega arith)) (offered os g i .1)
 
-  rounds-end : (k : ℕ) (g : List ℕ) → pending g ≤ k → noneAccepted w (rounds k w g rs) rs ≡ true
-  unfolding rounds
+  rounds-end : (k : ℕ) (g : List ℕ) → pending g ≤ k → noneAccepted w (offerRounds k w g rs) rs ≡ true
+  unfolding offerRounds
   rounds-end zero g h = none-comes g h rs (λ r i. i)
   rounds-end (suc k) g h = go (noneAccepted w g rs) refl (rounds-end k (turnsBuffer w g rs))
     where
       go : (b : Bool) → noneAccepted w g rs ≡ b
-          → (pending (turnsBuffer w g rs) ≤ k → noneAccepted w (rounds k w (turnsBuffer w g rs) rs) rs ≡ true)
-          → noneAccepted w (cond b g (rounds k w (turnsBuffer w g rs) rs)) rs ≡ true
+          → (pending (turnsBuffer w g rs) ≤ k → noneAccepted w (offerRounds k w (turnsBuffer w g rs) rs) rs ≡ true)
+          → noneAccepted w (cond b g (offerRounds k w (turnsBuffer w g rs) rs)) rs ≡ true
       go true e ih = e
       go false e ih = ⊎-elim
           (λ (n : noneAccepted w g rs ≡ true). never (sym e ∙ n))
@@ -227,7 +227,7 @@ module _ (w : ℕ) (rs : List (List ℕ)) where
       let m = mul-le-mul-left w (accept-fewer g r n i h) in
       inr (omega (arith, appended-length w g r n h, appended-end w g r n h, mul-step w (pending (appended w g r))))
 
-  space-first : (f : List ℕ) → Offers w f rs → Space f
+  space-first : (f : List ℕ) → FairOffers w f rs → Space f
   unfolding pending
   space-first f x = ⊎-elim inl (λ fits. let m = mul-le-mul-left w (no-more (comes f) (different rs)) in inr (omega arith)) (x .space)
 
@@ -238,7 +238,7 @@ module _ (w : ℕ) (rs : List (List ℕ)) where
     pub space : Space g
 
   module _ (f : List ℕ) where
-    pub fits-first : Offers w f rs → Fits f f
+    pub fits-first : FairOffers w f rs → Fits f f
     fits-first x = record { grown = grown-first (λ y. has rs y ≡ true) w f (x .is-sound); space = space-first f x }
 
     pub fits-deliver : (g : List ℕ) (r : Op) → has rs r ≡ true → Fits f g → Fits f (deliverBuffer w g r)
@@ -260,16 +260,16 @@ module _ (w : ℕ) (rs : List (List ℕ)) where
     fits-turns (r ∷ os) g i x =
         fits-turns os (deliverBuffer w g r) (λ y j. i y (has-tail r os y j)) (fits-deliver g r (i r (has-head r os)) x)
 
-    fits-rounds : (k : ℕ) (g : List ℕ) → Fits f g → Fits f (rounds k w g rs)
-    unfolding rounds
+    fits-rounds : (k : ℕ) (g : List ℕ) → Fits f g → Fits f (offerRounds k w g rs)
+    unfolding offerRounds
     fits-rounds zero g x = x
     fits-rounds (suc k) g x = go (noneAccepted w g rs) (fits-rounds k (turnsBuffer w g rs) (fits-turns rs g (λ r i. i) x))
       where
-        go : (b : Bool) → Fits f (rounds k w (turnsBuffer w g rs) rs) → Fits f (cond b g (rounds k w (turnsBuffer w g rs) rs))
+        go : (b : Bool) → Fits f (offerRounds k w (turnsBuffer w g rs) rs) → Fits f (cond b g (offerRounds k w (turnsBuffer w g rs) rs))
         go true y = x
         go false y = y
 
-    pub fits-plain : Offers w f rs → Fits f (overAndOver w f rs)
+    pub fits-plain : FairOffers w f rs → Fits f (overAndOver w f rs)
     unfolding overAndOver
     fits-plain x = fits-rounds (length rs) f (fits-first x)
 

@@ -5,7 +5,7 @@ use mathlib.Core.Bool.{true, false}
 use mathlib.Core.List.{List, [], _∷_, _++_}
 use mathlib.Core.Path.{refl, _≡_}
 use Rattle.convergence.specs.Exchange.{deliverHoldback, perform, lent, answer, bufferAfter, begun, added, has}
-use Rattle.convergence.specs.Holding.{Desk, post, posted, cleared, accepts, noneAccepted, rounds, overAndOver, reads, different}
+use Rattle.convergence.specs.Holding.{Desk, post, posted, cleared, accepts, noneAccepted, offerRounds, overAndOver, reads, different}
 use Rattle.lists.specs.Lists.{all, upFrom, sum, concat, same, any, filter, isIn}
 use Rattle.rules.specs.Answer.{Answer, waiting, accepted, require}
 use Rattle.rules.specs.Bytes.{wordAt, word}
@@ -40,9 +40,9 @@ pub record ByPost : Type 0 where
   pub the-file : posted width (cleared width buffer) letters .buffer ≡ p1File ++ (7 ∷ 7 ∷ [])
   pub none-waits : posted width (cleared width buffer) letters .holdback ≡ holdbackOf width []
   -- plainly: three rounds, and then none is accepted
-  pub one-round : rounds 1 width buffer letters ≡ fileOf width (append emptyLog a₁) ++ replicate 44 7
-  pub two-rounds : noneAccepted width (rounds 2 width buffer letters) letters ≡ false
-  pub three-rounds : rounds 3 width buffer letters ≡ p1File ++ (7 ∷ 7 ∷ [])
+  pub one-round : offerRounds 1 width buffer letters ≡ fileOf width (append emptyLog a₁) ++ replicate 44 7
+  pub two-rounds : noneAccepted width (offerRounds 2 width buffer letters) letters ≡ false
+  pub three-rounds : offerRounds 3 width buffer letters ≡ p1File ++ (7 ∷ 7 ∷ [])
   pub over : overAndOver width buffer letters ≡ p1File ++ (7 ∷ 7 ∷ [])
   pub ended : noneAccepted width (overAndOver width buffer letters) letters ≡ true
   -- each op counts once for the space
@@ -57,7 +57,7 @@ unfolding p1 p1File emptyFile require wordAt word upFrom sum same concat all any
     marked knowledge knownParent namesKnown soundOp soundOps soundLog soundHeader laid structural sound isHeld heldAnswer admitAnswer
     deliverAnswer deliverBuffer appended opBytes opsWithin removedIn turnsBuffer holdbackOps holdbackOf soundHoldback stays look searchOn
     looks search waits putBack earlyAnswer released answerOn holdbackAnswer holdbackBuffer holdbackAfter holdbackTaken answers post posted
-    cleared accepts noneAccepted rounds overAndOver reads different has answer bufferAfter begun added perform
+    cleared accepts noneAccepted offerRounds overAndOver reads different has answer bufferAfter begun added perform
 by-post = record {
   all-wait = refl;
   the-file = refl;

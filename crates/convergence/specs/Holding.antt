@@ -65,13 +65,13 @@ unfoldable pub noneAccepted : ℕ → List ℕ → List (List ℕ) → Bool
 noneAccepted w f rs = all (λ r. not (accepts w f r)) rs
 
 -- rounds in which each is offered, until none is accepted; at most k
-unfoldable pub rounds : ℕ → ℕ → List ℕ → List (List ℕ) → List ℕ
-rounds zero w f rs = f
-rounds (suc k) w f rs = cond (noneAccepted w f rs) f (rounds k w (turnsBuffer w f rs) rs)
+unfoldable pub offerRounds : ℕ → ℕ → List ℕ → List (List ℕ) → List ℕ
+offerRounds zero w f rs = f
+offerRounds (suc k) w f rs = cond (noneAccepted w f rs) f (offerRounds k w (turnsBuffer w f rs) rs)
 
 -- as many as there are ops are enough
 unfoldable pub overAndOver : ℕ → List ℕ → List (List ℕ) → List ℕ
-overAndOver w f rs = rounds (length rs) w f rs
+overAndOver w f rs = offerRounds (length rs) w f rs
 
 -- it ends
 abbrev pub PlainEnds : Type 0
@@ -94,7 +94,7 @@ unfoldable pub different : List (List ℕ) → List (List ℕ)
 different [] = []
 different (r ∷ rs) = cond (has rs r) (different rs) (r ∷ different rs)
 
-pub record Offers (w : ℕ) (f : List ℕ) (rs : List (List ℕ)) : Type 0 where
+pub record FairOffers (w : ℕ) (f : List ℕ) (rs : List (List ℕ)) : Type 0 where
   pub is-sound : sound w f ≡ true
   pub no-rivals : NoRivals w rs
   -- "space suffices": for the largest log, or for each of the offered ops once
@@ -105,11 +105,11 @@ pub record Offers (w : ℕ) (f : List ℕ) (rs : List (List ℕ)) : Type 0 where
 -- the order of plain offers does not matter, nor how often each comes: where none is accepted any more, all have come to one buffer
 abbrev pub OrderFree : Type 0
 OrderFree =
-    (w : ℕ) (f : List ℕ) (rs os : List (List ℕ)) → Offers w f rs → ((r : Op) → has os r ≡ true → has rs r ≡ true)
+    (w : ℕ) (f : List ℕ) (rs os : List (List ℕ)) → FairOffers w f rs → ((r : Op) → has os r ≡ true → has rs r ≡ true)
     → noneAccepted w (turnsBuffer w f os) rs ≡ true → turnsBuffer w f os ≡ overAndOver w f rs
 
 -- "the collection ends as it would by offering the same records plainly": every byte of the buffer
 abbrev pub HoldbackPromise : Type 0
 HoldbackPromise =
-    (w : ℕ) (f : List ℕ) (rs : List (List ℕ)) → Offers w f rs → NeverFull w (cleared w f) rs
+    (w : ℕ) (f : List ℕ) (rs : List (List ℕ)) → FairOffers w f rs → NeverFull w (cleared w f) rs
     → posted w (cleared w f) rs .buffer ≡ overAndOver w f rs
