@@ -76,7 +76,7 @@ module _ (P : Op → Type 0) (w : ℕ) (f : List ℕ) where
         (in-append old r (good .eight) (i .0) (i .1) (own-next old r good (h .admits)) (opAt (append old r) s q)
         (op-in (append old r) (good-ops gm) s q l u (omega arith) uq))
 
-    pub grown-by : Grown (appended w g r)
+    grown-by : Grown (appended w g r)
     grown-by =
         let i = in-range old r good (h .admits) in
         record {

@@ -48,7 +48,7 @@ has-none r e = never e
 pub has-either : (a b : List Op) (r : Op) → has (a ++ b) r ≡ true → (has a r ≡ true) ⊎ (has b r ≡ true)
 has-either a b r e = or-cases (has a r) (has b r) (sym (has-append a b r) ∙ e)
 
-pub has-right : (a b : List Op) (r : Op) → has b r ≡ true → has (a ++ b) r ≡ true
+has-right : (a b : List Op) (r : Op) → has b r ≡ true → has (a ++ b) r ≡ true
 has-right a b r e = rw (has-append, e, or-true)
 
 pub has-cases : (x : Op) (a : List Op) (r : Op) → has (x ∷ a) r ≡ true → (r ≡ x) ⊎ (has a r ≡ true)

@@ -368,13 +368,13 @@ module _ (w : ℕ) (f : List ℕ) (rs : List (List ℕ)) where
     plain-end : Ended w f rs (overAndOver w f rs)
     plain-end = none-ended w rs f (overAndOver w f rs) (fits-plain w rs f x) (plain-ends w rs f)
 
-    pub order-free : (os : List (List ℕ)) → ((r : Op) → has os r ≡ true → In r) → noneAccepted w (turnsBuffer w f os) rs ≡ true
+    order-free : (os : List (List ℕ)) → ((r : Op) → has os r ≡ true → In r) → noneAccepted w (turnsBuffer w f os) rs ≡ true
         → turnsBuffer w f os ≡ overAndOver w f rs
     order-free os i none-left =
         let y = fits-turns w rs f os f i (fits-first w rs f x) in
         one-buffer _ _ y (fits-plain w rs f x) (none-ended w rs f (turnsBuffer w f os) y none-left) plain-end
 
-    pub holdback-end : NeverFull w (cleared w f) rs → posted w (cleared w f) rs .buffer ≡ overAndOver w f rs
+    holdback-end : NeverFull w (cleared w f) rs → posted w (cleared w f) rs .buffer ≡ overAndOver w f rs
     holdback-end ok = let (y, over) = row-end ok in one-buffer _ _ y (fits-plain w rs f x) over plain-end
 
 pub offers-in-any-order : OrderFree

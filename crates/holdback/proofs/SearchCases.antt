@@ -78,7 +78,7 @@ module _ (a : code.Answer) where
   met-taken n e = rw e
 
 -- what was met tells the answer
-pub data Told : Answer → Met → Type 0 where
+data Told : Answer → Met → Type 0 where
   told-taken : {a : Answer} → ifAccepted a true false ≡ true → Told a Taken
   told-stays : {a : Answer} → ifAccepted a true false ≡ false → stays a ≡ true → Told a Stays
   told-dropped : {a : Answer} → ifAccepted a true false ≡ false → stays a ≡ false → Told a Dropped
@@ -193,16 +193,16 @@ module _ (h : List ℕ) (i : ℕ) (o : Occupied h i) (g : List ℕ) (is : g ≡ 
       let w = ops-wide width h (o .is-holdback) in
       wide-both width (take i ops) (drop (suc i) ops) (wide-take width i ops w) (wide-drop width (suc i) ops w)
 
-  pub freed-ops : holdbackOps width g ≡ without ops i
+  freed-ops : holdbackOps width g ≡ without ops i
   freed-ops = rw is (ops-back width (without ops i) wide-left)
 
-  pub freed-sound : soundHoldback width g ≡ true
+  freed-sound : soundHoldback width g ≡ true
   freed-sound = rw is (holdback-sound width (without ops i) wide-left (omega (arith, few-left, sound-reads width h (o .is-holdback) .few)))
 
-  pub freed-count : byte g 0 + 1 ≡ byte h 0
+  freed-count : byte g 0 + 1 ≡ byte h 0
   freed-count = omega (arith, few-left, ops-count width g, ap length freed-ops)
 
-  pub freed-size : length g ≡ length h
+  freed-size : length g ≡ length h
   freed-size = sound-reads width g freed-sound .size ∙ sym (sound-reads width h (o .is-holdback) .size)
 
   freed-take : take i (without ops i) ≡ take i ops

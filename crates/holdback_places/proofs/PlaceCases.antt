@@ -137,9 +137,6 @@ module _ (w : ℕ) (p : List ℕ) where
   }
 
   module _ (part : List ℕ) (end k : ℕ) (t : Fronted (drop w p) p part end k) (h : k < end) where
-    down-inside : k + w < length part
-    down-inside = omega (arith, t .whole, t .same, length-drop w p)
-
     down-byte : getD part (k + w) 0 ≡ getD (drop w p) k 0
     down-byte =
         let there : drop k part ≡ drop k p =
