@@ -4,9 +4,9 @@ mod bundle;
 pub mod damage;
 mod deliver;
 pub mod examples;
+mod holdback;
 mod issue;
 mod judge;
-mod tray;
 mod view;
 pub mod world;
 
@@ -57,24 +57,24 @@ impl Script {
         self.push(Case::OpenBundle(bundle.to_vec()))
     }
 
-    /// Delivers with such a tray.
-    pub fn deliver_tray(&mut self, op: &[u8], tray: &[u8]) -> &str {
-        self.push(Case::DeliverTray(op.to_vec(), tray.to_vec()))
+    /// Delivers with such a holdback.
+    pub fn deliver_holdback(&mut self, op: &[u8], holdback: &[u8]) -> &str {
+        self.push(Case::DeliverHoldback(op.to_vec(), holdback.to_vec()))
     }
 
-    /// Delivers with the tray as the last delivery with one left it.
+    /// Delivers with the holdback as the last delivery with one left it.
     pub fn deliver_next(&mut self, op: &[u8]) -> &str {
-        let tray = self.tray().to_vec();
-        self.deliver_tray(op, &tray)
+        let holdback = self.holdback().to_vec();
+        self.deliver_holdback(op, &holdback)
     }
 
     pub fn buffer(&self) -> &[u8] {
         &self.machine.buffer
     }
 
-    /// What the last delivery with a tray left there.
-    pub fn tray(&self) -> &[u8] {
-        &self.machine.tray
+    /// What the last delivery with a holdback left there.
+    pub fn holdback(&self) -> &[u8] {
+        &self.machine.holdback
     }
 
     /// Adds the cases of a section; false if there is none of this name.
@@ -85,7 +85,7 @@ impl Script {
             "issue" => issue::write(self),
             "view" => view::write(self),
             "bundle" => bundle::write(self),
-            "tray" => tray::write(self),
+            "holdback" => holdback::write(self),
             _ => return false,
         }
         true

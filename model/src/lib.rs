@@ -8,11 +8,11 @@
 pub mod bundle;
 pub mod calls;
 pub mod cases;
+pub mod holdback;
 pub mod log;
 pub mod op;
 pub mod rng;
 pub mod script;
-pub mod tray;
 pub mod tree;
 pub mod view;
 
@@ -20,9 +20,9 @@ pub use bundle::{make_bundle, open_bundle};
 pub use calls::{
     deliver, file_end, held_counts, is_sound, issue_add, issue_move, issue_remove, judge, make,
 };
+pub use holdback::{deliver_holdback, HOLDBACK_LEN, HOLDBACK_PLACES};
 pub use log::{Knowledge, Log, HEADER_LEN, MAX_FILE};
 pub use op::{Kind, Op, Vector, MAX_SEQUENCE, OP_LEN, REPLICAS};
-pub use tray::{deliver_tray, TRAY_LEN, TRAY_PLACES};
 pub use tree::{slot_of, Tree, NO_PARENT, SLOTS};
 pub use view::{listing, listing_size, outline, path, View};
 
@@ -33,7 +33,7 @@ pub enum Answer {
     Accepted(usize),
     /// The same op was there already; nothing changed.
     HadIt,
-    /// The op is early, and waits in the tray.
+    /// The op is early, and waits in the holdback.
     Waiting,
     /// Judging is done.
     Done,
@@ -58,6 +58,6 @@ pub mod refusal {
     pub const BELOW_ITSELF: u8 = 10;
     pub const MARKED: u8 = 11;
     pub const BUNDLE: u8 = 12;
-    pub const TRAY_FULL: u8 = 13;
-    pub const BAD_TRAY: u8 = 14;
+    pub const HOLDBACK_FULL: u8 = 13;
+    pub const BAD_HOLDBACK: u8 = 14;
 }

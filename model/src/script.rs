@@ -2,8 +2,8 @@
 //! The grammar is in README.md.
 
 use crate::{
-    deliver, deliver_tray, issue_add, issue_move, issue_remove, judge, listing, make, make_bundle,
-    open_bundle, outline, path, Answer, Vector, View,
+    deliver, deliver_holdback, issue_add, issue_move, issue_remove, judge, listing, make,
+    make_bundle, open_bundle, outline, path, Answer, Vector, View,
 };
 
 /// Limits of the grammar.
@@ -13,7 +13,7 @@ pub const MAX_TABLE: u16 = 2_100;
 pub const MAX_LISTING: u16 = 24_000;
 pub const MAX_RECORD: u8 = 40;
 pub const MAX_BUNDLE: u16 = 28_600;
-pub const MAX_TRAY: usize = 600;
+pub const MAX_HOLDBACK: usize = 600;
 
 /// Bytes with at most this length are printed in full.
 const SHORT: usize = 64;
@@ -37,8 +37,8 @@ pub enum Case {
     Resize(u16),
     MakeBundle(Vector, u16),
     OpenBundle(Vec<u8>),
-    /// A record and a tray.
-    DeliverTray(Vec<u8>, Vec<u8>),
+    /// A record and a holdback.
+    DeliverHoldback(Vec<u8>, Vec<u8>),
 }
 
 impl Case {
@@ -77,10 +77,10 @@ impl Case {
                 line.extend(room.to_be_bytes());
             }
             Case::OpenBundle(bundle) => start(&mut line, 0x0c, bundle),
-            Case::DeliverTray(op, tray) => {
+            Case::DeliverHoldback(op, holdback) => {
                 start(&mut line, 0x0d, &[op.len() as u8]);
                 line.extend(op);
-                line.extend(tray);
+                line.extend(holdback);
             }
         }
         line
@@ -102,8 +102,8 @@ impl Case {
                 Case::Listing(_, room) => *room <= MAX_LISTING,
                 Case::Resize(length) => usize::from(*length) <= MAX_BUFFER,
                 Case::MakeBundle(_, room) => *room <= MAX_BUNDLE,
-                Case::DeliverTray(op, tray) => {
-                    op.len() <= usize::from(MAX_RECORD) && tray.len() <= MAX_TRAY
+                Case::DeliverHoldback(op, holdback) => {
+                    op.len() <= usize::from(MAX_RECORD) && holdback.len() <= MAX_HOLDBACK
                 }
                 _ => true,
             }
@@ -124,8 +124,8 @@ fn numbers(line: &mut Vec<u8>, call: u8, numbers: &[u16]) {
 #[derive(Clone, Default)]
 pub struct Machine {
     pub buffer: Vec<u8>,
-    /// What the last delivery with a tray left there.
-    pub tray: Vec<u8>,
+    /// What the last delivery with a holdback left there.
+    pub holdback: Vec<u8>,
 }
 
 impl Machine {
@@ -175,10 +175,10 @@ impl Machine {
                 with_bytes(*room, |out| make_bundle(buffer, *counts, out))
             }
             Case::OpenBundle(bundle) => (text(open_bundle(buffer, bundle)), vec![]),
-            Case::DeliverTray(op, tray) => {
-                self.tray.clone_from(tray);
-                let answer = deliver_tray(buffer, op, &mut self.tray);
-                (text(answer), vec![self.tray.clone()])
+            Case::DeliverHoldback(op, holdback) => {
+                self.holdback.clone_from(holdback);
+                let answer = deliver_holdback(buffer, op, &mut self.holdback);
+                (text(answer), vec![self.holdback.clone()])
             }
         }
     }

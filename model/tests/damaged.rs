@@ -15,8 +15,12 @@ fn every_call(buffer: &[u8], op: &[u8], node: u16) {
     let agrees = |answer| assert_eq!(answer == Refused(1), !sound);
     agrees(deliver_checked(&mut buffer.to_vec(), op));
     let waiting = [add(7, 0, &[0, 0, 0, 0, 0, 0, 1]), add(2, 257, &[1])];
-    for tray in [vec![], vec![0; 449], tray_of(&waiting)] {
-        agrees(tray_checked(&mut buffer.to_vec(), op, &mut tray.clone()));
+    for holdback in [vec![], vec![0; 449], holdback_of(&waiting)] {
+        agrees(holdback_checked(
+            &mut buffer.to_vec(),
+            op,
+            &mut holdback.clone(),
+        ));
     }
     for issue in [Issue::Add(node), Issue::Remove(node), Issue::Move(node, 0)] {
         agrees(issue_checked(&mut buffer.to_vec(), 1, issue).0);

@@ -13,7 +13,7 @@ use std::collections::BTreeMap;
 struct Side {
     buffer: Vec<u8>,
     /// Lent with a delivery as the last one left it, or with any other content.
-    tray: Vec<u8>,
+    holdback: Vec<u8>,
     held: Vec<Vec<u8>>,
     /// The replicas that issue here and nowhere else.
     replicas: Vec<u8>,
@@ -33,10 +33,10 @@ struct Tally {
     /// Bundles that were opened, and that were refused.
     opened: usize,
     shut: usize,
-    /// Ops that went to a tray, and that were taken from one.
+    /// Ops that went to a holdback, and that were taken from one.
     waiting: usize,
     freed: usize,
-    /// Trays that were refused.
+    /// Holdbacks that were refused.
     bad: usize,
 }
 
@@ -44,7 +44,7 @@ impl Side {
     fn new(length: usize, replicas: Vec<u8>) -> Side {
         Side {
             buffer: empty(length),
-            tray: tray_from(&[]),
+            holdback: holdback_from(&[]),
             held: vec![],
             replicas,
             tally: Tally::default(),
@@ -85,15 +85,15 @@ impl Side {
         }
     }
 
-    /// A delivery with a tray joins the list with the op and those that it frees:
+    /// A delivery with a holdback joins the list with the op and those that it frees:
     /// what a plain delivery of each, in the order of the search, would accept.
-    fn deliver_tray(&mut self, op: &[u8]) {
+    fn deliver_holdback(&mut self, op: &[u8]) {
         let mut plain = self.buffer.clone();
-        let waited = match self.tray.len() {
-            449 if self.tray[0] <= 32 => waiting(&self.tray),
+        let waited = match self.holdback.len() {
+            449 if self.holdback[0] <= 32 => waiting(&self.holdback),
             _ => vec![],
         };
-        match tray_checked(&mut self.buffer, op, &mut self.tray) {
+        match holdback_checked(&mut self.buffer, op, &mut self.holdback) {
             Waiting => self.tally.waiting += 1,
             Refused(14) => self.tally.bad += 1,
             Accepted(_) => {
@@ -188,30 +188,30 @@ impl Meeting {
                 self.sides[at].deliver(&damage::record(rng, issued));
             }
             37..=59 => self.sides[at].deliver(&self.issued[rng.below(self.issued.len())]),
-            60..=63 => self.lend_tray(rng, at),
-            _ => self.deliver_tray(rng, at),
+            60..=63 => self.lend_holdback(rng, at),
+            _ => self.deliver_holdback(rng, at),
         }
     }
 
-    /// Another tray: an empty one, one of ops that were issued, or of any content.
-    fn lend_tray(&mut self, rng: &mut Rng, at: usize) {
+    /// Another holdback: an empty one, one of ops that were issued, or of any content.
+    fn lend_holdback(&mut self, rng: &mut Rng, at: usize) {
         let side = &mut self.sides[at];
-        side.tray = tray_from(&[]);
+        side.holdback = holdback_from(&[]);
         if !self.issued.is_empty() && !rng.one_in(3) {
             let count = rng.below(33);
             let some = |_| self.issued[rng.below(self.issued.len())].clone();
-            side.tray = tray_from(&(0..count).map(some).collect::<Vec<_>>());
+            side.holdback = holdback_from(&(0..count).map(some).collect::<Vec<_>>());
         }
         match rng.below(12) {
-            0 => side.tray = damage::tray(rng, &side.tray),
-            1 => side.tray = world::tray(rng, &[], &[0; 8]),
-            2 => side.tray = damage::random(rng, &side.tray),
+            0 => side.holdback = damage::holdback(rng, &side.holdback),
+            1 => side.holdback = world::holdback(rng, &[], &[0; 8]),
+            2 => side.holdback = damage::random(rng, &side.holdback),
             _ => {}
         }
     }
 
     /// Mostly one of the next that some other holds, so that some are early.
-    fn deliver_tray(&mut self, rng: &mut Rng, at: usize) {
+    fn deliver_holdback(&mut self, rng: &mut Rng, at: usize) {
         let from = rng.below(self.sides.len());
         let held = &self.sides[at].held;
         let lacking = |op: &&Vec<u8>| !held.contains(op);
@@ -229,7 +229,7 @@ impl Meeting {
         if rng.one_in(30) {
             op = damage::record(rng, &op);
         }
-        self.sides[at].deliver_tray(&op);
+        self.sides[at].deliver_holdback(&op);
     }
 
     fn refused(&mut self, rng: &mut Rng, at: usize) {

@@ -568,43 +568,48 @@ fn insert(buffer: &mut [u8], record: &[u8]) {
     }
 }
 
-/// Delivery with a tray, in place on the lent bytes.
-fn deliver_in_place(buffer: &mut [u8], record: &[u8], tray: &mut [u8]) -> Answer {
+/// Delivery with a holdback, in place on the lent bytes.
+fn deliver_in_place(buffer: &mut [u8], record: &[u8], holdback: &mut [u8]) -> Answer {
     if !is_sound(buffer) {
         return Refused(1);
     }
-    if tray.len() != 449 || tray[0] > 32 {
+    if holdback.len() != 449 || holdback[0] > 32 {
         return Refused(14);
     }
-    let past = 1 + 14 * usize::from(tray[0]);
-    if (past..449).any(|at| tray[at] != 0) {
+    let past = 1 + 14 * usize::from(holdback[0]);
+    if (past..449).any(|at| holdback[at] != 0) {
         return Refused(14);
     }
     match tested(buffer, record) {
         0 => insert(buffer, record),
         HELD => return HadIt,
-        5 if (1..past).step_by(14).any(|at| tray[at..at + 14] == *record) => return Waiting,
+        5 if (1..past)
+            .step_by(14)
+            .any(|at| holdback[at..at + 14] == *record) =>
+        {
+            return Waiting
+        }
         5 if past == 449 => return Refused(13),
         5 => {
-            tray[past..past + 14].copy_from_slice(record);
-            tray[0] += 1;
+            holdback[past..past + 14].copy_from_slice(record);
+            holdback[0] += 1;
             return Waiting;
         }
         number => return Refused(number),
     }
     let mut at = 1;
-    while at < 1 + 14 * usize::from(tray[0]) {
-        let number = tested(buffer, &tray[at..at + 14]);
+    while at < 1 + 14 * usize::from(holdback[0]) {
+        let number = tested(buffer, &holdback[at..at + 14]);
         if number == 5 || number == 8 {
             at += 14;
             continue;
         }
         if number == 0 {
-            insert(buffer, &tray[at..at + 14]);
+            insert(buffer, &holdback[at..at + 14]);
         }
-        tray.copy_within(at + 14.., at);
-        tray[435..].fill(0);
-        tray[0] -= 1;
+        holdback.copy_within(at + 14.., at);
+        holdback[435..].fill(0);
+        holdback[0] -= 1;
         if number == 0 {
             at = 1;
         }
@@ -612,9 +617,9 @@ fn deliver_in_place(buffer: &mut [u8], record: &[u8], tray: &mut [u8]) -> Answer
     Accepted(32 + 14 * (0..8).map(|i| number_at(buffer, 4 * i)).sum::<usize>())
 }
 
-/// A part of a world, damaged at times, with any tray and any record.
+/// A part of a world, damaged at times, with any holdback and any record.
 #[test]
-fn trays() {
+fn holdbacks() {
     let mut seen = [0; 15];
     let [mut had_it, mut waiting, mut accepted] = [0; 3];
     // Calls that accepted more than one.
@@ -636,9 +641,9 @@ fn trays() {
         }
         let room = rng.pick(&[0, 13, 14, 60, 200, 900, 900, 900]);
         let mut buffer = in_buffer(&file, file.len() + room);
-        let mut tray = world::tray(rng, &ops, &counts);
+        let mut holdback = world::holdback(rng, &ops, &counts);
         if rng.one_in(20) {
-            tray = damage::tray(rng, &tray);
+            holdback = damage::holdback(rng, &holdback);
         }
         // Each call is lent what the last one left.
         for _ in 0..4 {
@@ -654,12 +659,12 @@ fn trays() {
             if rng.one_in(5) {
                 record = damage::record(rng, &record);
             }
-            let (mut buffer_2, mut tray_2) = (buffer.clone(), tray.clone());
+            let (mut buffer_2, mut holdback_2) = (buffer.clone(), holdback.clone());
             let before = bodies_if_sound(&buffer);
-            let answer = deliver_tray(&mut buffer, &record, &mut tray);
-            let expected = deliver_in_place(&mut buffer_2, &record, &mut tray_2);
+            let answer = deliver_holdback(&mut buffer, &record, &mut holdback);
+            let expected = deliver_in_place(&mut buffer_2, &record, &mut holdback_2);
             assert_eq!(answer, expected);
-            assert_eq!((&buffer, &tray), (&buffer_2, &tray_2));
+            assert_eq!((&buffer, &holdback), (&buffer_2, &holdback_2));
             match answer {
                 Accepted(end) => {
                     accepted += 1;

@@ -35,9 +35,9 @@ fn assert_unsound_in_library(buffer: &[u8]) {
     for bundle in [&[][..], &[0], &[1, 1], &bundle_of(&p1())] {
         assert_eq!(open_checked(&mut buffer, bundle), Refused(1));
     }
-    for mut tray in [vec![], vec![255; 449], vec![0; 449], tray_of(&p1())] {
+    for mut holdback in [vec![], vec![255; 449], vec![0; 449], holdback_of(&p1())] {
         for op in [&[][..], &[9; 14], &p1()[0].bytes()] {
-            assert_eq!(tray_checked(&mut buffer, op, &mut tray), Refused(1));
+            assert_eq!(holdback_checked(&mut buffer, op, &mut holdback), Refused(1));
         }
     }
     for room in [0, 1] {

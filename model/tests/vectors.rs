@@ -4,7 +4,7 @@ use outline_model::cases::Script;
 use outline_model::script::{Case, Machine};
 use outline_model::View;
 
-const SECTIONS: [&str; 6] = ["deliver", "judge", "issue", "view", "bundle", "tray"];
+const SECTIONS: [&str; 6] = ["deliver", "judge", "issue", "view", "bundle", "holdback"];
 
 fn section(name: &str) -> Script {
     let mut script = Script::default();
@@ -29,16 +29,16 @@ fn lines_by_hand() {
     let made = run(Case::MakeBundle([0; 8], 1));
     assert_eq!(made, "r 1 66566 000102 239 ee");
     assert_eq!(run(Case::OpenBundle(vec![0])), "r 1 66566 000102");
-    let answer = run(Case::DeliverTray(vec![9; 3], vec![]));
+    let answer = run(Case::DeliverHoldback(vec![9; 3], vec![]));
     assert_eq!(answer, "r 1 66566 000102 0 ");
-    let answer = run(Case::DeliverTray(vec![], vec![0, 1]));
+    let answer = run(Case::DeliverHoldback(vec![], vec![0, 1]));
     assert_eq!(answer, "r 1 66566 000102 259 0001");
 }
 
 /// An early record waits, and goes when the one before it comes. The buffer and
-/// the tray are longer than what is printed in full.
+/// the holdback are longer than what is printed in full.
 #[test]
-fn a_tray_by_hand() {
+fn a_holdback_by_hand() {
     let mut machine = Machine::default();
     let mut run = |case| machine.run(&case);
     let digest = |bytes: &[u8]| {
@@ -54,21 +54,24 @@ fn a_tray_by_hand() {
     one[0] = 1;
     one[1..15].copy_from_slice(&second);
     let buffer = digest(&[&empty[..], &[0xa5; 33]].concat());
-    let tray = digest(&one);
-    let answer = run(Case::DeliverTray(second.to_vec(), none.clone()));
-    assert_eq!(answer, format!("w {buffer} {tray}"));
-    let answer = run(Case::DeliverTray(second.to_vec(), one.clone()));
-    assert_eq!(answer, format!("w {buffer} {tray}"));
-    let answer = run(Case::DeliverTray(first[..3].to_vec(), one[..3].to_vec()));
+    let holdback = digest(&one);
+    let answer = run(Case::DeliverHoldback(second.to_vec(), none.clone()));
+    assert_eq!(answer, format!("w {buffer} {holdback}"));
+    let answer = run(Case::DeliverHoldback(second.to_vec(), one.clone()));
+    assert_eq!(answer, format!("w {buffer} {holdback}"));
+    let answer = run(Case::DeliverHoldback(
+        first[..3].to_vec(),
+        one[..3].to_vec(),
+    ));
     assert_eq!(answer, format!("r 14 {buffer} 132614 010101"));
-    let answer = run(Case::DeliverTray(first.to_vec(), one));
+    let answer = run(Case::DeliverHoldback(first.to_vec(), one));
     let mut header = vec![0, 2, 0, 32];
     header.extend([0, 0, 0, 60].repeat(7));
     let file = [&header[..], &first, &second, &[0xa5; 5]].concat();
-    let (buffer, tray) = (digest(&file), digest(&none));
-    assert_eq!(answer, format!("a 60 {buffer} {tray}"));
-    let answer = run(Case::DeliverTray(first.to_vec(), none));
-    assert_eq!(answer, format!("h {buffer} {tray}"));
+    let (buffer, holdback) = (digest(&file), digest(&none));
+    assert_eq!(answer, format!("a 60 {buffer} {holdback}"));
+    let answer = run(Case::DeliverHoldback(first.to_vec(), none));
+    assert_eq!(answer, format!("h {buffer} {holdback}"));
 }
 
 #[test]
@@ -92,8 +95,8 @@ fn case_bytes() {
         ),
         (Case::OpenBundle(vec![]), "0c"),
         (Case::OpenBundle(vec![1, 2]), "0c0102"),
-        (Case::DeliverTray(vec![], vec![]), "0d00"),
-        (Case::DeliverTray(vec![1, 2], vec![3]), "0d02010203"),
+        (Case::DeliverHoldback(vec![], vec![]), "0d00"),
+        (Case::DeliverHoldback(vec![1, 2], vec![3]), "0d02010203"),
     ];
     for (case, line) in cases {
         assert_eq!(case.line(), line);
@@ -109,7 +112,7 @@ fn sections_are_of_good_size_and_repeat() {
         assert_eq!(script.cases.len(), script.answers.len());
         let bytes: usize = script.cases.iter().map(|line| line.len() + 1).sum();
         let most = match name {
-            "deliver" | "tray" => 1_500_000,
+            "deliver" | "holdback" => 1_500_000,
             "bundle" => 400_000,
             _ => 1_000_000,
         };
@@ -153,15 +156,15 @@ fn sections_reach_every_answer() {
     bundle.extend(["a 1 ", "a 28569 ", "a 32 ", "a 28592 "]);
     reaches("bundle", &bundle);
     let owned = refusals(&[1, 2, 3, 4, 6, 7, 8, 13, 14]);
-    let mut tray: Vec<&str> = owned.iter().map(String::as_str).collect();
-    tray.extend(["h ", "w ", "a 46 ", "a 494 ", "a 28592 "]);
-    reaches("tray", &tray);
+    let mut holdback: Vec<&str> = owned.iter().map(String::as_str).collect();
+    holdback.extend(["h ", "w ", "a 46 ", "a 494 ", "a 28592 "]);
+    reaches("holdback", &holdback);
 }
 
-/// The calls with trays alone: there are enough of each answer, and 5 is none.
+/// The calls with holdbacks alone: there are enough of each answer, and 5 is none.
 #[test]
-fn trays_reach_every_answer_often() {
-    let script = section("tray");
+fn holdbacks_reach_every_answer_often() {
+    let script = section("holdback");
     let mut seen = std::collections::BTreeMap::new();
     for (case, line) in script.cases.iter().zip(&script.answers) {
         if case.starts_with("0d") {
@@ -181,10 +184,10 @@ fn trays_reach_every_answer_often() {
     assert!(seen["a"] > 400 && seen["w"] > 400, "{seen:?}");
 }
 
-/// In chains of calls each is lent the tray that the last one left.
+/// In chains of calls each is lent the holdback that the last one left.
 #[test]
-fn trays_are_handed_on() {
-    let script = section("tray");
+fn holdbacks_are_handed_on() {
+    let script = section("holdback");
     let digest = |hex: &str| {
         let byte = |at: usize| u64::from_str_radix(&hex[at..at + 2], 16).unwrap();
         let step = |h: u64, at: usize| (h * 257 + byte(at) + 1) % 4_294_967_291;

@@ -8,7 +8,7 @@ use outline_bench::careful;
 use outline_model::cases::examples;
 use outline_model::cases::world::{Style, World};
 use outline_model::rng::Rng;
-use outline_model::{Answer, Op, View, MAX_FILE, OP_LEN, REPLICAS, SLOTS, TRAY_PLACES};
+use outline_model::{Answer, Op, View, HOLDBACK_PLACES, MAX_FILE, OP_LEN, REPLICAS, SLOTS};
 use std::hint::black_box;
 
 pub const SIZES: [usize; 4] = [0, 100, 1000, 2040];
@@ -222,7 +222,7 @@ impl Work {
             _ => file.clone(),
         };
         let others = chain.iter().skip(1).rev().filter(|&other| *other != op);
-        let waiting = examples::tray_of(&others.copied().collect::<Vec<_>>());
+        let waiting = examples::holdback_of(&others.copied().collect::<Vec<_>>());
         if call.fills() {
             let length = file.len();
             file = examples::file_of(&[]);
@@ -341,7 +341,7 @@ impl Work {
                 plain::holdback_deliver(buffer, &self.op, &mut self.holdback).is_ok()
             }),
             (Call::Holdback | Call::Waits | Call::Frees, Side::Rust) => {
-                accepted(|| careful::deliver_tray(buffer, &self.op, &mut self.holdback))
+                accepted(|| careful::deliver_holdback(buffer, &self.op, &mut self.holdback))
             }
             (Call::InTurn, _) => callgrind::count(|| in_turn(&self.offered, buffer, side)),
         }
@@ -372,7 +372,7 @@ impl Work {
 
 const MAX_OPS: usize = SLOTS - 1;
 /// One op, and those that can wait for it.
-const CHAIN: usize = 1 + TRAY_PLACES;
+const CHAIN: usize = 1 + HOLDBACK_PLACES;
 
 /// Delivers these ops one by one.
 fn in_turn(ops: &[u8], buffer: &mut [u8], side: Side) -> bool {

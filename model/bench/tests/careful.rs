@@ -94,9 +94,9 @@ fn all_calls(rng: &mut Rng, buffer: &[u8], ops: &[Op]) {
     ] {
         open(buffer, &bundle);
     }
-    for tray in [vec![], vec![0; 449], examples::tray_of(&examples::p1())] {
+    for holdback in [vec![], vec![0; 449], examples::holdback_of(&examples::p1())] {
         let op = ops.first().map_or(vec![1; 14], |op| op.bytes().to_vec());
-        deliver_tray(buffer, &op, &tray);
+        deliver_holdback(buffer, &op, &holdback);
     }
     make(
         buffer,
@@ -138,20 +138,20 @@ fn open(buffer: &[u8], bundle: &[u8]) -> Answer {
     answer
 }
 
-/// Delivers with a tray at both, and hands back the answer, the buffer and the
-/// tray.
-fn deliver_tray(buffer: &[u8], op: &[u8], tray: &[u8]) -> (Answer, Vec<u8>, Vec<u8>) {
+/// Delivers with a holdback at both, and hands back the answer, the buffer and the
+/// holdback.
+fn deliver_holdback(buffer: &[u8], op: &[u8], holdback: &[u8]) -> (Answer, Vec<u8>, Vec<u8>) {
     let mut answer = Answer::Done;
-    let (buffer, tray) = both(
+    let (buffer, holdback) = both(
         buffer,
-        tray,
-        |b, t| careful::deliver_tray(b, op, t),
+        holdback,
+        |b, t| careful::deliver_holdback(b, op, t),
         |b, t| {
-            answer = outline_model::deliver_tray(b, op, t);
+            answer = outline_model::deliver_holdback(b, op, t);
             answer
         },
     );
-    (answer, buffer, tray)
+    (answer, buffer, holdback)
 }
 
 /// A bit more or less than these, or any below them.
@@ -368,10 +368,10 @@ fn changed_counts() {
     assert!(sound[0] > 100 && sound[1] > 100, "{sound:?}");
 }
 
-/// Parts of worlds with trays of the rest of them, and of any other content. Each
+/// Parts of worlds with holdbacks of the rest of them, and of any other content. Each
 /// call is lent what the last one left.
 #[test]
-fn trays() {
+fn holdbacks() {
     let mut rng = Rng::new(7);
     let mut refused = [0; 15];
     let [mut accepted, mut had_it, mut waiting, mut freed] = [0; 4];
@@ -387,11 +387,11 @@ fn trays() {
             buffer = damage::random(&mut rng, &buffer);
         }
         let counts = examples::log_of(&held).held();
-        let mut tray = world::tray(&mut rng, &ops, &counts);
+        let mut holdback = world::holdback(&mut rng, &ops, &counts);
         match rng.below(25) {
-            0 => tray = damage::tray(&mut rng, &tray),
-            1 => tray = damage::random(&mut rng, &tray),
-            2 => tray = (0..449).map(|_| rng.byte()).collect(),
+            0 => holdback = damage::holdback(&mut rng, &holdback),
+            1 => holdback = damage::random(&mut rng, &holdback),
+            2 => holdback = (0..449).map(|_| rng.byte()).collect(),
             _ => {}
         }
         let next = ops
@@ -408,7 +408,7 @@ fn trays() {
             }
             let end = outline_model::file_end(&buffer);
             let answer;
-            (answer, buffer, tray) = deliver_tray(&buffer, &op, &tray);
+            (answer, buffer, holdback) = deliver_holdback(&buffer, &op, &holdback);
             match (end, answer) {
                 (Answer::Count(old), Answer::Accepted(new)) => {
                     accepted += 1;
@@ -428,18 +428,18 @@ fn trays() {
     assert!(accepted > 3000 && freed > 3000, "{accepted} {freed}");
 }
 
-/// Every byte of a small tray changed, and every length.
+/// Every byte of a small holdback changed, and every length.
 #[test]
-fn damaged_trays() {
+fn damaged_holdbacks() {
     for ops in examples::small_logs() {
         let waiting: Vec<Op> = ops.iter().skip(1).rev().copied().collect();
-        let tray = examples::tray_of(&waiting);
+        let holdback = examples::holdback_of(&waiting);
         let op = ops.first().map_or(vec![1; 14], |op| op.bytes().to_vec());
         let mut buffer = examples::file_of(&[]);
         buffer.resize(buffer.len() + 14 * ops.len(), 9);
-        for damaged in damage::changed(&tray).chain(damage::cut(&tray)) {
-            deliver_tray(&buffer, &op, &damaged);
-            deliver_tray(&buffer, &op, &[damaged, vec![0]].concat());
+        for damaged in damage::changed(&holdback).chain(damage::cut(&holdback)) {
+            deliver_holdback(&buffer, &op, &damaged);
+            deliver_holdback(&buffer, &op, &[damaged, vec![0]].concat());
         }
     }
 }
@@ -457,12 +457,16 @@ fn chains() {
                 let mut buffer = examples::file_of(held);
                 let first = chain[0].bytes();
                 buffer.resize(buffer.len() + 14 * room, 9);
-                deliver_tray(&buffer, &first, &examples::tray_of(&waiting));
-                deliver_tray(&buffer, &waiting[3].bytes(), &examples::tray_of(&waiting));
-                deliver_tray(
+                deliver_holdback(&buffer, &first, &examples::holdback_of(&waiting));
+                deliver_holdback(
                     &buffer,
                     &waiting[3].bytes(),
-                    &examples::tray_of(&waiting[4..]),
+                    &examples::holdback_of(&waiting),
+                );
+                deliver_holdback(
+                    &buffer,
+                    &waiting[3].bytes(),
+                    &examples::holdback_of(&waiting[4..]),
                 );
                 rng.shuffle(&mut waiting);
             }

@@ -309,7 +309,7 @@ impl Side for Model {
     }
 
     fn holdback_deliver(buf: &mut [u8], op: &[u8], holdback: &mut [u8]) -> Outcome {
-        outline_model::deliver_tray(buf, op, holdback).into()
+        outline_model::deliver_holdback(buf, op, holdback).into()
     }
 }
 

@@ -2,10 +2,10 @@
 
 use crate::call::Call;
 use outline::plain::{HOLDBACK, LARGEST_BUNDLE};
-use outline_model::cases::world::{full, part, tray, Style, World};
+use outline_model::cases::world::{full, holdback, part, Style, World};
 use outline_model::cases::{damage, examples};
 use outline_model::rng::Rng;
-use outline_model::{Kind, Log, Op, Vector, View, MAX_FILE, OP_LEN, SLOTS, TRAY_PLACES};
+use outline_model::{Kind, Log, Op, Vector, View, HOLDBACK_PLACES, MAX_FILE, OP_LEN, SLOTS};
 
 /// A buffer with a log at its front, and ops to call it with.
 pub struct Input {
@@ -282,7 +282,7 @@ impl Input {
         let mut holdback = match rng.below(12) {
             0 => any_holdback(rng),
             1..=4 => left.to_vec(),
-            _ => tray(rng, &self.ops, &held(buffer)),
+            _ => holdback(rng, &self.ops, &held(buffer)),
         };
         if self.is_large() && is_in_order(&holdback) && !rng.one_in(20) {
             let count = holdback[0].min(3);
@@ -290,7 +290,7 @@ impl Input {
             holdback[1 + OP_LEN * usize::from(count)..].fill(0);
         }
         match rng.below(40) {
-            0 | 1 if is_in_order(&holdback) => damage::tray(rng, &holdback),
+            0 | 1 if is_in_order(&holdback) => damage::holdback(rng, &holdback),
             2 if !holdback.is_empty() => damage::random(rng, &holdback),
             _ => holdback,
         }
@@ -346,7 +346,7 @@ impl Input {
 
 /// Whether ops can be counted in it.
 fn is_in_order(holdback: &[u8]) -> bool {
-    holdback.len() == HOLDBACK && usize::from(holdback[0]) <= TRAY_PLACES
+    holdback.len() == HOLDBACK && usize::from(holdback[0]) <= HOLDBACK_PLACES
 }
 
 /// Any bytes; most have the right length, and many nothing past their ops.

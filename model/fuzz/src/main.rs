@@ -155,7 +155,7 @@ fn compare_calls(options: &Options) -> u64 {
             let model = run::<Model>(&call, &mut theirs, guards, salt);
             tally.add(&call, model.outcome);
             if let (Call::HoldbackDeliver { .. }, [_, left]) = (&call, &model.bytes[..]) {
-                if model.outcome != Outcome::Refused(refusal::BAD_TRAY) {
+                if model.outcome != Outcome::Refused(refusal::BAD_HOLDBACK) {
                     holdback = left.get().to_vec();
                 }
             }

@@ -1,7 +1,7 @@
 //! Damaged bytes: one changed, or the end cut off.
 
 use crate::rng::Rng;
-use crate::{OP_LEN, TRAY_LEN, TRAY_PLACES};
+use crate::{HOLDBACK_LEN, HOLDBACK_PLACES, OP_LEN};
 
 /// Values for a damaged byte, given the old one.
 pub fn values(old: u8) -> impl Iterator<Item = u8> {
@@ -60,21 +60,21 @@ pub fn record(rng: &mut Rng, bytes: &[u8]) -> Vec<u8> {
     }
 }
 
-/// A tray of this content that is not in good order: of another length, with too
+/// A holdback of this content that is not in good order: of another length, with too
 /// great a count, or with a byte past its ops, if there is one.
-pub fn tray(rng: &mut Rng, good: &[u8]) -> Vec<u8> {
-    let mut tray = good.to_vec();
-    let past = 1 + OP_LEN * usize::from(tray[0]);
+pub fn holdback(rng: &mut Rng, good: &[u8]) -> Vec<u8> {
+    let mut holdback = good.to_vec();
+    let past = 1 + OP_LEN * usize::from(holdback[0]);
     match rng.below(6) {
-        0 => tray.truncate(rng.below(TRAY_LEN)),
-        1 => tray.truncate(TRAY_LEN - 1 - rng.below(OP_LEN)),
-        2 => tray.resize(TRAY_LEN + 1 + rng.below(OP_LEN), 0),
-        3 | 4 if past < TRAY_LEN => {
-            let any = past + rng.below(TRAY_LEN - past);
-            let at = rng.pick(&[past, TRAY_LEN - 1, any]);
-            tray[at] = rng.pick(&[1, 2, 128, 255]);
+        0 => holdback.truncate(rng.below(HOLDBACK_LEN)),
+        1 => holdback.truncate(HOLDBACK_LEN - 1 - rng.below(OP_LEN)),
+        2 => holdback.resize(HOLDBACK_LEN + 1 + rng.below(OP_LEN), 0),
+        3 | 4 if past < HOLDBACK_LEN => {
+            let any = past + rng.below(HOLDBACK_LEN - past);
+            let at = rng.pick(&[past, HOLDBACK_LEN - 1, any]);
+            holdback[at] = rng.pick(&[1, 2, 128, 255]);
         }
-        _ => tray[0] = rng.pick(&[TRAY_PLACES as u8 + 1, 34, 64, 128, 255]),
+        _ => holdback[0] = rng.pick(&[HOLDBACK_PLACES as u8 + 1, 34, 64, 128, 255]),
     }
-    tray
+    holdback
 }

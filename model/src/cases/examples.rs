@@ -1,7 +1,7 @@
 //! Small logs that the document or its traps name.
 
 use crate::op::{node_number, MAX_SEQUENCE, OP_LEN, REPLICAS};
-use crate::{make_bundle, Answer, Kind, Log, Op, Vector, TRAY_LEN};
+use crate::{make_bundle, Answer, Kind, Log, Op, Vector, HOLDBACK_LEN};
 
 /// Counts of the first replicas; the rest are 0.
 pub fn v(counts: &[u8]) -> Vector {
@@ -78,18 +78,18 @@ pub fn bundle_for(file: &[u8], counts: Vector) -> Vec<u8> {
     }
 }
 
-/// The tray in which these ops wait, in this order.
-pub fn tray_of(ops: &[Op]) -> Vec<u8> {
+/// The holdback in which these ops wait, in this order.
+pub fn holdback_of(ops: &[Op]) -> Vec<u8> {
     let bodies: Vec<[u8; OP_LEN]> = ops.iter().map(Op::bytes).collect();
-    tray_with(&bodies)
+    holdback_with(&bodies)
 }
 
-/// The tray with these bodies, of any form.
-pub fn tray_with(bodies: &[[u8; OP_LEN]]) -> Vec<u8> {
-    let mut tray = vec![bodies.len() as u8];
-    tray.extend(bodies.concat());
-    tray.resize(TRAY_LEN, 0);
-    tray
+/// The holdback with these bodies, of any form.
+pub fn holdback_with(bodies: &[[u8; OP_LEN]]) -> Vec<u8> {
+    let mut holdback = vec![bodies.len() as u8];
+    holdback.extend(bodies.concat());
+    holdback.resize(HOLDBACK_LEN, 0);
+    holdback
 }
 
 pub fn p1() -> Vec<Op> {

@@ -1,10 +1,10 @@
 //! Random sound logs: replicas that hear of each other now and then.
 
 use super::damage;
-use super::examples::tray_with;
+use super::examples::holdback_with;
 use crate::op::{at_most, join, node_number, replica_index, MAX_SEQUENCE, OP_LEN, REPLICAS};
 use crate::rng::Rng;
-use crate::{Kind, Op, Vector, TRAY_PLACES};
+use crate::{Kind, Op, Vector, HOLDBACK_PLACES};
 
 /// How a world grows.
 #[derive(Clone, Copy)]
@@ -167,10 +167,10 @@ pub fn held_by(ops: &[Op], replicas: &[u8]) -> Vec<Op> {
     ops.iter().filter(within).copied().collect()
 }
 
-/// A tray in good order for a log with these counts. Most that wait there come
+/// A holdback in good order for a log with these counts. Most that wait there come
 /// next, often the last of them first; others are early for long, or never go.
-pub fn tray(rng: &mut Rng, ops: &[Op], held: &Vector) -> Vec<u8> {
-    let places = rng.pick(&[0, 1, 3, 8, 20, 31, TRAY_PLACES, TRAY_PLACES]);
+pub fn holdback(rng: &mut Rng, ops: &[Op], held: &Vector) -> Vec<u8> {
+    let places = rng.pick(&[0, 1, 3, 8, 20, 31, HOLDBACK_PLACES, HOLDBACK_PLACES]);
     let lacking = |op: &&Op| op.sequence() > usize::from(held[op.index()]);
     let mut next: Vec<Op> = ops.iter().filter(lacking).take(places).copied().collect();
     match rng.below(4) {
@@ -191,7 +191,7 @@ pub fn tray(rng: &mut Rng, ops: &[Op], held: &Vector) -> Vec<u8> {
     if rng.one_in(2) {
         bodies.resize_with(places, || never(rng));
     }
-    tray_with(&bodies)
+    holdback_with(&bodies)
 }
 
 /// A body that comes twice or is held, a changed one, or noise.

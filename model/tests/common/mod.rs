@@ -49,30 +49,30 @@ pub fn deliver_checked(buffer: &mut [u8], op: &[u8]) -> Answer {
     answer
 }
 
-/// The tray with these records, of at most 32.
-pub fn tray_from(records: &[Vec<u8>]) -> Vec<u8> {
-    let mut tray = [vec![records.len() as u8], records.concat()].concat();
-    assert!(tray.len() <= 449);
-    tray.resize(449, 0);
-    tray
+/// The holdback with these records, of at most 32.
+pub fn holdback_from(records: &[Vec<u8>]) -> Vec<u8> {
+    let mut holdback = [vec![records.len() as u8], records.concat()].concat();
+    assert!(holdback.len() <= 449);
+    holdback.resize(449, 0);
+    holdback
 }
 
-/// The records in a tray, read by its count alone.
-pub fn waiting(tray: &[u8]) -> Vec<Vec<u8>> {
-    let (count, places) = (usize::from(tray[0]), &tray[1..]);
+/// The records in a holdback, read by its count alone.
+pub fn waiting(holdback: &[u8]) -> Vec<Vec<u8>> {
+    let (count, places) = (usize::from(holdback[0]), &holdback[1..]);
     places[..14 * count]
         .chunks(14)
         .map(<[u8]>::to_vec)
         .collect()
 }
 
-pub fn tray_checked(buffer: &mut [u8], op: &[u8], tray: &mut [u8]) -> Answer {
-    let (before, lent) = (buffer.to_vec(), tray.to_vec());
-    let answer = deliver_tray(buffer, op, tray);
+pub fn holdback_checked(buffer: &mut [u8], op: &[u8], holdback: &mut [u8]) -> Answer {
+    let (before, lent) = (buffer.to_vec(), holdback.to_vec());
+    let answer = deliver_holdback(buffer, op, holdback);
     match answer {
         Accepted(end) => {
             check_searched(&before, buffer, op, end, &waiting(&lent));
-            check_left(buffer, &waiting(&lent), tray);
+            check_left(buffer, &waiting(&lent), holdback);
         }
         Waiting => {
             assert_eq!(deliver(&mut before.clone(), op), Refused(5));
@@ -80,13 +80,13 @@ pub fn tray_checked(buffer: &mut [u8], op: &[u8], tray: &mut [u8]) -> Answer {
             if !records.iter().any(|record| record == op) {
                 records.push(op.to_vec());
             }
-            assert_eq!(tray, tray_from(&records));
+            assert_eq!(holdback, holdback_from(&records));
             assert_eq!(buffer, before);
         }
         // Never 5: its place is taken.
         HadIt | Refused(1..=4 | 6..=8 | 13 | 14) => {
             assert_eq!(buffer, before);
-            assert_eq!(tray, lent);
+            assert_eq!(holdback, lent);
         }
         other => panic!("{other:?}"),
     }
@@ -112,7 +112,7 @@ fn check_searched(before: &[u8], after: &[u8], op: &[u8], end: usize, waited: &[
 
 /// After an acceptance: what is left would be refused with 5 or 8, what is gone
 /// is held or can never go, and the rest stands as it stood, closed up.
-fn check_left(buffer: &[u8], waited: &[Vec<u8>], tray: &[u8]) {
+fn check_left(buffer: &[u8], waited: &[Vec<u8>], holdback: &[u8]) {
     let would = |record: &Vec<u8>| deliver(&mut buffer.to_vec(), record);
     let stays = |record: &&Vec<u8>| match would(record) {
         Refused(5 | 8) => true,
@@ -120,7 +120,7 @@ fn check_left(buffer: &[u8], waited: &[Vec<u8>], tray: &[u8]) {
         other => panic!("{other:?}"),
     };
     let left: Vec<Vec<u8>> = waited.iter().filter(stays).cloned().collect();
-    assert_eq!(tray, tray_from(&left));
+    assert_eq!(holdback, holdback_from(&left));
 }
 
 /// Makes a bundle with so many bytes lent, and hands it back.

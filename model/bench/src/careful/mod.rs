@@ -1,19 +1,19 @@
 //! The calls in safe Rust, written for speed with equal care: no allocation,
 //! one pass for soundness that looks up changed counts alone, replay level by
-//! level, a linear listing, bundles opened in one scratch copy, trays searched in
+//! level, a linear listing, bundles opened in one scratch copy, holdbacks searched in
 //! place. These are the algorithms of the verified library, so that the two can
 //! be compared.
 
 mod bundle;
 mod calls;
 mod exchange;
+mod holdback;
 mod list;
 mod log;
 mod replay;
-mod tray;
 
 pub use bundle::{make_bundle, open_bundle};
 pub use calls::{deliver, issue_add, issue_move, issue_remove, judge, make};
 pub use exchange::exchange;
+pub use holdback::deliver_holdback;
 pub use list::{listing, path};
-pub use tray::deliver_tray;

@@ -1,9 +1,9 @@
-//! Delivering with a tray.
+//! Delivering with a holdback.
 
 use super::bundle::{receiver, refused};
 use super::damage;
 use super::examples::{
-    add, adds, down, file_of, log_of, mutual, p1, remove, tray_of, tray_with, turns, up,
+    add, adds, down, file_of, holdback_of, holdback_with, log_of, mutual, p1, remove, turns, up,
 };
 use super::issue::{issue_here, ops};
 use super::world::{self, full, part, Style, World};
@@ -11,8 +11,8 @@ use super::Script;
 use crate::log::{HEADER_LEN, MAX_FILE};
 use crate::op::{Op, OP_LEN};
 use crate::rng::Rng;
-use crate::script::MAX_TRAY;
-use crate::{TRAY_LEN, TRAY_PLACES};
+use crate::script::MAX_HOLDBACK;
+use crate::{HOLDBACK_LEN, HOLDBACK_PLACES};
 
 type Body = [u8; OP_LEN];
 
@@ -31,14 +31,14 @@ pub fn write(script: &mut Script) {
     comes_to_nothing(script);
     rooms(script);
     doubles(script);
-    damaged_trays(script);
+    damaged_holdbacks(script);
     worlds(script);
-    lent_trays(script);
+    lent_holdbacks(script);
     large_log(script);
     full_log(script);
 }
 
-/// Delivers each record with its tray, at the same file with so much room.
+/// Delivers each record with its holdback, at the same file with so much room.
 fn deliver_each(
     script: &mut Script,
     file: &[u8],
@@ -46,12 +46,12 @@ fn deliver_each(
     calls: impl IntoIterator<Item = (Vec<u8>, Vec<u8>)>,
 ) {
     let mut changed = true;
-    for (record, tray) in calls {
+    for (record, holdback) in calls {
         if changed {
             script.load_in(file, file.len() + room);
         }
         // Only an accepted record changes the buffer.
-        changed = script.deliver_tray(&record, &tray).starts_with('a');
+        changed = script.deliver_holdback(&record, &holdback).starts_with('a');
     }
 }
 
@@ -73,18 +73,18 @@ fn late() -> Vec<u8> {
     early(40)[39].bytes().to_vec()
 }
 
-/// Trays of every length around the right one, empty or not, with a record that
+/// Holdbacks of every length around the right one, empty or not, with a record that
 /// is accepted, one that is early, and a short one.
 fn lengths(script: &mut Script) {
     let mut calls = vec![];
-    for length in [0, 1, 2, 14, 15, 29, 435, 448, 449, 450, 463, MAX_TRAY] {
+    for length in [0, 1, 2, 14, 15, 29, 435, 448, 449, 450, 463, MAX_HOLDBACK] {
         for ops in [&[][..], &early(2)] {
-            let mut tray = tray_of(ops);
-            tray.resize(length, 0);
-            calls.push((new(), tray.clone()));
-            calls.push((late(), tray.clone()));
+            let mut holdback = holdback_of(ops);
+            holdback.resize(length, 0);
+            calls.push((new(), holdback.clone()));
+            calls.push((late(), holdback.clone()));
             if ops.is_empty() {
-                calls.push((new()[..3].to_vec(), tray));
+                calls.push((new()[..3].to_vec(), holdback));
             }
         }
     }
@@ -93,14 +93,14 @@ fn lengths(script: &mut Script) {
 
 /// Counts up to 32 and above, of records and of zero bytes, which do not read.
 fn counts(script: &mut Script) {
-    let full = tray_of(&early(TRAY_PLACES));
+    let full = holdback_of(&early(HOLDBACK_PLACES));
     let mut calls = vec![];
     for count in [31, 32, 33, 34, 64, 128, 255] {
         calls.push((new(), damage::with(&full, 0, count)));
         calls.push((late(), damage::with(&full, 0, count)));
     }
     for count in [0, 1, 2, 31, 32, 33, 128, 255] {
-        let zeros = damage::with(&[0; TRAY_LEN], 0, count);
+        let zeros = damage::with(&[0; HOLDBACK_LEN], 0, count);
         calls.push((new(), zeros.clone()));
         calls.push((late(), zeros));
     }
@@ -111,17 +111,17 @@ fn counts(script: &mut Script) {
 fn bytes_past(script: &mut Script) {
     let mut calls = vec![];
     for count in [0, 1, 2, 17, 30, 31] {
-        let tray = tray_of(&early(count));
+        let holdback = holdback_of(&early(count));
         let past = 1 + OP_LEN * count;
-        for at in [past - 1, past, past + 1, past + 13, TRAY_LEN - 1] {
+        for at in [past - 1, past, past + 1, past + 13, HOLDBACK_LEN - 1] {
             // Byte 0 is the count.
             if at > 0 {
-                let changed = damage::with(&tray, at, 1 + (at % 2 * 127) as u8);
+                let changed = damage::with(&holdback, at, 1 + (at % 2 * 127) as u8);
                 let record = if at % 3 == 0 { late() } else { new() };
                 calls.push((record, changed));
             }
         }
-        let short = damage::with(&tray, 0, (count as u8).saturating_sub(1));
+        let short = damage::with(&holdback, 0, (count as u8).saturating_sub(1));
         calls.push((new(), short));
     }
     deliver_each(script, &file_of(&receiver()), 20, calls);
@@ -141,33 +141,33 @@ fn each_sort() -> Vec<Vec<u8>> {
     records
 }
 
-/// Each sort of record with each sort of tray.
+/// Each sort of record with each sort of holdback.
 fn order_of_tests(script: &mut Script) {
-    let full = tray_of(&early(TRAY_PLACES));
-    let trays = [
+    let full = holdback_of(&early(HOLDBACK_PLACES));
+    let holdbacks = [
         vec![],
         full[..30].to_vec(),
-        damage::with(&tray_of(&[]), TRAY_LEN - 1, 1),
-        tray_of(&early(31)),
+        damage::with(&holdback_of(&[]), HOLDBACK_LEN - 1, 1),
+        holdback_of(&early(31)),
         full.clone(),
     ];
     let file = file_of(&receiver());
     let calls = each_sort()
         .into_iter()
-        .flat_map(|record| trays.clone().map(|tray| (record.clone(), tray)));
+        .flat_map(|record| holdbacks.clone().map(|holdback| (record.clone(), holdback)));
     deliver_each(script, &file, 100, calls);
     let calls = each_sort().into_iter().map(|record| (record, full.clone()));
     deliver_each(script, &file, 13, calls);
-    // A full tray that has the record itself, early or not.
+    // A full holdback that has the record itself, early or not.
     let calls = each_sort().into_iter().filter_map(|record| {
-        let mut bodies = bodies(&early(TRAY_PLACES));
+        let mut bodies = bodies(&early(HOLDBACK_PLACES));
         bodies[7] = record[..].try_into().ok()?;
-        Some((record, tray_with(&bodies)))
+        Some((record, holdback_with(&bodies)))
     });
     deliver_each(script, &file, 100, calls);
 }
 
-/// Records with several causes, without room, in a tray with and without places.
+/// Records with several causes, without room, in a holdback with and without places.
 fn several_causes(script: &mut Script) {
     let not_closed = &[0, 0, 0, 0, 0, 0, 0, 1];
     let all = &[0, 0, 0, 0, 0, 0, 1, 1];
@@ -185,9 +185,9 @@ fn several_causes(script: &mut Script) {
     ];
     let mut calls = vec![];
     for op in ops {
-        for tray in [tray_of(&[]), tray_of(&early(TRAY_PLACES))] {
-            calls.push((op.bytes().to_vec(), tray.clone()));
-            calls.push((damage::with(&op.bytes(), 0, 0), tray));
+        for holdback in [holdback_of(&[]), holdback_of(&early(HOLDBACK_PLACES))] {
+            calls.push((op.bytes().to_vec(), holdback.clone()));
+            calls.push((damage::with(&op.bytes(), 0, 0), holdback));
         }
     }
     deliver_each(script, &file_of(&receiver()), 13, calls);
@@ -207,13 +207,13 @@ fn unsound(script: &mut Script) {
     }
     for file in files {
         script.load(&file);
-        script.deliver_tray(&[], &[]);
-        script.deliver_tray(&new(), &[33; 20]);
-        script.deliver_tray(&new(), &tray_of(&p1()));
+        script.deliver_holdback(&[], &[]);
+        script.deliver_holdback(&new(), &[33; 20]);
+        script.deliver_holdback(&new(), &holdback_of(&p1()));
     }
 }
 
-/// Early ones one by one, some again, until the tray is full and beyond.
+/// Early ones one by one, some again, until the holdback is full and beyond.
 fn waiting(script: &mut Script) {
     let rng = &mut Rng::new(62);
     for shuffled in [false, true] {
@@ -222,7 +222,7 @@ fn waiting(script: &mut Script) {
             rng.shuffle(&mut ops);
         }
         script.load_in(&file_of(&receiver()), 80);
-        script.deliver_tray(&ops[0].bytes(), &tray_of(&[]));
+        script.deliver_holdback(&ops[0].bytes(), &holdback_of(&[]));
         for (before, op) in ops.iter().enumerate() {
             script.deliver_next(&op.bytes());
             if before % 5 == 3 {
@@ -246,16 +246,16 @@ fn not_searched(script: &mut Script) {
     for count in [0, 2, 31] {
         let mut ops = early(count);
         ops.insert(count / 2, can_go);
-        let tray = tray_of(&ops);
+        let holdback = holdback_of(&ops);
         let calls = each_sort()
             .into_iter()
             .step_by(2)
-            .map(|record| (record, tray.clone()));
+            .map(|record| (record, holdback.clone()));
         deliver_each(script, &file_of(&receiver()), 60, calls);
         // The next acceptance takes it, or is of it.
         for record in [can_go.bytes(), add(4, 0, &[]).bytes()] {
             script.load_in(&file_of(&receiver()), 120);
-            script.deliver_tray(&receiver()[0].bytes(), &tray);
+            script.deliver_holdback(&receiver()[0].bytes(), &holdback);
             script.deliver_next(&record);
             script.deliver_next(&record);
         }
@@ -267,7 +267,7 @@ fn chains(script: &mut Script) {
     let rng = &mut Rng::new(63);
     for ops in [adds(4, 33), turns(33)] {
         script.load_in(&file_of(&[]), 500);
-        script.deliver_tray(&ops[32].bytes(), &tray_of(&[]));
+        script.deliver_holdback(&ops[32].bytes(), &holdback_of(&[]));
         for op in ops[..32].iter().rev() {
             script.deliver_next(&op.bytes());
         }
@@ -282,24 +282,24 @@ fn chains(script: &mut Script) {
             1 => rest.reverse(),
             _ => rng.shuffle(&mut rest),
         }
-        calls.push((ops[0].bytes().to_vec(), tray_of(&rest)));
+        calls.push((ops[0].bytes().to_vec(), holdback_of(&rest)));
     }
     // The last file end, after each number of them, with others that stay.
-    for count in (0..=TRAY_PLACES).step_by(4) {
+    for count in (0..=HOLDBACK_PLACES).step_by(4) {
         let mut rest = ops[1..=count].to_vec();
         rest.reverse();
-        rest.extend(early(TRAY_PLACES - count));
+        rest.extend(early(HOLDBACK_PLACES - count));
         if count % 8 == 4 {
             rng.shuffle(&mut rest);
         }
-        calls.push((ops[0].bytes().to_vec(), tray_of(&rest)));
+        calls.push((ops[0].bytes().to_vec(), holdback_of(&rest)));
     }
     // A gap: those behind it stay.
     for gap in [1, 2, 16, 31, 32] {
         let mut rest = ops[1..].to_vec();
         rest.remove(gap - 1);
         rest.reverse();
-        calls.push((ops[0].bytes().to_vec(), tray_of(&rest)));
+        calls.push((ops[0].bytes().to_vec(), holdback_of(&rest)));
     }
     deliver_each(script, &file_of(&[]), OP_LEN * 33, calls);
 }
@@ -308,7 +308,7 @@ fn chains(script: &mut Script) {
 fn rivals(script: &mut Script) {
     let given = add(1, 0, &[]).bytes().to_vec();
     let (one, between, two) = (add(2, 0, &[1, 0, 1]), add(3, 0, &[1]), add(2, 0, &[1]));
-    let mut trays = vec![
+    let mut holdbacks = vec![
         vec![one, between, two],
         vec![between, one, two],
         vec![one, two, between],
@@ -324,10 +324,10 @@ fn rivals(script: &mut Script) {
     ];
     let counting: Vec<Op> = (0..=3).map(|length| add(2, 0, &[1, 0, length])).collect();
     for least in 0..=3 {
-        let mut tray: Vec<Op> = counting[least..].iter().rev().copied().collect();
-        tray.extend(chain);
-        tray.extend(&counting[..least]);
-        trays.push(tray);
+        let mut holdback: Vec<Op> = counting[least..].iter().rev().copied().collect();
+        holdback.extend(chain);
+        holdback.extend(&counting[..least]);
+        holdbacks.push(holdback);
     }
     for other in [
         add(2, 257, &[1]),
@@ -336,13 +336,15 @@ fn rivals(script: &mut Script) {
         up(2, 257, 0, &[1]),
         add(2, 0, &[9]),
     ] {
-        trays.push(vec![two, other]);
-        trays.push(vec![other, two]);
-        trays.push([vec![other], early(30), vec![two]].concat());
+        holdbacks.push(vec![two, other]);
+        holdbacks.push(vec![other, two]);
+        holdbacks.push([vec![other], early(30), vec![two]].concat());
     }
     // A rival of the delivered one.
-    trays.push(vec![down(1, 257, 0, &[]), add(1, 0, &[0, 1]), two]);
-    let calls = trays.iter().map(|ops| (given.clone(), tray_of(ops)));
+    holdbacks.push(vec![down(1, 257, 0, &[]), add(1, 0, &[0, 1]), two]);
+    let calls = holdbacks
+        .iter()
+        .map(|ops| (given.clone(), holdback_of(ops)));
     deliver_each(script, &file_of(&[]), 100, calls);
     // Call by call: both wait, and the order of arrival decides.
     for order in [
@@ -351,7 +353,7 @@ fn rivals(script: &mut Script) {
         [one, two, between],
     ] {
         script.load_in(&file_of(&[]), 120);
-        script.deliver_tray(&order[0].bytes(), &tray_of(&[]));
+        script.deliver_holdback(&order[0].bytes(), &holdback_of(&[]));
         script.deliver_next(&order[1].bytes());
         script.deliver_next(&order[2].bytes());
         script.deliver_next(&given);
@@ -380,17 +382,17 @@ fn never_go(script: &mut Script) {
     let mut calls = vec![];
     for body in dropped() {
         for place in 0..=others.len() {
-            let mut tray = others.clone();
-            tray.insert(place, body);
-            calls.push((new(), tray_with(&tray)));
+            let mut holdback = others.clone();
+            holdback.insert(place, body);
+            calls.push((new(), holdback_with(&holdback)));
         }
     }
     for round in 0..20 {
-        let mut tray = [dropped(), others.clone()].concat();
-        tray.extend(bodies(&early(5)[2..]));
-        rng.shuffle(&mut tray);
-        tray.truncate(if round % 4 == 0 { 9 } else { TRAY_PLACES });
-        calls.push((new(), tray_with(&tray)));
+        let mut holdback = [dropped(), others.clone()].concat();
+        holdback.extend(bodies(&early(5)[2..]));
+        rng.shuffle(&mut holdback);
+        holdback.truncate(if round % 4 == 0 { 9 } else { HOLDBACK_PLACES });
+        calls.push((new(), holdback_with(&holdback)));
     }
     deliver_each(script, &file, 42, calls.clone());
     // Without room for more than the delivered one they are dropped as well.
@@ -408,7 +410,7 @@ fn comes_to_nothing(script: &mut Script) {
         add(6, 513, &[1, 1]),
     ] {
         script.load_in(&file_of(&[add(1, 0, &[])]), 100);
-        script.deliver_tray(&op.bytes(), &tray_of(&early(1)));
+        script.deliver_holdback(&op.bytes(), &holdback_of(&early(1)));
         script.deliver_next(&add(2, 0, &[1]).bytes());
     }
 }
@@ -423,14 +425,14 @@ fn rooms(script: &mut Script) {
         }
         for records in 0..=6 {
             for more in [0, 13] {
-                let calls = [(ops[0].bytes().to_vec(), tray_of(&rest))];
+                let calls = [(ops[0].bytes().to_vec(), holdback_of(&rest))];
                 deliver_each(script, &file_of(&[]), OP_LEN * records + more, calls);
             }
         }
     }
     for next in [ops[2], add(1, 0, &[]), ops[0], early(1)[0]] {
         script.load_in(&file_of(&[]), 60);
-        script.deliver_tray(&ops[0].bytes(), &tray_of(&ops[1..]));
+        script.deliver_holdback(&ops[0].bytes(), &holdback_of(&ops[1..]));
         script.deliver_next(&ops[2].bytes());
         script.resize(140);
         script.deliver_next(&next.bytes());
@@ -438,46 +440,49 @@ fn rooms(script: &mut Script) {
     }
 }
 
-/// A lent tray may have the same bytes twice.
+/// A lent holdback may have the same bytes twice.
 fn doubles(script: &mut Script) {
     let given = add(1, 0, &[]);
     let next = add(1, 0, &[1]);
     let file = file_of(&[]);
     for times in [1, 2, 31, 32] {
-        let trays = [next, given, early(1)[0]].map(|op| tray_of(&vec![op; times]));
-        let calls = trays
+        let holdbacks = [next, given, early(1)[0]].map(|op| holdback_of(&vec![op; times]));
+        let calls = holdbacks
             .clone()
-            .map(|tray| (given.bytes().to_vec(), tray))
+            .map(|holdback| (given.bytes().to_vec(), holdback))
             .to_vec();
         deliver_each(script, &file, 100, calls.clone());
         deliver_each(script, &file, 14, calls);
-        let again = trays.map(|tray| (early(1)[0].bytes().to_vec(), tray));
+        let again = holdbacks.map(|holdback| (early(1)[0].bytes().to_vec(), holdback));
         deliver_each(script, &file, 14, again);
     }
 }
 
-/// Every byte of the records of a small tray changed, and each sort of disorder.
-fn damaged_trays(script: &mut Script) {
+/// Every byte of the records of a small holdback changed, and each sort of disorder.
+fn damaged_holdbacks(script: &mut Script) {
     let rng = &mut Rng::new(65);
     let ops = p1();
-    let tray = tray_of(&[ops[3], ops[2], ops[1]]);
+    let holdback = holdback_of(&[ops[3], ops[2], ops[1]]);
     let first = ops[0].bytes().to_vec();
     let mut calls = vec![];
     for at in 0..43 {
-        let values: Vec<u8> = damage::values(tray[at]).collect();
+        let values: Vec<u8> = damage::values(holdback[at]).collect();
         for _ in 0..2 {
-            calls.push((first.clone(), damage::with(&tray, at, rng.pick(&values))));
+            calls.push((
+                first.clone(),
+                damage::with(&holdback, at, rng.pick(&values)),
+            ));
         }
     }
     for _ in 0..40 {
-        let good = world::tray(rng, &ops, &[0; 8]);
-        let bad = damage::tray(rng, &good);
+        let good = world::holdback(rng, &ops, &[0; 8]);
+        let bad = damage::holdback(rng, &good);
         calls.push((damage::record(rng, &first), bad));
     }
     deliver_each(script, &file_of(&[]), 56, calls);
 }
 
-/// Small worlds in any order with one tray, again and again until all is held.
+/// Small worlds in any order with one holdback, again and again until all is held.
 fn worlds(script: &mut Script) {
     for seed in 0..12 {
         let rng = &mut Rng::new(660 + seed);
@@ -488,7 +493,7 @@ fn worlds(script: &mut Script) {
         let mut ops = World::random(rng, style).ops;
         let all = ops.len();
         script.load_in(&file_of(&[]), HEADER_LEN + OP_LEN * (all / 2));
-        script.deliver_tray(&[], &tray_of(&[]));
+        script.deliver_holdback(&[], &holdback_of(&[]));
         rng.shuffle(&mut ops);
         for (place, op) in ops.iter().enumerate() {
             offer(script, rng, op);
@@ -496,7 +501,7 @@ fn worlds(script: &mut Script) {
                 script.resize(HEADER_LEN + OP_LEN * (all + 3));
             }
         }
-        // What was early in a full tray, or had no room.
+        // What was early in a full holdback, or had no room.
         for op in &ops {
             if !super::issue::ops(script.buffer()).contains(op) {
                 script.deliver_next(&op.bytes());
@@ -523,8 +528,8 @@ fn offer(script: &mut Script, rng: &mut Rng, op: &Op) {
     }
 }
 
-/// Parts of worlds with trays of any content, which are lent for one call.
-fn lent_trays(script: &mut Script) {
+/// Parts of worlds with holdbacks of any content, which are lent for one call.
+fn lent_holdbacks(script: &mut Script) {
     for seed in 0..45 {
         let rng = &mut Rng::new(6700 + seed);
         let style = rng.pick(&[Style::moves as fn(usize, usize) -> Style, Style::mixed]);
@@ -539,7 +544,7 @@ fn lent_trays(script: &mut Script) {
         let calls: Vec<(Vec<u8>, Vec<u8>)> = (0..3)
             .map(|call| {
                 let op = next.filter(|_| call < 2).unwrap_or(rng.pick(&ops));
-                (op.bytes().to_vec(), world::tray(rng, &ops, &counts))
+                (op.bytes().to_vec(), world::holdback(rng, &ops, &counts))
             })
             .collect();
         deliver_each(script, &file_of(&held), room, calls);
@@ -554,7 +559,7 @@ fn large_log(script: &mut Script) {
     let mut next = rest.to_vec();
     next.chunks_mut(25).for_each(|window| rng.shuffle(window));
     script.load_in(&file_of(held), HEADER_LEN + OP_LEN * 500);
-    script.deliver_tray(&held[7].bytes(), &tray_of(&[]));
+    script.deliver_holdback(&held[7].bytes(), &holdback_of(&[]));
     for op in next {
         script.deliver_next(&op.bytes());
     }
@@ -568,7 +573,7 @@ fn full_log(script: &mut Script) {
     let all = full(rng, Style::mixed);
     let (held, rest) = all.split_at(all.len() - 33);
     script.load_in(&file_of(held), MAX_FILE - 1);
-    script.deliver_tray(&held[7].bytes(), &tray_of(&[]));
+    script.deliver_holdback(&held[7].bytes(), &holdback_of(&[]));
     for op in rest.iter().rev() {
         script.deliver_next(&op.bytes());
     }

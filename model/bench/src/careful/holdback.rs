@@ -1,29 +1,33 @@
-//! Delivering with a tray.
+//! Delivering with a holdback.
 
 use super::calls::{answer, new_op};
 use super::log::{Layout, Log, Op, OP};
 use outline_model::{refusal, Answer};
 
 const PLACES: usize = 32;
-const TRAY: usize = 1 + OP * PLACES;
+const HOLDBACK: usize = 1 + OP * PLACES;
 
 #[inline(never)]
-pub fn deliver_tray(buffer: &mut [u8], op: &[u8], tray: &mut [u8]) -> Answer {
-    answer(try_deliver_tray(buffer, op, tray))
+pub fn deliver_holdback(buffer: &mut [u8], op: &[u8], holdback: &mut [u8]) -> Answer {
+    answer(try_deliver_holdback(buffer, op, holdback))
 }
 
-fn try_deliver_tray(buffer: &mut [u8], bytes: &[u8], tray: &mut [u8]) -> Result<Answer, u8> {
+fn try_deliver_holdback(
+    buffer: &mut [u8],
+    bytes: &[u8],
+    holdback: &mut [u8],
+) -> Result<Answer, u8> {
     let log = Log::open(buffer).ok_or(refusal::UNSOUND)?;
-    let mut tray = Tray::read(tray).ok_or(refusal::BAD_TRAY)?;
+    let mut holdback = Holdback::read(holdback).ok_or(refusal::BAD_HOLDBACK)?;
     let mut layout = log.layout;
     match new_op(&log, bytes) {
         Ok(Some(op)) if put(buffer, &mut layout, op) => {}
         Ok(Some(_)) => return Err(refusal::ROOM),
         Ok(None) => return Ok(Answer::HadIt),
-        Err(refusal::EARLY) => return tray.wait(bytes),
+        Err(refusal::EARLY) => return holdback.wait(bytes),
         Err(number) => return Err(number),
     }
-    tray.search(buffer, &mut layout);
+    holdback.search(buffer, &mut layout);
     Ok(Answer::Accepted(layout.end))
 }
 
@@ -38,19 +42,19 @@ fn put(buffer: &mut [u8], layout: &mut Layout, op: Op) -> bool {
     fits
 }
 
-/// A lent tray in good order.
-struct Tray<'a> {
-    bytes: &'a mut [u8; TRAY],
+/// A lent holdback in good order.
+struct Holdback<'a> {
+    bytes: &'a mut [u8; HOLDBACK],
 }
 
-impl<'a> Tray<'a> {
-    fn read(bytes: &'a mut [u8]) -> Option<Tray<'a>> {
-        let tray = Tray {
+impl<'a> Holdback<'a> {
+    fn read(bytes: &'a mut [u8]) -> Option<Holdback<'a>> {
+        let holdback = Holdback {
             bytes: bytes.try_into().ok()?,
         };
         // All at once: a test at each byte takes longer.
-        let past = tray.bytes.get(tray.end()..)?;
-        (past.iter().fold(0, |all, &byte| all | byte) == 0).then_some(tray)
+        let past = holdback.bytes.get(holdback.end()..)?;
+        (past.iter().fold(0, |all, &byte| all | byte) == 0).then_some(holdback)
     }
 
     /// Where the waiting ops end.
@@ -63,7 +67,7 @@ impl<'a> Tray<'a> {
         let mut waiting = self.bytes[1..end].chunks_exact(OP);
         if !waiting.any(|other| other == op) {
             let place = self.bytes.get_mut(end..end + OP);
-            place.ok_or(refusal::TRAY_FULL)?.copy_from_slice(op);
+            place.ok_or(refusal::HOLDBACK_FULL)?.copy_from_slice(op);
             self.bytes[0] += 1;
         }
         Ok(Answer::Waiting)

@@ -1,4 +1,4 @@
-//! Delivering with a tray: each answer in its case and order, the search, and
+//! Delivering with a holdback: each answer in its case and order, the search, and
 //! what the document says of one call and of many.
 
 mod common;
@@ -24,33 +24,33 @@ fn with(bytes: &[u8], at: usize, value: u8) -> Vec<u8> {
     damage::with(bytes, at, value)
 }
 
-/// A log with so much room behind it, and a tray.
+/// A log with so much room behind it, and a holdback.
 #[derive(Clone)]
 struct Desk {
     buffer: Vec<u8>,
-    tray: Vec<u8>,
+    holdback: Vec<u8>,
 }
 
 impl Desk {
-    fn new(ops: &[Op], room: usize, tray: &[Record]) -> Desk {
+    fn new(ops: &[Op], room: usize, holdback: &[Record]) -> Desk {
         let file = file_of(ops);
         Desk {
             buffer: in_buffer(&file, file.len() + room),
-            tray: tray_from(tray),
+            holdback: holdback_from(holdback),
         }
     }
 
     fn deliver(&mut self, record: &[u8]) -> Answer {
-        tray_checked(&mut self.buffer, record, &mut self.tray)
+        holdback_checked(&mut self.buffer, record, &mut self.holdback)
     }
 
-    /// The same without the tray, on a copy.
+    /// The same without the holdback, on a copy.
     fn plainly(&self, record: &[u8]) -> Answer {
         deliver_checked(&mut self.buffer.clone(), record)
     }
 
     fn waiting(&self) -> Vec<Record> {
-        waiting(&self.tray)
+        waiting(&self.holdback)
     }
 
     fn holds(&self, op: Op) -> bool {
@@ -58,11 +58,11 @@ impl Desk {
     }
 }
 
-/// Delivers once, with such a tray.
-fn deliver_at(ops: &[Op], room: usize, tray: &[u8], record: &[u8]) -> Answer {
+/// Delivers once, with such a holdback.
+fn deliver_at(ops: &[Op], room: usize, holdback: &[u8], record: &[u8]) -> Answer {
     let file = file_of(ops);
     let mut buffer = in_buffer(&file, file.len() + room);
-    tray_checked(&mut buffer, record, &mut tray.to_vec())
+    holdback_checked(&mut buffer, record, &mut holdback.to_vec())
 }
 
 /// What most tests start with: 8:1 counts 7:1.
@@ -98,7 +98,7 @@ fn refused() -> Vec<(u8, Record)> {
     ]
 }
 
-/// Those of them that can wait in a tray without being early.
+/// Those of them that can wait in a holdback without being early.
 fn never_go() -> Vec<(u8, Record)> {
     let mut refused = refused();
     refused.retain(|(number, _)| ![2, 5].contains(number));
@@ -111,16 +111,16 @@ fn early(count: usize) -> Vec<Record> {
     records(&adds(3, 99 + count)[99..])
 }
 
-/// Trays in good order in which all are early, with and without places left.
-fn good_trays() -> Vec<Vec<u8>> {
+/// Holdbacks in good order in which all are early, with and without places left.
+fn good_holdbacks() -> Vec<Vec<u8>> {
     let counts = [0, 1, 2, 31, 32];
-    counts.map(|count| tray_from(&early(count))).to_vec()
+    counts.map(|count| holdback_from(&early(count))).to_vec()
 }
 
-/// Trays that are not in good order, one of each sort.
-fn bad_trays() -> Vec<Vec<u8>> {
-    let full = tray_from(&early(32));
-    let some = tray_from(&early(3));
+/// Holdbacks that are not in good order, one of each sort.
+fn bad_holdbacks() -> Vec<Vec<u8>> {
+    let full = holdback_from(&early(32));
+    let some = holdback_from(&early(3));
     vec![
         vec![],
         vec![0],
@@ -131,14 +131,14 @@ fn bad_trays() -> Vec<Vec<u8>> {
         with(&full, 0, 31),
         with(&some, 43, 1),
         with(&some, 448, 1),
-        with(&tray_from(&[]), 1, 1),
+        with(&holdback_from(&[]), 1, 1),
     ]
 }
 
 // ---- 14
 
 #[test]
-fn number_14_a_tray_not_of_449_bytes() {
+fn number_14_a_holdback_not_of_449_bytes() {
     let new = record(add(1, 0, &[]));
     for length in 0..=1000 {
         let expected = match length {
@@ -147,24 +147,24 @@ fn number_14_a_tray_not_of_449_bytes() {
         };
         assert_eq!(deliver_at(&[], 14, &vec![0; length], &new), expected);
     }
-    // Whatever waits in it: the bytes of a tray, cut or made longer.
+    // Whatever waits in it: the bytes of a holdback, cut or made longer.
     for count in 0..=32 {
-        let tray = tray_from(&early(count));
+        let holdback = holdback_from(&early(count));
         for length in [0, 1, 14, 15, 1 + 14 * count, 435, 448, 450, 463, 898] {
-            let mut other = tray.clone();
+            let mut other = holdback.clone();
             other.resize(length, 0);
             if length != 449 {
                 assert_eq!(deliver_at(&[], 100, &other, &new), Refused(14));
             }
         }
-        assert_eq!(deliver_at(&[], 100, &tray, &new), Accepted(46));
+        assert_eq!(deliver_at(&[], 100, &holdback, &new), Accepted(46));
     }
 }
 
 #[test]
 fn number_14_a_count_above_32() {
     let new = record(add(1, 0, &[]));
-    let full = tray_from(&early(32));
+    let full = holdback_from(&early(32));
     assert_eq!(deliver_at(&[], 100, &full, &new), Accepted(46));
     for count in 33..=255 {
         assert_eq!(
@@ -186,23 +186,26 @@ fn number_14_a_byte_past_the_records() {
     let new = record(add(1, 0, &[]));
     let wait = early(1).remove(0);
     for count in 0..=32 {
-        let tray = tray_from(&early(count));
+        let holdback = holdback_from(&early(count));
         for at in 1..449 {
             let past = at > 14 * count;
             for value in [1, 128, 255] {
-                let tray = with(&tray, at, value);
+                let holdback = with(&holdback, at, value);
                 let expected = if past { Refused(14) } else { Accepted(46) };
-                assert_eq!(deliver_at(&[], 14, &tray, &new), expected);
+                assert_eq!(deliver_at(&[], 14, &holdback, &new), expected);
             }
             if past {
-                assert_eq!(deliver_at(&[], 14, &with(&tray, at, 1), &wait), Refused(14));
+                assert_eq!(
+                    deliver_at(&[], 14, &with(&holdback, at, 1), &wait),
+                    Refused(14)
+                );
             }
         }
     }
     // A count that is one less than the records.
     for count in 1..=32 {
-        let tray = with(&tray_from(&early(count)), 0, count as u8 - 1);
-        assert_eq!(deliver_at(&[], 100, &tray, &new), Refused(14));
+        let holdback = with(&holdback_from(&early(count)), 0, count as u8 - 1);
+        assert_eq!(deliver_at(&[], 100, &holdback, &new), Refused(14));
     }
 }
 
@@ -214,9 +217,9 @@ fn number_1_comes_first() {
     let mut records: Vec<Record> = refused().into_iter().map(|(_, record)| record).collect();
     records.push(record(p1()[0]));
     records.push(record(add(4, 0, &[])));
-    for tray in bad_trays().into_iter().chain(good_trays()) {
+    for holdback in bad_holdbacks().into_iter().chain(good_holdbacks()) {
         let unsound = |buffer: &[u8], record: &Record| {
-            let answer = tray_checked(&mut buffer.to_vec(), record, &mut tray.clone());
+            let answer = holdback_checked(&mut buffer.to_vec(), record, &mut holdback.clone());
             assert_eq!(answer, Refused(1));
         };
         for record in &records {
@@ -231,20 +234,23 @@ fn number_1_comes_first() {
     }
 }
 
-/// Also before 2: the tray is looked at before the record.
+/// Also before 2: the holdback is looked at before the record.
 #[test]
 fn number_14_comes_second() {
     let mut records = refused();
     records.push((0, record(receiver()[0])));
     records.push((8, record(add(6, 0, &[]))));
-    for tray in bad_trays() {
+    for holdback in bad_holdbacks() {
         for (_, record) in &records {
             for room in [0, 13, 14, 300] {
-                assert_eq!(deliver_at(&receiver(), room, &tray, record), Refused(14));
+                assert_eq!(
+                    deliver_at(&receiver(), room, &holdback, record),
+                    Refused(14)
+                );
             }
         }
         for length in 0..=28 {
-            let answer = deliver_at(&receiver(), 100, &tray, &vec![7; length]);
+            let answer = deliver_at(&receiver(), 100, &holdback, &vec![7; length]);
             assert_eq!(answer, Refused(14));
         }
     }
@@ -252,17 +258,17 @@ fn number_14_comes_second() {
 
 /// A plain delivery's answers, with waiting or 13 in the place of 5.
 #[test]
-fn each_answer_with_each_tray() {
+fn each_answer_with_each_holdback() {
     let mut offered: Vec<Record> = refused().into_iter().map(|(_, record)| record).collect();
     offered.extend(records(&receiver()));
     offered.push(record(add(6, 0, &[])));
     offered.push(record(add(6, 2049, &[0, 0, 0, 0, 0, 0, 1, 1])));
-    for tray in good_trays() {
+    for holdback in good_holdbacks() {
         for record in &offered {
             for room in [0, 13, 14, 300] {
-                let mut desk = Desk::new(&receiver(), room, &waiting(&tray));
+                let mut desk = Desk::new(&receiver(), room, &waiting(&holdback));
                 let expected = match desk.plainly(record) {
-                    Refused(5) if tray[0] == 32 => Refused(13),
+                    Refused(5) if holdback[0] == 32 => Refused(13),
                     Refused(5) => Waiting,
                     other => other,
                 };
@@ -270,8 +276,12 @@ fn each_answer_with_each_tray() {
             }
         }
         for (number, record) in refused() {
-            let answer = deliver_at(&receiver(), 0, &tray, &record);
-            let early = if tray[0] == 32 { Refused(13) } else { Waiting };
+            let answer = deliver_at(&receiver(), 0, &holdback, &record);
+            let early = if holdback[0] == 32 {
+                Refused(13)
+            } else {
+                Waiting
+            };
             let expected = if number == 5 { early } else { Refused(number) };
             assert_eq!(answer, expected);
         }
@@ -303,24 +313,28 @@ fn each_answer_against_those_behind_it() {
         (7, record(add(6, 9999, &[0, 0, 0, 0, 0, 0, 1, 1]))),
         (8, record(add(6, 1793, &[0, 0, 0, 0, 0, 0, 1, 1]))),
     ];
-    for tray in good_trays() {
+    for holdback in good_holdbacks() {
         for (number, record) in &cases {
-            let early = if tray[0] == 32 { Refused(13) } else { Waiting };
+            let early = if holdback[0] == 32 {
+                Refused(13)
+            } else {
+                Waiting
+            };
             let expected = if *number == 5 {
                 early
             } else {
                 Refused(*number)
             };
             for room in [0, 13] {
-                let answer = deliver_at(&receiver(), room, &tray, record);
+                let answer = deliver_at(&receiver(), room, &holdback, record);
                 assert_eq!(answer, expected, "{record:?}");
             }
         }
     }
     // Had it comes before the want of room, and of a place.
-    for tray in good_trays() {
+    for holdback in good_holdbacks() {
         for op in receiver() {
-            assert_eq!(deliver_at(&receiver(), 0, &tray, &record(op)), HadIt);
+            assert_eq!(deliver_at(&receiver(), 0, &holdback, &record(op)), HadIt);
         }
     }
 }
@@ -334,11 +348,11 @@ fn early_records_go_to_the_back() {
     for (before, record) in records.iter().enumerate() {
         assert_eq!(desk.waiting(), records[..before]);
         assert_eq!(desk.deliver(record), Waiting);
-        assert_eq!(usize::from(desk.tray[0]), before + 1);
+        assert_eq!(usize::from(desk.holdback[0]), before + 1);
         let place = 1 + 14 * before;
-        assert_eq!(desk.tray[place..place + 14], record[..]);
+        assert_eq!(desk.holdback[place..place + 14], record[..]);
     }
-    assert_eq!(desk.tray, tray_from(&records));
+    assert_eq!(desk.holdback, holdback_from(&records));
     // In any order of arrival.
     let rng = &mut Rng::new(1);
     for _ in 0..50 {
@@ -384,7 +398,7 @@ fn the_same_bytes_wait_once() {
 }
 
 #[test]
-fn number_13_only_in_a_full_tray_and_for_other_bytes() {
+fn number_13_only_in_a_full_holdback_and_for_other_bytes() {
     let records = early(33);
     for count in 0..=32 {
         let mut desk = Desk::new(&receiver(), 100, &records[..count]);
@@ -392,7 +406,7 @@ fn number_13_only_in_a_full_tray_and_for_other_bytes() {
         assert_eq!(desk.deliver(&records[32]), expected);
         assert_eq!(desk.deliver(&records[32]), expected);
     }
-    let full = tray_from(&records[..32]);
+    let full = holdback_from(&records[..32]);
     for record in &records[..32] {
         assert_eq!(deliver_at(&receiver(), 0, &full, record), Waiting);
         // One other byte.
@@ -403,10 +417,10 @@ fn number_13_only_in_a_full_tray_and_for_other_bytes() {
     }
 }
 
-/// What is in a full tray does not matter, be it held or out of form: only an
+/// What is in a full holdback does not matter, be it held or out of form: only an
 /// acceptance clears it.
 #[test]
-fn number_13_in_a_tray_of_records_that_never_go() {
+fn number_13_in_a_holdback_of_records_that_never_go() {
     let mut never: Vec<Record> = never_go().into_iter().map(|(_, record)| record).collect();
     never.extend(records(&receiver()));
     never.push(record(add(6, 0, &[])));
@@ -431,9 +445,9 @@ fn number_13_in_a_tray_of_records_that_never_go() {
 fn only_an_acceptance_starts_the_search() {
     let can_go = record(add(6, 0, &[]));
     for count in 0..=31 {
-        let mut tray = early(count);
-        tray.insert(count / 2, can_go.clone());
-        let mut desk = Desk::new(&receiver(), 300, &tray);
+        let mut holdback = early(count);
+        holdback.insert(count / 2, can_go.clone());
+        let mut desk = Desk::new(&receiver(), 300, &holdback);
         for op in receiver() {
             assert_eq!(desk.deliver(&record(op)), HadIt);
         }
@@ -447,7 +461,7 @@ fn only_an_acceptance_starts_the_search() {
         if count > 0 {
             assert_eq!(desk.deliver(&early(count)[0]), Waiting);
         }
-        assert_eq!(desk.waiting(), tray);
+        assert_eq!(desk.waiting(), holdback);
         let mut same = desk.clone();
         assert_eq!(same.deliver(&can_go), Accepted(74));
         assert_eq!(same.waiting(), early(count));
@@ -476,7 +490,7 @@ fn a_chain_of_33_in_one_call() {
             let mut desk = Desk::new(&[], 14 * 33, &rest);
             assert_eq!(desk.deliver(&first), Accepted(32 + 14 * 33));
             assert_eq!(desk.buffer, file_of(&ops));
-            assert_eq!(desk.tray, vec![0; 449]);
+            assert_eq!(desk.holdback, vec![0; 449]);
             rng.shuffle(&mut rest);
             if round == 0 {
                 rest = records(&ops[1..]);
@@ -493,10 +507,10 @@ fn a_chain_in_reverse_order_call_by_call() {
         for op in ops[1..].iter().rev() {
             assert_eq!(desk.deliver(&record(*op)), Waiting);
         }
-        assert_eq!(desk.tray[0], 32);
+        assert_eq!(desk.holdback[0], 32);
         assert_eq!(desk.deliver(&record(ops[0])), Accepted(32 + 14 * 33));
         assert_eq!(desk.buffer, file_of(&ops));
-        assert_eq!(desk.tray, vec![0; 449]);
+        assert_eq!(desk.holdback, vec![0; 449]);
     }
 }
 
@@ -505,10 +519,10 @@ fn a_chain_in_reverse_order_call_by_call() {
 fn the_answer_is_the_last_file_end() {
     let ops = turns(33);
     for waiting in 0..=32 {
-        let mut tray = records(&ops[1..=waiting]);
-        tray.reverse();
-        tray.extend(early(32 - waiting));
-        let mut desk = Desk::new(&[], 14 * 40, &tray);
+        let mut holdback = records(&ops[1..=waiting]);
+        holdback.reverse();
+        holdback.extend(early(32 - waiting));
+        let mut desk = Desk::new(&[], 14 * 40, &holdback);
         let end = 32 + 14 * (1 + waiting);
         assert_eq!(desk.deliver(&record(ops[0])), Accepted(end));
         assert_eq!(file_end(&desk.buffer), Count(end));
@@ -524,8 +538,8 @@ fn the_search_starts_again_from_the_front() {
     let first = add(2, 0, &[1, 0, 1]);
     let between = add(3, 0, &[1]);
     let second = add(2, 0, &[1]);
-    let after = |tray: &[Op]| {
-        let mut desk = Desk::new(&[], 100, &records(tray));
+    let after = |holdback: &[Op]| {
+        let mut desk = Desk::new(&[], 100, &records(holdback));
         assert_eq!(desk.deliver(&record(given)), Accepted(74));
         assert_eq!(desk.waiting(), Vec::<Record>::new());
         assert!(desk.holds(between));
@@ -554,11 +568,11 @@ fn the_search_does_not_first_come_to_its_end() {
     // Rivals that count so much of the chain.
     let rivals: Vec<Op> = (0..=3).map(|length| add(2, 0, &[1, 0, length])).collect();
     for least in 1..=3 {
-        let mut tray = records(&rivals[least..]);
-        tray.reverse();
-        tray.extend(records(&chain));
-        tray.extend(records(&rivals[..least]));
-        let mut desk = Desk::new(&[], 200, &tray);
+        let mut holdback = records(&rivals[least..]);
+        holdback.reverse();
+        holdback.extend(records(&chain));
+        holdback.extend(records(&rivals[..least]));
+        let mut desk = Desk::new(&[], 200, &holdback);
         assert_eq!(desk.deliver(&record(given)), Accepted(32 + 14 * 5));
         let held: Vec<usize> = (0..=3).filter(|&i| desk.holds(rivals[i])).collect();
         assert_eq!(held, [least]);
@@ -576,11 +590,11 @@ fn the_first_of_two_rivals_is_accepted() {
         up(2, 257, 0, &[1]),
     ] {
         for (first, second) in [(one, other), (other, one)] {
-            for mut tray in [vec![], early(1), early(30)] {
-                let left = tray.clone();
-                tray.insert(0, record(first));
-                tray.push(record(second));
-                let mut desk = Desk::new(&[], 100, &tray);
+            for mut holdback in [vec![], early(1), early(30)] {
+                let left = holdback.clone();
+                holdback.insert(0, record(first));
+                holdback.push(record(second));
+                let mut desk = Desk::new(&[], 100, &holdback);
                 assert_eq!(desk.deliver(&record(given)), Accepted(60));
                 assert!(desk.holds(first) && !desk.holds(second));
                 assert_eq!(desk.waiting(), left);
@@ -624,9 +638,9 @@ fn refused_with_3_4_6_or_7_or_held_is_dropped() {
     for never in dropped {
         for place in 0..=others.len() {
             for more in [1, 2, 28] {
-                let mut tray = others.clone();
-                tray.splice(place..place, vec![never.clone(); more]);
-                let mut desk = Desk::new(&receiver(), 100, &tray);
+                let mut holdback = others.clone();
+                holdback.splice(place..place, vec![never.clone(); more]);
+                let mut desk = Desk::new(&receiver(), 100, &holdback);
                 assert_eq!(desk.deliver(&record(given)), Accepted(32 + 14 * 5));
                 assert!(goes.iter().all(|&op| desk.holds(op)));
                 assert_eq!(desk.waiting(), stays);
@@ -643,17 +657,17 @@ fn the_search_goes_on_after_a_dropped_one() {
     let stays = early(5);
     let given = add(5, 0, &[]);
     for _ in 0..300 {
-        let mut tray: Vec<Record> = never_go().into_iter().map(|(_, record)| record).collect();
-        tray.extend(records(&goes));
-        tray.extend(records(&receiver()));
-        tray.extend(stays.clone());
-        rng.shuffle(&mut tray);
-        let left: Vec<Record> = tray
+        let mut holdback: Vec<Record> = never_go().into_iter().map(|(_, record)| record).collect();
+        holdback.extend(records(&goes));
+        holdback.extend(records(&receiver()));
+        holdback.extend(stays.clone());
+        rng.shuffle(&mut holdback);
+        let left: Vec<Record> = holdback
             .iter()
             .filter(|record| stays.contains(record))
             .cloned()
             .collect();
-        let mut desk = Desk::new(&receiver(), 100, &tray);
+        let mut desk = Desk::new(&receiver(), 100, &holdback);
         assert_eq!(desk.deliver(&record(given)), Accepted(32 + 14 * 5));
         assert_eq!(desk.waiting(), left);
     }
@@ -679,7 +693,7 @@ fn an_early_record_that_comes_to_nothing_is_dropped() {
         assert_eq!(desk.deliver(&record(op)), Waiting);
         assert_eq!(desk.deliver(&record(second)), Accepted(60));
         assert_eq!(desk.plainly(&record(op)), Refused(number));
-        assert_eq!(desk.tray, vec![0; 449]);
+        assert_eq!(desk.holdback, vec![0; 449]);
     }
 }
 
@@ -690,10 +704,10 @@ fn refused_with_8_stays() {
     for ops in [adds(1, 6), turns(6)] {
         let mut reversed = records(&ops[1..]);
         reversed.reverse();
-        for tray in [reversed, records(&ops[1..])] {
+        for holdback in [reversed, records(&ops[1..])] {
             for room in 0..14 * 7 {
                 let fit = (room / 14).min(6);
-                let mut desk = Desk::new(&[], room, &tray);
+                let mut desk = Desk::new(&[], room, &holdback);
                 let answer = desk.deliver(&record(ops[0]));
                 if fit == 0 {
                     assert_eq!(answer, Refused(8));
@@ -701,7 +715,7 @@ fn refused_with_8_stays() {
                 }
                 assert_eq!(answer, Accepted(32 + 14 * fit));
                 let gone = records(&ops[..fit]);
-                let left: Vec<Record> = tray
+                let left: Vec<Record> = holdback
                     .iter()
                     .filter(|record| !gone.contains(record))
                     .cloned()
@@ -740,21 +754,21 @@ fn what_stayed_for_want_of_room_goes_later() {
 fn what_can_never_go_is_dropped_without_room() {
     let given = add(5, 0, &[]);
     let fits = add(4, 0, &[0, 0, 0, 0, 1]);
-    let mut tray: Vec<Record> = never_go().into_iter().map(|(_, record)| record).collect();
-    tray.extend(records(&receiver()));
-    tray.push(record(fits));
-    tray.extend(early(2));
+    let mut holdback: Vec<Record> = never_go().into_iter().map(|(_, record)| record).collect();
+    holdback.extend(records(&receiver()));
+    holdback.push(record(fits));
+    holdback.extend(early(2));
     for room in [14, 27] {
-        let mut desk = Desk::new(&receiver(), room, &tray);
+        let mut desk = Desk::new(&receiver(), room, &holdback);
         assert_eq!(desk.deliver(&record(given)), Accepted(74));
         let left = [vec![record(fits)], early(2)].concat();
         assert_eq!(desk.waiting(), left);
     }
 }
 
-/// Nothing says that no two are alike in a tray that is lent.
+/// Nothing says that no two are alike in a holdback that is lent.
 #[test]
-fn doubles_in_the_tray() {
+fn doubles_in_the_holdback() {
     let given = add(1, 0, &[]);
     let next = record(add(1, 0, &[1]));
     for times in 1..=32 {
@@ -767,11 +781,11 @@ fn doubles_in_the_tray() {
         // One goes, and the others are held then.
         let mut desk = Desk::new(&[], 100, &vec![next.clone(); times]);
         assert_eq!(desk.deliver(&record(given)), Accepted(60));
-        assert_eq!(desk.tray, vec![0; 449]);
+        assert_eq!(desk.holdback, vec![0; 449]);
         // The delivered record itself.
         let mut desk = Desk::new(&[], 100, &vec![record(given); times]);
         assert_eq!(desk.deliver(&record(given)), Accepted(46));
-        assert_eq!(desk.tray, vec![0; 449]);
+        assert_eq!(desk.holdback, vec![0; 449]);
         // All are refused with 8, and stay.
         let mut desk = Desk::new(&[], 14, &vec![next.clone(); times]);
         assert_eq!(desk.deliver(&record(given)), Accepted(46));
@@ -790,27 +804,27 @@ fn freed_places_close_up() {
         let gone: Vec<bool> = (0..count).map(|_| rng.one_in(2)).collect();
         let mut next = chain.iter();
         let mut stays = early(32).into_iter();
-        let mut tray: Vec<Record> = vec![];
+        let mut holdback: Vec<Record> = vec![];
         for &goes in &gone {
             let record = if goes {
                 next.next().cloned()
             } else {
                 stays.next()
             };
-            tray.extend(record);
+            holdback.extend(record);
         }
-        let left: Vec<Record> = tray
+        let left: Vec<Record> = holdback
             .iter()
             .zip(&gone)
             .filter(|(_, &goes)| !goes)
             .map(|(record, _)| record.clone())
             .collect();
-        let mut desk = Desk::new(&[], 14 * 33, &tray);
-        let all = tray.len() - left.len() + 1;
+        let mut desk = Desk::new(&[], 14 * 33, &holdback);
+        let all = holdback.len() - left.len() + 1;
         assert_eq!(desk.deliver(&record(given)), Accepted(32 + 14 * all));
-        assert_eq!(usize::from(desk.tray[0]), left.len());
-        assert_eq!(desk.tray[1..1 + 14 * left.len()], left.concat());
-        assert!(desk.tray[1 + 14 * left.len()..]
+        assert_eq!(usize::from(desk.holdback[0]), left.len());
+        assert_eq!(desk.holdback[1..1 + 14 * left.len()], left.concat());
+        assert!(desk.holdback[1 + 14 * left.len()..]
             .iter()
             .all(|&byte| byte == 0));
     }
@@ -821,14 +835,14 @@ fn freed_places_close_up() {
 #[test]
 fn bytes_past_the_file_end() {
     let ops = turns(20);
-    let mut tray = records(&ops[1..]);
-    tray.reverse();
+    let mut holdback = records(&ops[1..]);
+    holdback.reverse();
     let mut left = None;
     for fill in [0, 0x5a, 255] {
         let mut buffer = file_of(&[]);
         buffer.resize(1000, fill);
-        let mut lent = tray_from(&tray);
-        let answer = tray_checked(&mut buffer, &record(ops[0]), &mut lent);
+        let mut lent = holdback_from(&holdback);
+        let answer = holdback_checked(&mut buffer, &record(ops[0]), &mut lent);
         assert_eq!(answer, Accepted(32 + 14 * 20));
         assert!(buffer[32 + 14 * 20..].iter().all(|&byte| byte == fill));
         assert_eq!(buffer[..32 + 14 * 20], file_of(&ops));
@@ -844,15 +858,15 @@ fn the_last_33_of_a_full_log() {
     for ops in [full(rng, Style::mixed), longest_chain()] {
         let (held, rest) = ops.split_at(ops.len() - 33);
         // One that all the others lack, if only by way of others.
-        let mut tray = records(&rest[1..]);
-        tray.reverse();
-        let mut desk = Desk::new(held, 14 * 33, &tray);
+        let mut holdback = records(&rest[1..]);
+        holdback.reverse();
+        let mut desk = Desk::new(held, 14 * 33, &holdback);
         desk.deliver(&record(rest[0]));
         let mut plain = in_buffer(&file_of(held), FULL);
         plain_rounds(&mut plain, &records(rest));
         assert_eq!(desk.buffer, plain);
         assert_eq!(file_end(&desk.buffer), Count(FULL));
-        assert_eq!(desk.tray, vec![0; 449]);
+        assert_eq!(desk.holdback, vec![0; 449]);
         // Nothing more can come, and nothing waits.
         assert_eq!(desk.deliver(&record(rest[5])), HadIt);
     }
@@ -862,12 +876,12 @@ fn the_last_33_of_a_full_log() {
 
 /// What a call comes to by plain deliveries, each of which is checked: the
 /// records that are accepted, in their order.
-fn accepted_in_turn(buffer: &mut [u8], op: &[u8], tray: &[Record]) -> Vec<Record> {
+fn accepted_in_turn(buffer: &mut [u8], op: &[u8], holdback: &[Record]) -> Vec<Record> {
     let Accepted(_) = deliver_checked(buffer, op) else {
         return vec![];
     };
     let mut accepted = vec![op.to_vec()];
-    let mut left = tray.to_vec();
+    let mut left = holdback.to_vec();
     // From the front again and again: the first that can go does.
     loop {
         let mut gone = None;
@@ -946,7 +960,7 @@ fn random_calls_are_plain_deliveries() {
     assert!(tally.no_room > 200, "{tally:?}");
 }
 
-/// A part of a world with a tray of the rest of it, and records to deliver.
+/// A part of a world with a holdback of the rest of it, and records to deliver.
 fn random_desk(rng: &mut Rng) -> (Desk, Vec<Record>) {
     let style = rng.pick(&[Style::moves as fn(usize, usize) -> Style, Style::mixed]);
     let style = style(1 + rng.below(8), 1 + rng.below(60));
@@ -954,7 +968,7 @@ fn random_desk(rng: &mut Rng) -> (Desk, Vec<Record>) {
     let offered = rng.below(ops.len() + 1);
     let held = part(rng, &ops[..offered], 30);
     let counts = log_of(&held).held();
-    let tray = world::tray(rng, &ops, &counts);
+    let holdback = world::holdback(rng, &ops, &counts);
     let room = rng.pick(&[0, 13, 14, 30, 100, 1000, 1000, 1000]);
     let lacking = |op: &&Op| op.sequence() > usize::from(counts[op.index()]);
     let next: Vec<Op> = ops.iter().filter(lacking).copied().collect();
@@ -965,20 +979,20 @@ fn random_desk(rng: &mut Rng) -> (Desk, Vec<Record>) {
     if !next.is_empty() {
         records.push(record(rng.pick(&next)));
     }
-    (Desk::new(&held, room, &waiting(&tray)), records)
+    (Desk::new(&held, room, &waiting(&holdback)), records)
 }
 
-/// Every byte of a small tray changed, and every length: 14 exactly where the
+/// Every byte of a small holdback changed, and every length: 14 exactly where the
 /// document says so.
 #[test]
-fn damaged_trays() {
+fn damaged_holdbacks() {
     let ops = p1();
     let mut seen = [0; 2];
     for count in 0..=3 {
-        let mut tray = records(&ops[1..=count]);
-        tray.reverse();
-        let tray = tray_from(&tray);
-        for damaged in damage::changed(&tray).chain(damage::cut(&tray)) {
+        let mut holdback = records(&ops[1..=count]);
+        holdback.reverse();
+        let holdback = holdback_from(&holdback);
+        for damaged in damage::changed(&holdback).chain(damage::cut(&holdback)) {
             let is_bad = damaged.len() != 449
                 || damaged[0] > 32
                 || damaged[1 + 14 * usize::from(damaged[0])..]
@@ -994,30 +1008,30 @@ fn damaged_trays() {
     let rng = &mut Rng::new(6);
     for _ in 0..2000 {
         let (desk, offered) = random_desk(rng);
-        let bad = damage::tray(rng, &desk.tray);
+        let bad = damage::holdback(rng, &desk.holdback);
         for record in offered {
-            let answer = tray_checked(&mut desk.buffer.clone(), &record, &mut bad.clone());
+            let answer = holdback_checked(&mut desk.buffer.clone(), &record, &mut bad.clone());
             assert_eq!(answer, Refused(14));
         }
     }
 }
 
-/// Trays and records of any bytes.
+/// Holdbacks and records of any bytes.
 #[test]
 fn bytes_of_any_sort() {
     let rng = &mut Rng::new(7);
     let mut accepted = 0;
     for _ in 0..20_000 {
         let held = examples::small_logs()[rng.below(11)].clone();
-        let mut tray: Vec<u8> = (0..449).map(|_| rng.byte()).collect();
+        let mut holdback: Vec<u8> = (0..449).map(|_| rng.byte()).collect();
         match rng.below(5) {
-            0 => tray.truncate(rng.below(450)),
-            1 => tray.extend(vec![0; rng.below(3)]),
+            0 => holdback.truncate(rng.below(450)),
+            1 => holdback.extend(vec![0; rng.below(3)]),
             _ => {
-                tray[0] %= 34;
-                let past = 1 + 14 * usize::from(tray[0]);
+                holdback[0] %= 34;
+                let past = 1 + 14 * usize::from(holdback[0]);
                 if past < 449 {
-                    tray[past..].fill(0);
+                    holdback[past..].fill(0);
                 }
             }
         }
@@ -1030,7 +1044,7 @@ fn bytes_of_any_sort() {
         if rng.one_in(10) {
             offered = (0..rng.below(40)).map(|_| rng.byte()).collect();
         }
-        let answer = deliver_at(&held, 100, &tray, &offered);
+        let answer = deliver_at(&held, 100, &holdback, &offered);
         accepted += usize::from(matches!(answer, Accepted(_)));
     }
     assert!(accepted > 3000, "{accepted}");
@@ -1049,7 +1063,7 @@ fn plain_rounds(buffer: &mut [u8], offered: &[Record]) {
     while accepted(buffer) > 0 {}
 }
 
-/// What becomes of a list of deliveries with one tray; nothing if 13 was
+/// What becomes of a list of deliveries with one holdback; nothing if 13 was
 /// answered. Each call is lent what the last one left.
 fn offer_all(desk: &mut Desk, offered: &[Record]) -> Option<usize> {
     let mut most = 0;
@@ -1057,7 +1071,7 @@ fn offer_all(desk: &mut Desk, offered: &[Record]) -> Option<usize> {
         match desk.deliver(record) {
             Refused(13) => return None,
             Refused(1 | 8 | 14) => panic!("the premise holds"),
-            _ => most = most.max(usize::from(desk.tray[0])),
+            _ => most = most.max(usize::from(desk.holdback[0])),
         }
     }
     Some(most)
@@ -1114,7 +1128,7 @@ fn some_records(rng: &mut Rng, ops: &[Op], window: usize) -> Vec<Record> {
 
 /// The promise: the same file, and the same whole buffer.
 #[test]
-fn deliveries_with_one_tray_end_as_plain_ones_over_and_over() {
+fn deliveries_with_one_holdback_end_as_plain_ones_over_and_over() {
     let mut seen = [0; 2];
     let mut fullest = [0; 33];
     for seed in 0..1500 {
@@ -1146,14 +1160,14 @@ fn deliveries_with_one_tray_end_as_plain_ones_over_and_over() {
         }
     }
     assert!(seen[0] > 50 && seen[1] > 1000, "{seen:?}");
-    // Trays that were of use, and some that had no place left.
+    // Holdbacks that were of use, and some that had no place left.
     assert!(fullest[10..].iter().sum::<usize>() > 300, "{fullest:?}");
     assert!(fullest[32] > 3, "{fullest:?}");
 }
 
 /// All of a world, in an order in which each comes at most so much too soon.
 #[test]
-fn large_worlds_by_one_tray() {
+fn large_worlds_by_one_holdback() {
     for seed in 0..4 {
         let rng = &mut Rng::new(40_000 + seed);
         let ops = World::random(rng, Style::mixed(8, 400)).ops;
@@ -1170,13 +1184,13 @@ fn large_worlds_by_one_tray() {
         let mut desk = Desk::new(&[], FULL - 32, &[]);
         assert!(offer_all(&mut desk, &offered).is_some());
         assert_eq!(desk.buffer[..32 + 14 * 400], file_of(&ops));
-        assert_eq!(desk.tray, vec![0; 449]);
+        assert_eq!(desk.holdback, vec![0; 449]);
     }
 }
 
 /// Without the premise it may end otherwise: with 13, a record is lost.
 #[test]
-fn a_tray_that_was_full_too_soon() {
+fn a_holdback_that_was_full_too_soon() {
     let ops = adds(1, 34);
     let mut offered = records(&ops);
     offered.reverse();
@@ -1194,10 +1208,10 @@ fn a_tray_that_was_full_too_soon() {
     assert_eq!(desk.buffer, plain);
 }
 
-/// Without the premise it may end otherwise: of two rivals, the tray's order
+/// Without the premise it may end otherwise: of two rivals, the holdback's order
 /// decides.
 #[test]
-fn rivals_offered_with_one_tray() {
+fn rivals_offered_with_one_holdback() {
     let offered = [
         add(2, 0, &[1, 0, 1]),
         add(3, 0, &[1]),
