@@ -24,16 +24,16 @@ use Rattle.codec.specs.declared.answer.Refusal.{Refusal}
 use Rattle.codec.specs.declared.answer.Answer as code
 use Rattle.codec.proofs.AnswerLaws.{accepted-with, if-not-accepted}
 use Rattle.oplog.proofs.HeaderLaws.{end-is}
-use Rattle.holdback.specs.Delivering.{Held, afterSearch, heldBack, isEarly}
+use Rattle.holdback.specs.Delivering.{EarlyResult, afterSearch, earlyCall, isEarly}
 use Rattle.holdback_places.specs.Places.{Compared, Roomy}
-use Rattle.holdback.specs.Searching.{Kept, Searchable, kept, searched}
+use Rattle.holdback.specs.Searching.{Desk, Searchable, desk, searched}
 
 -- what a call hands back
 abbrev handed : Answer → (buffer holdback : List ℕ) → HoldbackResult
 handed a f h = record { answer = a; buffer = f; holdback = h }
 
-abbrev held : Answer → (holdback : List ℕ) → Held
-held a h = record { answer = a; holdback = h }
+abbrev handedEarly : Answer → (holdback : List ℕ) → EarlyResult
+handedEarly a h = record { answer = a; holdback = h }
 
 ---- whether an op is early
 
@@ -83,35 +83,35 @@ module _ (r h : List ℕ) (x : Compared h r) where
 
   -- b tells whether it waits, and n how many do
   module _ (b : Bool) (w : b ≡ waits width r h) where
-    pub held-once : b ≡ true → held waiting h ≡ heldBack r h
-    unfolding heldBack earlyAnswer putBack require
+    pub held-once : b ≡ true → handedEarly waiting h ≡ earlyCall r h
+    unfolding earlyCall earlyAnswer putBack require
     held-once t = rw (← w, t)
 
     module _ (t : b ≡ false) (n : ℕ) (is : n ≡ byte h 0) where
-      pub held-full : 32 ≤ n → held (refused 13) h ≡ heldBack r h
-      unfolding heldBack earlyAnswer require
+      pub held-full : 32 ≤ n → handedEarly (refused 13) h ≡ earlyCall r h
+      unfolding earlyCall earlyAnswer require
       held-full l = rw (← w, t, ← is, le-ltb n 32 l)
 
       module _ (l : n < 32) where
         pub held-room : Roomy h r
         held-room = record { compared = x; room = omega arith }
 
-        pub held-last : (g : List ℕ) → g ≡ holdbackOf width (holdbackOps width h ++ (r ∷ [])) → held waiting g ≡ heldBack r h
-        unfolding heldBack earlyAnswer putBack require
+        pub held-last : (g : List ℕ) → g ≡ holdbackOf width (holdbackOps width h ++ (r ∷ [])) → handedEarly waiting g ≡ earlyCall r h
+        unfolding earlyCall earlyAnswer putBack require
         held-last g e = rw (← w, t, ← is, lt-ltb n 32 l, e)
 
 ---- the search after an acceptance
 
-module _ (f h : List ℕ) (x : Searchable f h) (g h′ : List ℕ) (e : kept g h′ ≡ searched f h) where
+module _ (f h : List ℕ) (x : Searchable f h) (g h′ : List ℕ) (e : desk g h′ ≡ searched f h) where
   pub search-leaves : sound width g ≡ true
   unfolding searched
-  search-leaves = rw (ap (λ (k : Kept). k .buffer) e) (search-sound width f (holdbackOps width h) (x .is-sound))
+  search-leaves = rw (ap (λ (k : Desk). k .buffer) e) (search-sound width f (holdbackOps width h) (x .is-sound))
 
   pub search-answers : (n : ℕ) → n ≡ startOf width (headerCounts g) 9 → handed (accepted n) g h′ ≡ afterSearch f h
   unfolding searched afterSearch
   search-answers n is =
-      let buffer-so : g ≡ search width f (holdbackOps width h) .buffer = ap (λ (k : Kept). k .buffer) e in
-      rw (is, end-is width g, buffer-so, ap (λ (k : Kept). k .holdback) e)
+      let buffer-so : g ≡ search width f (holdbackOps width h) .buffer = ap (λ (k : Desk). k .buffer) e in
+      rw (is, end-is width g, buffer-so, ap (λ (k : Desk). k .holdback) e)
 
 ---- by the answer of the plain delivery
 
@@ -155,11 +155,11 @@ module _ (f r h : List ℕ) (x : Searchable f h) where
           long = early-long width f r (x .is-sound) (sym answer-is ∙ early-as a w);
         }
 
-        pub then-held : (b : Answer) (h′ : List ℕ) → held b h′ ≡ heldBack r h → handed b g h′ ≡ deliverHoldback width f r h
-        unfolding holdbackBuffer holdbackAfter heldBack
+        pub then-held : (b : Answer) (h′ : List ℕ) → handedEarly b h′ ≡ earlyCall r h → handed b g h′ ≡ deliverHoldback width f r h
+        unfolding holdbackBuffer holdbackAfter earlyCall
         then-held b h′ s =
-            let b-so : b ≡ earlyAnswer width r h = ap (λ (k : Held). k .answer) s in
-            let h-so : h′ ≡ ifWaiting (earlyAnswer width r h) (putBack width r h) h = ap (λ (k : Held). k .holdback) s in
+            let b-so : b ≡ earlyAnswer width r h = ap (λ (k : EarlyResult). k .answer) s in
+            let h-so : h′ ≡ ifWaiting (earlyAnswer width r h) (putBack width r h) h = ap (λ (k : EarlyResult). k .holdback) s in
             rw (same-buffer, early-so, early-kept r h _ f, early-kept r h (holdbackOf width (released width f r h .left)) _, b-so, h-so)
 
       pub then-same : isEarly a ≡ false → handed a g h ≡ deliverHoldback width f r h

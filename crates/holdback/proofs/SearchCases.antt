@@ -32,7 +32,7 @@ use Rattle.codec.specs.declared.op.Read.{Read}
 use Rattle.codec.specs.declared.op.Read.the-variants as read
 use Rattle.delivery.proofs.DeliverCases.{delivering, unread}
 use Rattle.holdback_places.specs.Places.{Occupied, without}
-use Rattle.holdback.specs.Searching.{Kept, Offer, Offerable, Searchable, Visit, kept, left, leftBy, metOf, offered, searched, visited, waitingAt}
+use Rattle.holdback.specs.Searching.{Desk, Meet, Meetable, Searchable, LookAt, desk, left, leftBy, metOf, meetOp, searched, lookedAt, waitingAt}
 use Rattle.holdback.specs.declared.searching.Met.{Met}
 use Rattle.holdback.specs.declared.searching.Met.the-variants.{Taken, Stays, Dropped}
 use Rattle.holdback_places.proofs.PlaceCases.{occupied}
@@ -115,19 +115,19 @@ module _ (a : Answer) where
   is-dropped Dropped (told-dropped n s) e = (n, s)
 
 module _ (f : List ℕ) (x : Op) where
-  pub offer-is : (a : Answer) (g : List ℕ) → record { answer = a; buffer = g } ≡ deliver width f x → (m : Met) → m ≡ metOf a
-      → record { met = m; buffer = g } ≡ offered f x
-  offer-is a g e m is =
+  pub meet-is : (a : Answer) (g : List ℕ) → record { answer = a; buffer = g } ≡ deliver width f x → (m : Met) → m ≡ metOf a
+      → record { met = m; buffer = g } ≡ meetOp f x
+  meet-is a g e m is =
       let answer-so : a ≡ deliverAnswer width f x = ap (λ (o : Result). o .answer) e in
       let buffer-so : g ≡ deliverBuffer width f x = ap (λ (o : Result). o .buffer) e in
       rw (is, answer-so, buffer-so)
 
   -- an op that does not read is refused with 2 or 3
-  pub offer-unread : (r : Read) → r ≡ readOf width x → sound width f ≡ true → (why : Refusal) → r ≡ read.Refused why
-      → record { met = Dropped; buffer = f } ≡ offered f x
+  pub meet-unread : (r : Read) → r ≡ readOf width x → sound width f ≡ true → (why : Refusal) → r ≡ read.Refused why
+      → record { met = Dropped; buffer = f } ≡ meetOp f x
   unfolding readOf metOf stays
-  offer-unread r is s why e =
-      offer-is (refused (numberOf why)) f (unread f x s r is why e) Dropped (go (eqb (length x) width) (wellFormed x) (sym is ∙ e))
+  meet-unread r is s why e =
+      meet-is (refused (numberOf why)) f (unread f x s r is why e) Dropped (go (eqb (length x) width) (wellFormed x) (sym is ∙ e))
     where
       -- l and m are the tests of length and form
       go : (l m : Bool)
@@ -140,7 +140,7 @@ module _ (f : List ℕ) (x : Op) where
 ---- a step of the search
 
 -- the search at f and h, where the first i ops have been met and stay
-unfoldable pub scanned : (f h : List ℕ) (i : ℕ) → Kept
+unfoldable pub scanned : (f h : List ℕ) (i : ℕ) → Desk
 scanned f h i =
     left (searchOn width f (search width) (look width f (take i (holdbackOps width h)) (drop i (holdbackOps width h))))
 
@@ -214,42 +214,42 @@ module _ (h : List ℕ) (i : ℕ) (o : Occupied h i) (g : List ℕ) (is : g ≡ 
   freed-drop = drop-at (take i ops) (drop (suc i) ops) i (length-take-le i ops (omega (arith, count, o .inside)))
 
 -- the op at place i, as the code lends it
-module _ (f h : List ℕ) (i : ℕ) (x : Offerable f h i) where
-  pub offer-inside : 1 + 14 * i + 14 ≤ length h
-  offer-inside = x .is-occupied .fits
+module _ (f h : List ℕ) (i : ℕ) (x : Meetable f h i) where
+  pub meet-inside : 1 + 14 * i + 14 ≤ length h
+  meet-inside = x .is-occupied .fits
 
-  pub offer-place : (m : Met) (g : List ℕ)
-      → record { met = m; buffer = g } ≡ offered f (take (1 + 14 * i + 14 - (1 + 14 * i)) (drop (1 + 14 * i) h))
-      → record { met = m; buffer = g } ≡ offered f (waitingAt h i)
+  pub meet-place : (m : Met) (g : List ℕ)
+      → record { met = m; buffer = g } ≡ meetOp f (take (1 + 14 * i + 14 - (1 + 14 * i)) (drop (1 + 14 * i) h))
+      → record { met = m; buffer = g } ≡ meetOp f (waitingAt h i)
   unfolding waitingAt holdbackOps
-  offer-place m g e =
+  meet-place m g e =
       let k : 1 + 14 * i + 14 - (1 + 14 * i) ≡ 14 = omega arith in
       e ∙ rw (k, chunk-at width (byte h 0) (drop 1 h) i (x .is-occupied .inside), drop-drop (14 * i) 1 h)
 
 -- the place is freed unless the op stays
-module _ (f h : List ℕ) (i : ℕ) (m : Met) (g : List ℕ) (e : record { met = m; buffer = g } ≡ offered f (waitingAt h i)) where
+module _ (f h : List ℕ) (i : ℕ) (m : Met) (g : List ℕ) (e : record { met = m; buffer = g } ≡ meetOp f (waitingAt h i)) where
   met-as : m ≡ metOf (deliverAnswer width f (waitingAt h i))
-  met-as = ap (λ (o : Offer). o .met) e
+  met-as = ap (λ (o : Meet). o .met) e
 
   buffer-as : g ≡ deliverBuffer width f (waitingAt h i)
-  buffer-as = ap (λ (o : Offer). o .buffer) e
+  buffer-as = ap (λ (o : Meet). o .buffer) e
 
-  visit-is : (h′ : List ℕ) → h′ ≡ leftBy m h i → record { met = m; buffer = g; holdback = h′ } ≡ visited f h i
-  unfolding visited
-  visit-is h′ is = rw (is, ← met-as, ← buffer-as)
+  look-is : (h′ : List ℕ) → h′ ≡ leftBy m h i → record { met = m; buffer = g; holdback = h′ } ≡ lookedAt f h i
+  unfolding lookedAt
+  look-is h′ is = rw (is, ← met-as, ← buffer-as)
 
-  pub visit-stays : m ≡ Stays → record { met = Stays; buffer = g; holdback = h } ≡ visited f h i
+  pub look-kept : m ≡ Stays → record { met = Stays; buffer = g; holdback = h } ≡ lookedAt f h i
   unfolding leftBy
-  visit-stays is = rw (← is) (visit-is h (rw is))
+  look-kept is = rw (← is) (look-is h (rw is))
 
   module _ (h′ : List ℕ) (freed : h′ ≡ holdbackOf width (without (holdbackOps width h) i)) where
-    pub visit-taken : m ≡ Taken → record { met = Taken; buffer = g; holdback = h′ } ≡ visited f h i
+    pub look-took : m ≡ Taken → record { met = Taken; buffer = g; holdback = h′ } ≡ lookedAt f h i
     unfolding leftBy
-    visit-taken is = rw (← is) (visit-is h′ (rw is freed))
+    look-took is = rw (← is) (look-is h′ (rw is freed))
 
-    pub visit-dropped : m ≡ Dropped → record { met = Dropped; buffer = g; holdback = h′ } ≡ visited f h i
+    pub look-dropped : m ≡ Dropped → record { met = Dropped; buffer = g; holdback = h′ } ≡ lookedAt f h i
     unfolding leftBy
-    visit-dropped is = rw (← is) (visit-is h′ (rw is freed))
+    look-dropped is = rw (← is) (look-is h′ (rw is freed))
 
 module _ (f₀ h₀ f h : List ℕ) (i : ℕ) (x : ScanTo f₀ h₀ f h i) where
   pub scan-counts : soundHoldback width h ≡ true
@@ -263,8 +263,8 @@ module _ (f₀ h₀ f h : List ℕ) (i : ℕ) (x : ScanTo f₀ h₀ f h i) where
     o : Occupied h i
     o = occupied h (x .searchable .is-holdback) i inside
 
-    pub scan-offers : Offerable f h i
-    scan-offers = record { is-sound = x .searchable .is-sound; is-occupied = o }
+    pub scan-meets : Meetable f h i
+    scan-meets = record { is-sound = x .searchable .is-sound; is-occupied = o }
 
     abbrev op : Op
     op = waitingAt h i
@@ -274,18 +274,18 @@ module _ (f₀ h₀ f h : List ℕ) (i : ℕ) (x : ScanTo f₀ h₀ f h i) where
     next-is = drop-cons (holdbackOps width h) i [] (omega (arith, inside, ops-count width h))
 
     -- what was met, and the buffer and the holdback after it
-    module _ (m : Met) (g h′ : List ℕ) (e : record { met = m; buffer = g; holdback = h′ } ≡ visited f h i) where
+    module _ (m : Met) (g h′ : List ℕ) (e : record { met = m; buffer = g; holdback = h′ } ≡ lookedAt f h i) where
       met-so : Told (deliverAnswer width f op) m
-      unfolding visited
-      met-so = rw (ap (λ (v : Visit). v .met) e) (told (deliverAnswer width f op))
+      unfolding lookedAt
+      met-so = rw (ap (λ (v : LookAt). v .met) e) (told (deliverAnswer width f op))
 
       buffer-so : g ≡ deliverBuffer width f op
-      unfolding visited
-      buffer-so = ap (λ (v : Visit). v .buffer) e
+      unfolding lookedAt
+      buffer-so = ap (λ (v : LookAt). v .buffer) e
 
       left-so : h′ ≡ leftBy m h i
-      unfolding visited
-      left-so = ap (λ (v : Visit). v .holdback) e ∙ ap (λ k. leftBy k h i) (sym (ap (λ (v : Visit). v .met) e))
+      unfolding lookedAt
+      left-so = ap (λ (v : LookAt). v .holdback) e ∙ ap (λ k. leftBy k h i) (sym (ap (λ (v : LookAt). v .met) e))
 
       same-buffer : ifAccepted (deliverAnswer width f op) true false ≡ false → g ≡ f
       unfolding deliverBuffer
@@ -384,13 +384,13 @@ module _ (f₀ h₀ f h : List ℕ) (i : ℕ) (x : ScanTo f₀ h₀ f h i) where
         }
 
   -- all have been met, and none is due
-  pub search-ends : (n : ℕ) → n ≡ byte h 0 → n ≤ i → (a b : List ℕ) → SearchTo a b f₀ h₀ → kept f h ≡ searched a b
+  pub search-ends : (n : ℕ) → n ≡ byte h 0 → n ≤ i → (a b : List ℕ) → SearchTo a b f₀ h₀ → desk f h ≡ searched a b
   unfolding scanned look searchOn
   search-ends n count-is l a b y =
       let ops : List Op = holdbackOps width h in
       let all-met : length ops ≤ i = omega (arith, ops-count width h) in
       sym (y .rest ∙ x .rest ∙ rw (drop-of-length-le ops all-met, take-all i ops all-met)
-      (ap (kept f) (holdback-back width h (x .searchable .is-holdback))))
+      (ap (desk f) (holdback-back width h (x .searchable .is-holdback))))
 
   module _ (a b : List ℕ) (y : SearchTo a b f₀ h₀) where
     pub buffer-kept : length f ≡ length a
@@ -399,14 +399,14 @@ module _ (f₀ h₀ f h : List ℕ) (i : ℕ) (x : ScanTo f₀ h₀ f h i) where
     pub holdback-kept : length h ≡ length b
     holdback-kept = x .holdback-size ∙ y .holdback-size
 
----- what the code of the search needs: search meeting, offering, searching
+---- what the code of the search needs: search meeting, meets, searching
 pub ruleset staying = (stays-early, stays-else, refused-stays, refused-dropped)
 
 pub ruleset meeting = (needs, tested, staying, met-refused, met-held, met-waiting, met-done, met-taken)
 
-pub ruleset offering = (delivering, offer-is, offer-unread, offer-inside, offer-place, visit-stays, visit-taken, visit-dropped)
+pub ruleset meets = (delivering, meet-is, meet-unread, meet-inside, meet-place, look-kept, look-took, look-dropped)
 
-pub ruleset scanning = (search-starts, scan-starts, scan-counts, scan-offers, scan-stays, stays-less, scan-dropped, dropped-less)
+pub ruleset scanning = (search-starts, scan-starts, scan-counts, scan-meets, scan-stays, stays-less, scan-dropped, dropped-less)
 
 pub ruleset ending = (taken-less, search-on, search-ends, buffer-kept, holdback-kept)
 

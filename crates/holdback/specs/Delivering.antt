@@ -16,12 +16,12 @@ isEarly done = false
 isEarly (accepted n) = false
 
 -- the answer to an early op, and the holdback afterwards
-pub record Held : Type 0 where
+pub record EarlyResult : Type 0 where
   pub answer : Answer
   pub holdback : List ℕ
 
-unfoldable pub heldBack : (op : Op) (holdback : List ℕ) → Held
-heldBack r h = record { answer = earlyAnswer width r h; holdback = ifWaiting (earlyAnswer width r h) (putBack width r h) h }
+unfoldable pub earlyCall : (op : Op) (holdback : List ℕ) → EarlyResult
+earlyCall r h = record { answer = earlyAnswer width r h; holdback = ifWaiting (earlyAnswer width r h) (putBack width r h) h }
 
 -- what the search after an acceptance leaves, and the last file end
 unfoldable pub afterSearch : (buffer holdback : List ℕ) → HoldbackResult

@@ -18,12 +18,12 @@ use Rattle.holdback.specs.declared.searching.Met.the-variants.{Taken, St
 unfoldable pub metOf : Answer → Met
 metOf a = ifAccepted a Taken (cond (stays a) Stays Dropped)
 
-pub record Offer : Type 0 where
+pub record Meet : Type 0 where
   pub met : Met
   pub buffer : List ℕ
 
-abbrev pub offered : (buffer : List ℕ) → Op → Offer
-offered f r = record { met = metOf (deliverAnswer width f r); buffer = deliverBuffer width f r }
+abbrev pub meetOp : (buffer : List ℕ) → Op → Meet
+meetOp f r = record { met = metOf (deliverAnswer width f r); buffer = deliverBuffer width f r }
 
 -- the op that waits at place i
 unfoldable pub waitingAt : (holdback : List ℕ) (i : ℕ) → Op
@@ -35,18 +35,18 @@ leftBy Taken h i = holdbackOf width (without (holdbackOps width h) i)
 leftBy Stays h i = h
 leftBy Dropped h i = holdbackOf width (without (holdbackOps width h) i)
 
-pub record Visit : Type 0 where
+pub record LookAt : Type 0 where
   pub met : Met
   pub buffer : List ℕ
   pub holdback : List ℕ
 
-unfoldable pub visited : (buffer holdback : List ℕ) (i : ℕ) → Visit
-visited f h i =
-    let o = offered f (waitingAt h i) in
+unfoldable pub lookedAt : (buffer holdback : List ℕ) (i : ℕ) → LookAt
+lookedAt f h i =
+    let o = meetOp f (waitingAt h i) in
     record { met = o .met; buffer = o .buffer; holdback = leftBy (o .met) h i }
 
 -- a sound log, and an op at place i
-pub record Offerable (f h : List ℕ) (i : ℕ) : Type 0 where
+pub record Meetable (f h : List ℕ) (i : ℕ) : Type 0 where
   pub is-sound : sound width f ≡ true
   pub is-occupied : Occupied h i
 
@@ -56,16 +56,16 @@ pub record Searchable (f h : List ℕ) : Type 0 where
   pub is-holdback : soundHoldback width h ≡ true
 
 -- lent buffer and holdback
-pub record Kept : Type 0 where
+pub record Desk : Type 0 where
   pub buffer : List ℕ
   pub holdback : List ℕ
 
-abbrev pub kept : List ℕ → List ℕ → Kept
-kept f h = record { buffer = f; holdback = h }
+abbrev pub desk : List ℕ → List ℕ → Desk
+desk f h = record { buffer = f; holdback = h }
 
 -- what a search leaves there
-abbrev pub left : Search → Kept
-left s = kept (s .buffer) (holdbackOf width (s .left))
+abbrev pub left : Search → Desk
+left s = desk (s .buffer) (holdbackOf width (s .left))
 
-unfoldable pub searched : List ℕ → List ℕ → Kept
+unfoldable pub searched : List ℕ → List ℕ → Desk
 searched f h = left (search width f (holdbackOps width h))

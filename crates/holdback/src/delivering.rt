@@ -17,7 +17,7 @@ ghost use Rattle.rules.specs.File.{width};
 ghost use Rattle.rules.specs.Holdback.{deliverHoldback};
 ghost use Rattle.codec.specs.Answers.{answerOf};
 ghost use Rattle.holdback_places.specs.Places.{Compared};
-ghost use Rattle.holdback.specs.Delivering.{afterSearch, isEarly, heldBack};
+ghost use Rattle.holdback.specs.Delivering.{afterSearch, isEarly, earlyCall};
 ghost use Rattle.holdback.specs.Searching.{Searchable};
 
 // Whether an op is refused as early.
@@ -37,7 +37,7 @@ fn is_early(answer: Answer) -> bool
 fn hold(op: &[u8], holdback: &mut [u8]) -> Answer
     requires { ⌜ Compared (now holdback) (now op) ⌝ }
     ensures { λ r. ⌜ record { answer = answerOf r; holdback = now (holdback .exit) }
-        ≡ heldBack (now (op .entry)) (now (holdback .entry)) ⌝ }
+        ≡ earlyCall (now (op .entry)) (now (holdback .entry)) ⌝ }
 {
     if is_waiting(holdback, op) {
         return Answer::Waiting;
@@ -60,7 +60,7 @@ fn release(buf: &mut [u8], holdback: &mut [u8]) -> Answer
 }
 
 // Delivers an op to a sound log with a sound holdback.
-fn deliver_held(buf: &mut [u8], op: &[u8], holdback: &mut [u8]) -> Answer
+fn deliver_sound(buf: &mut [u8], op: &[u8], holdback: &mut [u8]) -> Answer
     requires { ⌜ Searchable (now buf) (now holdback) ⌝ }
     ensures { λ r. ⌜ record { answer = answerOf r; buffer = now (buf .exit); holdback = now (holdback .exit) }
         ≡ deliverHoldback width (now (buf .entry)) (now (op .entry)) (now (holdback .entry)) ⌝ }
@@ -87,5 +87,5 @@ pub fn deliver(buf: &mut [u8], op: &[u8], holdback: &mut [u8]) -> Answer
     if !is_holdback(holdback) {
         return Answer::Refused(Refusal::BadHoldback);
     }
-    deliver_held(buf, op, holdback)
+    deliver_sound(buf, op, holdback)
 }

@@ -14,7 +14,7 @@ ghost use Rattle.rules.specs.File.{width};
 ghost use Rattle.rules.specs.Holdback as rules;
 ghost use Rattle.rules.specs.Sound.{sound};
 ghost use Rattle.codec.specs.Answers.{answerOf, numberOf};
-ghost use Rattle.holdback.specs.Searching.{metOf, offered, waitingAt, visited, Offerable, Searchable, kept, searched};
+ghost use Rattle.holdback.specs.Searching.{metOf, meetOp, waitingAt, lookedAt, Meetable, Searchable, desk, searched};
 
 // What becomes of an op that the search meets.
 pub(crate) enum Met {
@@ -56,9 +56,9 @@ fn met_with(answer: Answer) -> Met
 }
 
 // Delivers an op that waits to a sound log. One that does not read is dropped.
-fn offer(buf: &mut [u8], op: &[u8]) -> Met
+fn meet(buf: &mut [u8], op: &[u8]) -> Met
     requires { ⌜ sound width (now buf) ≡ true ⌝ }
-    ensures { λ r. ⌜ record { met = r; buffer = now (buf .exit) } ≡ offered (now (buf .entry)) (now (op .entry)) ⌝ }
+    ensures { λ r. ⌜ record { met = r; buffer = now (buf .exit) } ≡ meetOp (now (buf .entry)) (now (op .entry)) ⌝ }
 {
     let Read::Op(fields) = read_op(op, WIDTH) else {
         return Met::Dropped;
@@ -67,22 +67,22 @@ fn offer(buf: &mut [u8], op: &[u8]) -> Met
 }
 
 // Delivers the op that waits at place i.
-fn offer_at(buf: &mut [u8], holdback: &[u8], i: usize) -> Met
-    requires { ⌜ Offerable (now buf) (now holdback) i ⌝ }
-    ensures { λ r. ⌜ record { met = r; buffer = now (buf .exit) } ≡ offered (now (buf .entry)) (waitingAt (now (holdback .entry)) i) ⌝ }
+fn meet_at(buf: &mut [u8], holdback: &[u8], i: usize) -> Met
+    requires { ⌜ Meetable (now buf) (now holdback) i ⌝ }
+    ensures { λ r. ⌜ record { met = r; buffer = now (buf .exit) } ≡ meetOp (now (buf .entry)) (waitingAt (now (holdback .entry)) i) ⌝ }
 {
     let at = 1 + WIDTH * i;
     let to = at + WIDTH;
-    offer(buf, &holdback[at..to])
+    meet(buf, &holdback[at..to])
 }
 
 // Delivers the op that waits at place i, and frees the place unless the op stays.
-fn visit(buf: &mut [u8], holdback: &mut [u8], i: usize) -> Met
-    requires { ⌜ Offerable (now buf) (now holdback) i ⌝ }
+fn look_at(buf: &mut [u8], holdback: &mut [u8], i: usize) -> Met
+    requires { ⌜ Meetable (now buf) (now holdback) i ⌝ }
     ensures { λ r. ⌜ record { met = r; buffer = now (buf .exit); holdback = now (holdback .exit) }
-        ≡ visited (now (buf .entry)) (now (holdback .entry)) i ⌝ }
+        ≡ lookedAt (now (buf .entry)) (now (holdback .entry)) i ⌝ }
 {
-    match offer_at(buf, holdback, i) {
+    match meet_at(buf, holdback, i) {
         Met::Taken => {
             free_place(holdback, i);
             Met::Taken
@@ -99,12 +99,12 @@ fn visit(buf: &mut [u8], holdback: &mut [u8], i: usize) -> Met
 // as soon as one is taken.
 pub(crate) fn search(buf: &mut [u8], holdback: &mut [u8])
     requires { ⌜ Searchable (now buf) (now holdback) ⌝ }
-    ensures { λ _. ⌜ kept (now (buf .exit)) (now (holdback .exit)) ≡ searched (now (buf .entry)) (now (holdback .entry)) ⌝ }
+    ensures { λ _. ⌜ desk (now (buf .exit)) (now (holdback .exit)) ≡ searched (now (buf .entry)) (now (holdback .entry)) ⌝ }
 {
     'again: loop {
         let mut i = 0;
         while i < count(holdback) {
-            match visit(buf, holdback, i) {
+            match look_at(buf, holdback, i) {
                 Met::Taken => continue 'again,
                 Met::Stays => i += 1,
                 Met::Dropped => {}

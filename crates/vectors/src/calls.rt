@@ -227,7 +227,7 @@ fn deliver_part(buf: &mut [u8], op: &[u8], holdback: &mut [u8], n: usize) {
 }
 
 // The op's length stands before it, and the holdback behind it.
-fn deliver_held(buf: &mut [u8], line: &[u8]) {
+fn deliver_holdback(buf: &mut [u8], line: &[u8]) {
     if line.len() < 2 {
         return;
     }
@@ -318,7 +318,7 @@ fn dispatch(call: u8, line: &[u8], lent: &mut [u8]) {
             return;
         }
         13 => {
-            deliver_held(lent, line);
+            deliver_holdback(lent, line);
             return;
         }
         0 | 10 | 14..=255 => {

@@ -1,10 +1,10 @@
--- `holdback::delivering::deliver_held` meets its contract.
+-- `holdback::delivering::deliver_sound` meets its contract.
 use Rattle.holdback.proofs.HoldbackCases.{holding}
-use Rattle.holdback.proofs.delivering.deliver_held.Statement.{statement}
-use Rattle.holdback.proofs.delivering.deliver_held.Tie as tie
+use Rattle.holdback.proofs.delivering.deliver_sound.Statement.{statement}
+use Rattle.holdback.proofs.delivering.deliver_sound.Tie as tie
 
-pub deliver-held-spec : {M : Type 1} → statement M
-deliver-held-spec =
+pub deliver-sound-spec : {M : Type 1} → statement M
+deliver-sound-spec =
     tie.close
     (tie.spec
     (λ c κs. search holding)
