@@ -17,7 +17,7 @@ use Rattle.rules.specs.File.{Log, Extends, fileEnd, logOf, appended}
 use Rattle.rules.specs.Log.{covered, closed, namesKnown}
 use Rattle.rules.specs.Bundle.{turnsBuffer}
 use Rattle.rules.specs.Deliver.{isHeld, deliverAnswer, deliverBuffer}
-use Rattle.rules.specs.Holdback.{places, stays, Look, found, none, look, Search, searchOn, looks, search, holdbackOps, holdbackOf, soundHoldback, waits, putBack, earlyAnswer, released, answerOn, holdbackAnswer, holdbackBuffer, holdbackAfter, holdbackTaken}
+use Rattle.rules.specs.Holdback.{Desk, places, stays, Look, found, none, look, Search, searchOn, looks, search, holdbackOps, holdbackOf, soundHoldback, waits, putBack, earlyAnswer, released, answerOn, holdbackAnswer, holdbackBuffer, holdbackAfter, holdbackTaken}
 use Rattle.rules.specs.Sound.{sound}
 use Rattle.rules.proofs.AppendLaws.{Admits, extends-refl, extends-then, covered-more, same-within, closed-more, names-more, replica-formed}
 use Rattle.rules.proofs.DeliverLaws.{Admitted, admitted}
@@ -27,7 +27,7 @@ use Rattle.rules.proofs.ReleaseLaws.{accepted-says}
 use Rattle.rules.proofs.SearchLaws.{look-less}
 use Rattle.rules.proofs.VerdictLaws.{Verdict, short, unformed, rival, had, early, torn, unknown, full, taken, verdict}
 use Rattle.convergence.specs.Exchange.{has}
-use Rattle.convergence.specs.Holding.{AtMost33, RestRefused, Desk, post, posted, cleared, NeverFull, noneAccepted, overAndOver, reads, FairOffers, OrderFree, HoldbackPromise}
+use Rattle.convergence.specs.Holding.{AtMost33, RestRefused, post, posted, cleared, NeverFull, noneAccepted, overAndOver, reads, FairOffers, OrderFree, HoldbackPromise}
 use Rattle.convergence.proofs.HasLaws.{has-head, has-tail, has-old, has-new, has-none, has-cases, has-either}
 use Rattle.convergence.proofs.GrownLaws.{same-bytes}
 use Rattle.convergence.proofs.EndLaws.{Ended, reads-of, reads-long, reads-formed, one-log}

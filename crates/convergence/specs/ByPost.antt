@@ -5,7 +5,7 @@ use mathlib.Core.Bool.{true, false}
 use mathlib.Core.List.{List, [], _∷_, _++_}
 use mathlib.Core.Path.{refl, _≡_}
 use Rattle.convergence.specs.Exchange.{deliverHoldback, perform, lent, answer, bufferAfter, begun, added, has}
-use Rattle.convergence.specs.Holding.{Desk, post, posted, cleared, accepts, noneAccepted, offerRounds, overAndOver, reads, different}
+use Rattle.convergence.specs.Holding.{post, posted, cleared, accepts, noneAccepted, offerRounds, overAndOver, reads, different}
 use Rattle.lists.specs.Lists.{all, upFrom, sum, concat, same, any, filter, isIn}
 use Rattle.rules.specs.Answer.{Answer, waiting, accepted, require}
 use Rattle.rules.specs.Bytes.{wordAt, word}
@@ -13,7 +13,7 @@ use Rattle.rules.specs.Bundle.{turnsBuffer}
 use Rattle.rules.specs.Deliver.{deliverBuffer, deliverAnswer, heldAnswer, admitAnswer, isHeld}
 use Rattle.rules.specs.Examples.{a₁, a₂, a₃, b₁, unknown₁, p1, p1File, emptyFile, emptyThen}
 use Rattle.rules.specs.File.{emptyLog, opsOf, opAt, countsOf, append, countAt, startAt, headerCounts, startOf, endOf, fileEnd, chunks, chunksOf, logOf, headerEntry, headerOf, fileOf, within, appended, width}
-use Rattle.rules.specs.Holdback.{holdbackOps, holdbackOf, soundHoldback, stays, look, searchOn, looks, search, waits, putBack, earlyAnswer, released, answerOn, holdbackAnswer, holdbackBuffer, holdbackAfter, holdbackTaken}
+use Rattle.rules.specs.Holdback.{Desk, holdbackOps, holdbackOf, soundHoldback, stays, look, searchOn, looks, search, waits, putBack, earlyAnswer, released, answerOn, holdbackAnswer, holdbackBuffer, holdbackAfter, holdbackTaken}
 use Rattle.rules.specs.Issue.{opBytes}
 use Rattle.rules.specs.Log.{covered, closedAt, closed, knownParent, namesKnown, soundOp, soundOps, soundLog, soundHeader, laid, structural}
 use Rattle.rules.specs.Marks.{isKnown, knowledge, marked, nodeWithin}

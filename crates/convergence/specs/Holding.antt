@@ -14,7 +14,7 @@ use Rattle.rules.specs.File.{fileEnd, largest}
 use Rattle.rules.specs.Sound.{sound}
 use Rattle.rules.specs.Deliver.{deliverAnswer}
 use Rattle.rules.specs.Bundle.{turnsBuffer}
-use Rattle.rules.specs.Holdback.{holdbackOps, holdbackOf, holdbackAnswer, holdbackBuffer, holdbackAfter, holdbackTaken}
+use Rattle.rules.specs.Holdback.{Desk, holdbackOps, holdbackOf, holdbackAnswer, holdbackBuffer, holdbackAfter, holdbackTaken}
 use Rattle.convergence.specs.Exchange.{has}
 
 ---- one call
@@ -32,11 +32,6 @@ RestRefused =
     → (deliverAnswer w (holdbackBuffer w f r h) x ≡ refused 5) ⊎ (deliverAnswer w (holdbackBuffer w f r h) x ≡ refused 8)
 
 ---- "only deliveries with one tray follow one another, each lent what the last one left"
-
--- a buffer, and the holdback beside it
-pub record Desk : Type 0 where
-  pub buffer : List ℕ
-  pub holdback : List ℕ
 
 unfoldable pub post : ℕ → Desk → List ℕ → Desk
 post w d r = record {

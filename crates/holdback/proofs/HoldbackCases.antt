@@ -2,8 +2,8 @@
 use Prim.Native.Nat.{ℕ, _≤_, _<_}
 use borrow.Author.Needs.{needs}
 use borrow.Author.Tests.{eqb-true, le-ltb, lt-ltb}
-use lib.Dec.{eqb, ltb}
-use mathlib.Core.Bool.{Bool, true, false, _||_}
+use lib.Dec.{eqb}
+use mathlib.Core.Bool.{Bool, true, false}
 use mathlib.Core.List.{List, [], _∷_, _++_}
 use mathlib.Core.Path.{_≡_, refl, sym, ap, _∙_}
 use native.Mathlib.Omega.{arith}
@@ -12,9 +12,10 @@ use Rattle.rules.specs.Answer.{Answer, refused, hadIt, waiting, done, accepted,
 use Rattle.rules.specs.Bytes.{byte}
 use Rattle.rules.specs.Deliver.{Result, deliver, deliverAnswer, deliverBuffer}
 use Rattle.rules.specs.File.{headerCounts, startOf, width}
-use Rattle.rules.specs.Holdback.{HoldbackResult, places, holdbackOf, holdbackOps, soundHoldback, search, waits, putBack, earlyAnswer, released, answerOn, holdbackAnswer, holdbackBuffer, holdbackAfter, deliverHoldback}
+use Rattle.rules.specs.Holdback.{Desk, HoldbackResult, holdbackOf, holdbackOps, soundHoldback, search, waits, putBack, earlyAnswer, released, answerOn, holdbackAnswer, holdbackBuffer, holdbackAfter, deliverHoldback}
 use Rattle.rules.specs.Sound.{sound}
 use Rattle.rules.proofs.DeliverLaws.{deliver-sound, never-waiting}
+use Rattle.rules.proofs.ReleaseLaws.{early-kept}
 use Rattle.rules.proofs.SearchLaws.{search-sound}
 use Rattle.rules.proofs.VerdictLaws.{early-long}
 use Rattle.codec.specs.Answers.{answerOf, numberOf}
@@ -26,7 +27,7 @@ use Rattle.codec.proofs.AnswerLaws.{accepted-with, if-not-accepted}
 use Rattle.oplog.proofs.HeaderLaws.{end-is}
 use Rattle.holdback.specs.Delivering.{EarlyResult, afterSearch, earlyCall, isEarly}
 use Rattle.holdback_places.specs.Places.{Compared, Roomy}
-use Rattle.holdback.specs.Searching.{Desk, Searchable, desk, searched}
+use Rattle.holdback.specs.Searching.{Searchable, desk, searched}
 
 -- what a call hands back
 abbrev handed : Answer → (buffer holdback : List ℕ) → HoldbackResult
@@ -67,15 +68,6 @@ early-as done e = never e
 early-as (accepted n) e = never e
 
 ---- an early op
-
--- it is not accepted
-early-kept : {A : Type 0} (r h : List ℕ) (new old : A) → ifAccepted (earlyAnswer width r h) new old ≡ old
-unfolding earlyAnswer require
-early-kept r h new old = go (waits width r h || ltb (byte h 0) places)
-  where
-    go : (b : Bool) → ifAccepted (require b 13 waiting) new old ≡ old
-    go true = refl
-    go false = refl
 
 module _ (r h : List ℕ) (x : Compared h r) where
   pub hold-counts : soundHoldback width h ≡ true
@@ -160,7 +152,8 @@ module _ (f r h : List ℕ) (x : Searchable f h) where
         then-held b h′ s =
             let b-so : b ≡ earlyAnswer width r h = ap (λ (k : EarlyResult). k .answer) s in
             let h-so : h′ ≡ ifWaiting (earlyAnswer width r h) (putBack width r h) h = ap (λ (k : EarlyResult). k .holdback) s in
-            rw (same-buffer, early-so, early-kept r h _ f, early-kept r h (holdbackOf width (released width f r h .left)) _, b-so, h-so)
+            let kept = early-kept width r h (holdbackOf width (released width f r h .left)) in
+            rw (same-buffer, early-so, early-kept width r h _ f, kept _, b-so, h-so)
 
       pub then-same : isEarly a ≡ false → handed a g h ≡ deliverHoldback width f r h
       unfolding holdbackBuffer holdbackAfter answerOn isEarly isAccepted

@@ -15,7 +15,7 @@ use Rattle.rules.specs.Answer.{Answer, refused, hadIt, waiting, done, accepted,
 use Rattle.rules.specs.Bytes.{byte}
 use Rattle.rules.specs.Deliver.{Result, deliver, deliverAnswer, deliverBuffer}
 use Rattle.rules.specs.File.{width}
-use Rattle.rules.specs.Holdback.{holdbackOf, holdbackOps, look, search, searchOn, soundHoldback, stays}
+use Rattle.rules.specs.Holdback.{Desk, holdbackOf, holdbackOps, look, search, searchOn, soundHoldback, stays}
 use Rattle.rules.specs.Op.{Op, wellFormed}
 use Rattle.rules.specs.Sound.{sound}
 use Rattle.rules.proofs.DeliverLaws.{deliver-length, deliver-sound, if-not}
@@ -32,7 +32,7 @@ use Rattle.codec.specs.declared.op.Read.{Read}
 use Rattle.codec.specs.declared.op.Read.the-variants as read
 use Rattle.delivery.proofs.DeliverCases.{delivering, unread}
 use Rattle.holdback_places.specs.Places.{Occupied, without}
-use Rattle.holdback.specs.Searching.{Desk, Meet, Meetable, Searchable, LookAt, desk, left, leftBy, metOf, meetOp, searched, lookedAt, waitingAt}
+use Rattle.holdback.specs.Searching.{Meet, Meetable, Searchable, LookAt, desk, left, leftBy, metOf, meetOp, searched, lookedAt, waitingAt}
 use Rattle.holdback.specs.declared.searching.Met.{Met}
 use Rattle.holdback.specs.declared.searching.Met.the-variants.{Taken, Stays, Dropped}
 use Rattle.holdback_places.proofs.PlaceCases.{occupied}

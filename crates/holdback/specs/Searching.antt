@@ -7,7 +7,7 @@ use lib.ListN.{getD}
 use Rattle.rules.specs.Answer.{Answer, ifAccepted}
 use Rattle.rules.specs.Deliver.{deliverAnswer, deliverBuffer}
 use Rattle.rules.specs.File.{width}
-use Rattle.rules.specs.Holdback.{Search, holdbackOf, holdbackOps, search, soundHoldback, stays}
+use Rattle.rules.specs.Holdback.{Desk, Search, holdbackOf, holdbackOps, search, soundHoldback, stays}
 use Rattle.rules.specs.Op.{Op}
 use Rattle.rules.specs.Sound.{sound}
 use Rattle.holdback_places.specs.Places.{Occupied, without}
@@ -55,11 +55,7 @@ pub record Searchable (f h : List ℕ) : Type 0 where
   pub is-sound : sound width f ≡ true
   pub is-holdback : soundHoldback width h ≡ true
 
--- lent buffer and holdback
-pub record Desk : Type 0 where
-  pub buffer : List ℕ
-  pub holdback : List ℕ
-
+-- the lent buffer and holdback
 abbrev pub desk : List ℕ → List ℕ → Desk
 desk f h = record { buffer = f; holdback = h }
 

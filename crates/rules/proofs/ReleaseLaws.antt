@@ -1,14 +1,16 @@
 -- What the answers of a delivery with a holdback say.
-use mathlib.Core.Path.{_≡_, refl, ap}
-use mathlib.Core.Bool.{Bool, true, false, cond}
+use mathlib.Core.Path.{_≡_, refl, sym, ap}
+use mathlib.Core.Bool.{Bool, true, false, cond, _||_}
 use mathlib.Core.List.{List}
 use Prim.Native.Nat.{ℕ}
 use native.Mathlib.Omega.{arith}
-use lib.Dec.{eqb}
-use Rattle.rules.specs.Answer.{Answer, refused, hadIt, waiting, done, accepted}
+use lib.Dec.{eqb, ltb}
+use Rattle.lists.proofs.BoolLaws.{never}
+use Rattle.rules.specs.Answer.{Answer, refused, hadIt, waiting, done, accepted, require, ifAccepted}
+use Rattle.rules.specs.Bytes.{byte}
 use Rattle.rules.specs.Deliver.{deliverAnswer, deliverBuffer}
 use Rattle.rules.specs.File.{fileEnd}
-use Rattle.rules.specs.Holdback.{holdbackOps, soundHoldback, earlyAnswer, released, answerOn, holdbackAnswer, holdbackAfter}
+use Rattle.rules.specs.Holdback.{places, holdbackOps, soundHoldback, waits, earlyAnswer, released, answerOn, holdbackAnswer, holdbackAfter}
 use Rattle.rules.specs.Sound.{sound}
 use Rattle.rules.proofs.DeliverLaws.{accepted-same, deliver-sound, required}
 use Rattle.rules.proofs.SearchLaws.{SearchAlike, search-alike, search-sound}
@@ -16,9 +18,17 @@ use Rattle.rules.proofs.TurnLaws.{OneLog, one-end, deliver-alike, deliv
 
 ---- what acceptance says
 
+-- an early op is not accepted
+pub early-kept : {A : Type 0} (w : ℕ) (r h : List ℕ) (new old : A) → ifAccepted (earlyAnswer w r h) new old ≡ old
+unfolding earlyAnswer require
+early-kept w r h new old = go (waits w r h || ltb (byte h 0) places)
+  where
+    go : (b : Bool) → ifAccepted (require b 13 waiting) new old ≡ old
+    go true = refl
+    go false = refl
+
 early-not : (w : ℕ) (r h : List ℕ) (n : ℕ) → earlyAnswer w r h ≡ accepted n → ⊥
-unfolding earlyAnswer
-early-not w r h n e = let q = required _ _ _ n e .1 in let z : _≡_ {A = ℕ} 0 1 = cc in omega arith
+early-not w r h n e = let z = rw e at (early-kept w r h true false) in never (sym z)
 
 pub record Released (w : ℕ) (f r h : List ℕ) (n : ℕ) : Type 0 where
   pub is-sound : sound w f ≡ true

@@ -77,6 +77,11 @@ search w f ops = looks (suc (length ops)) w f ops
 
 ---- the call
 
+-- a buffer, and the holdback beside it
+pub record Desk : Type 0 where
+  pub buffer : List ℕ
+  pub holdback : List ℕ
+
 -- a call's answer, and the lent buffer and holdback after it
 pub record HoldbackResult : Type 0 where
   pub answer : Answer
