@@ -1,7 +1,7 @@
 -- The effect of an op, as the code has it.
 use mathlib.Core.Path.{_≡_, sym, ap, _∙_}
 use mathlib.Core.Logic.{inr}
-use mathlib.Core.Bool.{Bool, true, false}
+use mathlib.Core.Bool.{true, false}
 use mathlib.Core.List.{List}
 use Prim.Native.Nat.{ℕ, _+_, _*_, _-_, _/_, _%_, _≤_, _<_}
 use native.Mathlib.Omega.{arith}
@@ -10,11 +10,14 @@ use lib.ListN.{length, drop, getD, set}
 use borrow.Author.Tests.{eq-eqb, ne-eqb}
 use borrow.Author.Needs.{needs}
 use Rattle.rules.specs.Op.{vectorOf, kindOf, parentOf, nodeNumber, isAdd, nodeOf, isMove, Op}
-use Rattle.rules.specs.Tree.{slotOf, slot, slots, atOrBelow}
+use Rattle.rules.specs.Tree.{climbTo, slotOf, slot, slots}
 use Rattle.rules.specs.Replay.{outcomeOf, outcomeSlot, step}
 use Rattle.rules.specs.File.{opAt, logOf}
 use Rattle.rules.proofs.SlotLaws.{slot-below}
 use Rattle.rules.proofs.KnownLaws.{names-add, names-node, known-reads}
+use Rattle.tree.specs.Climb.{climbedOf}
+use Rattle.tree.specs.declared.climb.Climbed.{Climbed}
+use Rattle.tree.proofs.ClimbLaws.{met-is}
 use Rattle.tree.specs.Slots.{opIn, replicaIn, sequenceIn, slotPlace}
 use Rattle.rules.proofs.StructureLaws.{HeldOp}
 use Rattle.oplog.proofs.FieldLaws.{fields-at, small}
@@ -54,14 +57,14 @@ module _ (p l : List ℕ) (k n m i t : ℕ) where
     unfolding outcomeBy
     outcome-placed e = rw (moves-true k a b, eq-eqb (getD l i 0) t e)
 
-    module _ (ne : getD l i 0 ≡ t → ⊥) (r : Bool) (is : r ≡ atOrBelow p m n) where
-      pub outcome-cycle : r ≡ true → 3 ≡ outcomeBy p l k n m i t
+    module _ (ne : getD l i 0 ≡ t → ⊥) (c : Climbed) (is : climbedOf c ≡ climbTo p m n) where
+      pub outcome-cycle : c .met ≡ true → 3 ≡ outcomeBy p l k n m i t
       unfolding outcomeBy
-      outcome-cycle e = rw (moves-true k a b, ne-eqb (getD l i 0) t ne, ← is, e)
+      outcome-cycle e = rw (moves-true k a b, ne-eqb (getD l i 0) t ne, ← met-is p n m c is, e)
 
-      pub outcome-clear : r ≡ false → 1 ≡ outcomeBy p l k n m i t
+      pub outcome-clear : c .met ≡ false → 1 ≡ outcomeBy p l k n m i t
       unfolding outcomeBy
-      outcome-clear e = rw (moves-true k a b, ne-eqb (getD l i 0) t ne, ← is, e)
+      outcome-clear e = rw (moves-true k a b, ne-eqb (getD l i 0) t ne, ← met-is p n m c is, e)
 
 -- hanging a node
 module _ (p : List ℕ) (k o i x : ℕ) where

@@ -1,7 +1,7 @@
 use codec::kind_at;
 use codec::node_at;
 use codec::parent_at;
-use tree::below;
+use tree::climb_to;
 use tree::slot_of;
 use tree::slot_place;
 ghost use mathlib.Core.Path.{_≡_};
@@ -30,7 +30,8 @@ fn outcome_of(
             if placed[slot] == time {
                 return 2;
             }
-            if below(parents, parent, node) {
+            let climbed = climb_to(parents, parent, node);
+            if climbed.met {
                 return 3;
             }
             return 1;

@@ -1,14 +1,15 @@
 -- Laws of numbers in a list.
-use Rattle.lists.specs.Lists.{any, concat, filter, isIn}
+use Rattle.lists.specs.Lists.{any, concat, filter, indexOf, isIn}
 use Rattle.lists.proofs.NumberLaws.{mul-step, pigeonhole}
 use Rattle.lists.proofs.BoolLaws.{never, or-cases}
 use mathlib.Core.Bool.{Bool, _||_, cond, false, or-true, true}
 use mathlib.Core.List.{List, [], _++_, _∷_, map}
-use Prim.Native.Nat.{_*_, _<_, _≤_, suc, zero, ℕ}
+use Prim.Native.Nat.{_*_, _+_, _<_, _≤_, suc, zero, ℕ}
 use mathlib.Core.Path.{_∙_, _≡_, ap, ap₂, refl, sym}
 use mathlib.Core.Logic.{_⊎_, inl, inr, ⊎-elim}
 use native.Mathlib.Omega.{arith}
-use borrow.Author.Tests.{eq-eqb, eqb-true}
+use borrow.Author.Tests.{eq-eqb, eqb-true, ne-eqb}
+use native.Mathlib.Decide.{ℕ-discrete}
 use lib.Dec.{eqb}
 use lib.ListN.{getD, length, length-append}
 use native.Mathlib.Nat.{le-of-suc-le-suc, not-suc-le-zero}
@@ -158,3 +159,34 @@ pub at-most : (xs : List ℕ) (n : ℕ) (f : ℕ → ℕ) → ((j : ℕ) → j <
 at-most xs n f b d =
     pigeonhole (length xs) n (λ j. placeIn (f j) xs) (λ j h. place-below (f j) xs (b j h)) (λ j k h u e.
     d j k h u (sym (place-at (f j) xs (b j (omega arith))) ∙ ap (λ (i : ℕ). getD xs i 0) e ∙ place-at (f k) xs (b k u)))
+
+---- where the first one stands
+
+module _ (x : ℕ) where
+  pub index-within : (xs : List ℕ) → isIn x xs ≡ true → indexOf x xs < length xs
+  unfolding isIn any indexOf
+  index-within [] e = never e
+  index-within (y ∷ ys) e = go (eqb x y) e (index-within ys)
+    where
+      go : (b : Bool) → (b || any (eqb x) ys) ≡ true → (any (eqb x) ys ≡ true → indexOf x ys < length ys)
+          → cond b 0 (suc (indexOf x ys)) < suc (length ys)
+      go true e ih = omega arith
+      go false e ih = omega (arith, ih e)
+
+  pub index-at : (xs : List ℕ) → isIn x xs ≡ true → getD xs (indexOf x xs) 0 ≡ x
+  unfolding isIn any indexOf
+  index-at [] e = never e
+  index-at (y ∷ ys) e = elim (ℕ-discrete x y) [
+    | yes h ↦ rw (eq-eqb x y h) (sym h)
+    | no nh ↦ rw (ne-eqb x y nh) (index-at ys (rw (ne-eqb x y nh) at e))
+  ]
+
+  pub index-behind : (xs ys : List ℕ) → isIn x xs ≡ false → indexOf x (xs ++ ys) ≡ length xs + indexOf x ys
+  unfolding isIn any indexOf
+  index-behind [] ys e = omega arith
+  index-behind (y ∷ xs) ys e = go (eqb x y) e (index-behind xs ys)
+    where
+      go : (b : Bool) → (b || any (eqb x) xs) ≡ false → (any (eqb x) xs ≡ false → indexOf x (xs ++ ys) ≡ length xs + indexOf x ys)
+          → cond b 0 (suc (indexOf x (xs ++ ys))) ≡ suc (length xs) + indexOf x ys
+      go true e ih = never (sym e)
+      go false e ih = omega (arith, ih e)

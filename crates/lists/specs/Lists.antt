@@ -51,3 +51,8 @@ module _ {A : Type 0} where
 -- x is in the list
 unfoldable pub isIn : ℕ → List ℕ → Bool
 isIn x xs = any (eqb x) xs
+
+-- how many elements stand before the first x; all of them where there is none
+unfoldable pub indexOf : ℕ → List ℕ → ℕ
+indexOf x [] = 0
+indexOf x (y ∷ ys) = cond (eqb x y) 0 (suc (indexOf x ys))

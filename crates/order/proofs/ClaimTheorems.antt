@@ -1,5 +1,5 @@
 -- The claims, proved.
-use Rattle.order.specs.Claims.{BoundsFree, Decimals, Listings, NoNewWork, OneFile, Ordered, PartsAlike}
+use Rattle.order.specs.Claims.{BoundsFree, Decimals, Listings, NoNewWork, OneFile, Ordered, PartsAlike, TreeClimbs}
 use Rattle.order.proofs.LevelLaws.{Cut, equation}
 use Rattle.rules.specs.File.{Log, countsOf, logOf}
 use Rattle.rules.proofs.ExtendLaws.{alike-more, replay-alike}
@@ -15,6 +15,8 @@ use Rattle.rules.specs.Tree.{slots}
 use Rattle.order.proofs.WorkLaws.{issued-unmarked, marked-line}
 use Rattle.rules.proofs.IssueLaws.{allowed}
 use Rattle.rules.proofs.SoundLaws.{sound-good}
+use Rattle.rules.proofs.ClimbToLaws.{climbs}
+use Rattle.order.proofs.TreeTheorem.{hangs}
 
 pub one-file : OneFile
 one-file w f bytes s =
@@ -42,6 +44,12 @@ bounds-free w f s =
       paths = λ n k. path-fuel log good n (parent-reads log (countsOf log) n k);
       listings = preorder-fuel log good;
     }
+
+pub tree-climbs : TreeClimbs
+tree-climbs w f s cut cv cl p n k =
+    let log : Log = logOf w f in
+    let is : Cut log cut = record { is-covered = cv; is-closed = cl } in
+    climbs _ p n (hangs log (structural-good w f s) cut is p (parent-reads log cut p k))
 
 pub listings : Listings
 listings w f s =

@@ -11,6 +11,7 @@ use Rattle.rules.specs.Op.{Op, Vector, replicas, countIn, nodeOf, parentOf, vec
 use Rattle.rules.specs.File.{Log, opAt, countsOf, Extends, fileEnd, logOf, fileOf}
 use Rattle.rules.specs.Log.{covered, closed, knownParent, structural}
 use Rattle.rules.specs.Tree.{slots, climb, path, depth}
+use Rattle.rules.specs.ClimbClaim.{ClimbSays}
 use Rattle.rules.specs.Marks.{marked, isMarked, knowledge}
 use Rattle.rules.specs.Answer.{accepted}
 use Rattle.rules.specs.Issue.{Request, issued, issueAnswer}
@@ -56,6 +57,15 @@ pub record Unbounded (log : Log) : Type 0 where
 
 abbrev pub BoundsFree : Type 0
 BoundsFree = (w : ℕ) (f : List ℕ) → structural w f ≡ true → Unbounded (logOf w f)
+
+---- climbs
+
+-- in the tree of a closed cut, from every parent that is known there
+abbrev pub TreeClimbs : Type 0
+TreeClimbs =
+    (w : ℕ) (f : List ℕ) → structural w f ≡ true
+    → (cut : Vector) → covered (logOf w f) cut ≡ true → closed (logOf w f) cut ≡ true
+    → (p n : ℕ) → knownParent (logOf w f) cut p ≡ true → ClimbSays (replay (logOf w f) cut .parents) p n
 
 ---- the listing
 

@@ -19,6 +19,7 @@ pub mod WayLaws
 pub mod TurnLaws
 pub mod PutOutLaws
 pub mod ClimbLaws
+pub mod ClimbToLaws
 pub mod TreeLaws
 pub mod CircleLaws
 pub mod StepLaws

@@ -2,18 +2,18 @@
 use Prim.Native.Nat.{ℕ, zero, suc, _+_, _-_, _<_}
 use lib.Count.{ones, onesIn}
 use lib.ListN.{length, getD, set, replicate, take}
-use mathlib.Core.Bool.{true}
+use mathlib.Core.Bool.{Bool, true, false}
 use mathlib.Core.List.{List, [], _∷_, _++_, map}
 use mathlib.Core.Path.{_≡_, refl}
 use native.Mathlib.Nat.{le-of-suc-le-suc, not-suc-le-zero}
 use Rattle.rules.specs.Answer.{Answer, refused, hadIt, waiting, done, accepted, require}
 use Rattle.rules.specs.Bytes.{wordAt, word}
-use Rattle.lists.specs.Lists.{upFrom, downFrom, sum, greatest, same, concat, all, any, filter, isIn}
+use Rattle.lists.specs.Lists.{upFrom, downFrom, sum, greatest, same, concat, all, any, filter, isIn, indexOf}
 use Rattle.rules.specs.Bundle.{beyondCounts, headByte, headOf, isBeyond, opsBeyond, bundleOf, bundleAnswer, bundleCall, headSize, countsRead, headCounts, bodiesIn, opsBy, wholeBundle, unlessRefused, turnsAnswer, turnsBuffer, openAnswer, openBuffer, openBundle}
 use Rattle.rules.specs.Holdback.{places, holdbackOps, holdbackOf, soundHoldback, stays, look, searchOn, looks, search, waits, putBack, earlyAnswer, released, answerOn, holdbackAnswer, holdbackBuffer, holdbackAfter, deliverHoldback}
 use Rattle.rules.specs.Deliver.{makeAnswer, isHeld, heldAnswer, admitAnswer, deliverAnswer, deliverBuffer}
 use Rattle.rules.specs.Issue.{Request, add, remove, move, opBytes, issued, requestKnown, requestUnmarked, requestClear, issueAnswer, issueOut}
-use Rattle.rules.specs.Tree.{moveKind, slots, slot, slotOf, parentIn, climb, path, depth, atOrBelow}
+use Rattle.rules.specs.Tree.{moveKind, slots, slot, slotOf, parentIn, climb, path, depth, atOrBelow, climbTo}
 use Rattle.rules.specs.Judge.{judgeAnswer}
 use Rattle.rules.specs.Listing.{children, preorder, digits, decimal, lineOf, line, listingIn, listingOf, listingAnswer, listing, listingSize, refusedLine, outline}
 use Rattle.rules.specs.File.{Log, emptyLog, opsOf, opAt, countsOf, append, countAt, startAt, headerCounts, startOf, endOf, fileEnd, chunks, chunksOf, logOf, headerEntry, headerOf, fileOf, appended, within, width}
@@ -46,6 +46,8 @@ pub data Row : Type 0 where
   -- the outcomes of all ops; their timestamps
   outcomes : Log → List (List ℕ) → Row
   times : Log → List (List ℕ) → Row
+  -- the climb from a parent that ends at a node, in the tree of a log
+  climbs : Log → (parent node : ℕ) (met : Bool) (steps : ℕ) → Row
   -- what a vector knows of a node
   knows : Log → Vector → (node : ℕ) → Knowledge → Row
   -- the path of a node, put into lent entries, is answered, and they hold
@@ -75,6 +77,7 @@ Holds (judges f p o a) = judgeAnswer width f (replicate p 9) (replicate o 9) ≡
 Holds (puts log s q r) = issued log s q ≡ r
 Holds (outcomes log os) = ofOps (λ s q. getD (outcomesOf log) (slot s q) 0) log ≡ os
 Holds (times log ts) = ofOps (λ s q. timestamp log (opAt log s q)) log ≡ ts
+Holds (climbs log p n met steps) = climbTo (parentsOf log) p n ≡ record { met = met; steps = steps }
 Holds (knows log v n k) = knowledge log v n ≡ k
 Holds (paths f n out a after) = pathCall width f n out ≡ record { answer = a; out = after }
 Holds (lists f view out a after) = listing width f view out ≡ record { answer = a; out = after }
@@ -340,6 +343,18 @@ table =
     ∷ outcomes rivals2 (three [] (1 ∷ 1 ∷ 1 ∷ 2 ∷ []) (1 ∷ []) (1 ∷ []))
     ∷ outcomes rivals3 (three [] (1 ∷ 1 ∷ 1 ∷ 1 ∷ []) (3 ∷ []) (1 ∷ []))
     ∷ times chain (three [] (1 ∷ []) (1 ∷ []) (2 ∷ []))
+    -- climbs: a parent that is the node is met with 0 steps, a child with 1, one below that with 2, and the root is met from everywhere
+    ∷ climbs p1 258 258 true 0
+    ∷ climbs p1 257 258 true 1
+    ∷ climbs p10 258 259 true 1
+    ∷ climbs p10 258 257 true 2
+    ∷ climbs p10 258 0 true 3
+    ∷ climbs p1 0 0 true 0
+    -- the root is a miss with 0; a parent above the node, and one in another branch, with their own depths
+    ∷ climbs p1 0 258 false 0
+    ∷ climbs p1 258 257 false 1
+    ∷ climbs p12All 260 257 false 2
+    ∷ climbs p12All 257 260 false 1
     -- removes: the keeping view shows 257 for 258 below it, as removed, and not 259; the skipping view shows neither 257 nor 258
     ∷ puts p10Adds 2 (remove 257) (opBytes 2 2 257 0 (vector 3 0 0))
     ∷ laidOut pruned prunedFile
@@ -501,7 +516,7 @@ unfolding ofOps table p1 p1Adds p1File p1Buffer emptyFile p10 p11 p11All p12 p12
     kindOf replicaOf nodeOf parentOf vectorOf ownCount seqOf nodeNumber isAdd isRemove isMove wellFormed emptyLog opsOf opAt countsOf
     append countAt startAt headerCounts startOf endOf fileEnd chunks chunksOf logOf headerEntry headerOf fileOf within covered closedAt
     closed isKnown isMarked nodeWithin knowledge knownParent namesKnown soundOp soundOps soundLog soundHeader laid structural sound
-    makeAnswer isHeld heldAnswer admitAnswer deliverAnswer slot slotOf parentIn climb path depth atOrBelow opsWithin addedIn removedIn
+    makeAnswer isHeld heldAnswer admitAnswer deliverAnswer slot slotOf parentIn climb path depth atOrBelow indexOf climbTo opsWithin addedIn removedIn
     timestampIn timestamp stamp stamped ofReplica ofKind ofTime byTime ordered start outcomeSlot outcomeOf step replay parentsOf
     outcomesOf opBytes moveKind issued requestKnown requestUnmarked requestClear issueAnswer issueOut nodes marked shown children
     preorder digits decimal lineOf line listingIn listingOf listingAnswer listing listingSize refusedLine outline judgeAnswer pathOf
@@ -514,14 +529,15 @@ table-holds =
     & refl & refl & refl & refl & refl & refl & refl & refl & refl & refl & refl & refl & refl & refl & refl & refl
     & refl & refl & refl & refl & refl & refl & refl & refl & refl & refl & refl & refl & refl & refl & refl & refl
     & refl & refl & (refl, refl) & refl & refl & refl & refl & (refl, refl) & refl & refl & refl & refl & refl
-    & (refl, refl) & refl & refl & refl & refl & refl & refl & refl & (refl, refl) & refl & refl & refl & refl
+    & (refl, refl) & refl & refl & refl & refl & refl & refl & refl & refl & refl & refl & refl & refl & refl & refl
+    & refl & refl & refl & (refl, refl) & refl & refl & refl & refl & refl & refl & refl & refl & refl & refl & refl
     & refl & refl & refl & refl & refl & refl & refl & refl & refl & refl & refl & refl & refl & refl & refl & refl
-    & refl & refl & refl & refl & refl & refl & refl & refl & refl & refl & refl & refl & (refl, refl) & refl & refl
+    & refl & refl & refl & refl & refl & (refl, refl) & refl & refl & refl & refl & refl & refl & refl & refl & refl
     & refl & refl & refl & refl & refl & refl & refl & refl & refl & refl & refl & refl & refl & refl & refl & refl
     & refl & refl & refl & refl & refl & refl & refl & refl & refl & refl & refl & refl & refl & refl & refl & refl
     & refl & refl & refl & refl & refl & refl & refl & refl & refl & refl & refl & refl & refl & refl & refl & refl
     & refl & refl & refl & refl & refl & refl & refl & refl & refl & refl & refl & refl & refl & refl & refl & refl
-    & refl & refl & refl & refl & refl & refl & refl & refl & refl & refl & refl & tt
+    & refl & refl & refl & refl & tt
 
 -- what holds of all rows holds of each
 each : (xs : List Row) (d : Row) → AllHold xs → (k : ℕ) → k < length xs → Holds (getD xs k d)

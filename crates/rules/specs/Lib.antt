@@ -17,4 +17,5 @@ pub mod Holdback
 pub mod Views
 pub mod Listing
 pub mod TreeClaim
+pub mod ClimbClaim
 pub mod Examples

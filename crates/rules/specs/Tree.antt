@@ -4,7 +4,7 @@ use mathlib.Core.Bool.{Bool, cond}
 use mathlib.Core.List.{List, [], _∷_}
 use lib.ListN.{length, getD}
 use lib.Dec.{eqb, ltb}
-use Rattle.lists.specs.Lists.{isIn}
+use Rattle.lists.specs.Lists.{isIn, indexOf}
 
 -- "seat s, sequence q has slot 255 x (s - 1) + q"; slot 0 is the root
 unfoldable pub slot : ℕ → ℕ → ℕ
@@ -39,6 +39,18 @@ depth parents n = length (path parents n) - 1
 -- m is n or lies below it
 unfoldable pub atOrBelow : List ℕ → ℕ → ℕ → Bool
 atOrBelow parents m n = isIn n (path parents m)
+
+-- what a climb that ends at a node hands back: whether the node is met, and "its number of steps"
+pub record Climbed : Type 0 where
+  pub met : Bool
+  pub steps : ℕ
+
+-- "does this parent lie below that node": the steps are "those from the parent up to the node if the node is met, otherwise the parent's
+-- depth"
+unfoldable pub climbTo : List ℕ → ℕ → ℕ → Climbed
+climbTo parents p n =
+    let met : Bool = atOrBelow parents p n in
+    record { met = met; steps = cond met (indexOf n (path parents p)) (depth parents p) }
 
 -- "a move is upward if the node's depth is greater than the new parent's, else downward", in the tree before it
 unfoldable pub moveKind : List ℕ → ℕ → ℕ → ℕ

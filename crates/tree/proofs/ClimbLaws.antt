@@ -1,17 +1,22 @@
 -- Slots, climbs to the root and the kind of a move, as the code has them.
 use mathlib.Core.Path.{_≡_, refl, sym, ap, _∙_}
 use mathlib.Core.Bool.{Bool, true, false, cond, _||_}
-use mathlib.Core.List.{List, [], _∷_}
+use mathlib.Core.List.{List, [], _∷_, _++_, append-assoc}
 use Prim.Native.Nat.{ℕ, zero, suc, _+_, _-_, _/_, _≤_, _<_}
 use native.Mathlib.Omega.{arith}
-use lib.ListN.{length, getD, List·getD-eq-default}
+use lib.ListN.{length, length-append, getD, List·getD-eq-default}
 use lib.Dec.{eqb, lit≤}
 use native.Mathlib.Decide.{ℕ-discrete}
 use borrow.Author.Tests.{eq-eqb, ne-eqb, lt-ltb, le-ltb}
 use borrow.Author.Needs.{needs}
-use Rattle.rules.specs.Tree.{atOrBelow, parentIn, slotOf, climb, depth, path, slot, slots, noParent, moveKind}
-use Rattle.lists.specs.Lists.{isIn, any}
-use Rattle.tree.specs.Climb.{moveOrCycle}
+use Rattle.rules.specs.Tree.{atOrBelow, parentIn, slotOf, climb, climbTo, depth, path, slot, slots, noParent, moveKind}
+use Rattle.lists.specs.Lists.{isIn, any, indexOf}
+use Rattle.lists.proofs.AllLaws.{any-append}
+use Rattle.lists.proofs.MemberLaws.{index-behind}
+use Rattle.rules.proofs.ClimbToLaws.{depth-climbed}
+use Rattle.tree.specs.Climb.{climbedOf, moveOrCycle}
+use Rattle.tree.specs.declared.climb.Climbed.{Climbed}
+use Rattle.rules.specs.Tree as rules
 
 ---- the slot of a node, as the code computes it
 
@@ -59,117 +64,126 @@ module _ (t : List ℕ) (size : length t ≡ slots) where
   endless zero = refl
   endless (suc k) = rw no-parent (ap suc (endless k))
 
----- a climb from m to n that stands at `at` after i steps: whether n is met is whether it is met from here
+---- a climb from m to n that stands at `at` after i steps: the path is what lies behind, without n, and what is left from here
 
 pub record Climbing (t : List ℕ) (m n i at : ℕ) : Type 0 where
-  pub steps : i ≤ slots
-  pub left : atOrBelow t m n ≡ isIn n (climb (slots - i) t at)
+  pub bound : i ≤ slots
+  pub behind : List ℕ
+  pub steps : length behind ≡ i
+  pub free : isIn n behind ≡ false
+  pub way : path t m ≡ behind ++ climb (slots - i) t at
 
 pub climb-starts : (t : List ℕ) (m n : ℕ) → Climbing t m n 0 m
-unfolding atOrBelow path
-climb-starts t m n = record { steps = omega arith; left = refl }
+unfolding path isIn any
+climb-starts t m n = record { bound = omega arith; behind = []; steps = refl; free = refl; way = refl }
 
 module _ (t : List ℕ) (m n i at : ℕ) (c : Climbing t m n i at) where
-  pub climb-ends : slots ≤ i → false ≡ atOrBelow t m n
+  abbrev left : List ℕ
+  left = climb (slots - i) t at
+
+  met-left : atOrBelow t m n ≡ isIn n left
+  unfolding atOrBelow isIn
+  met-left = rw (c .way, any-append (eqb n) (c .behind) left, c .free)
+
+  index-left : indexOf n (path t m) ≡ i + indexOf n left
+  index-left = rw (c .way, index-behind n (c .behind) left (c .free), c .steps)
+
+  depth-left : depth t m ≡ i + length left - 1
+  unfolding depth
+  depth-left = rw (c .way, length-append, c .steps)
+
+  met-after : isIn n left ≡ true → indexOf n left ≡ 0 → record { met = true; steps = i } ≡ climbTo t m n
+  unfolding climbTo
+  met-after e z = let k : i + 0 ≡ i = omega arith in rw (met-left, e, index-left, z, k)
+
+  missed-after : isIn n left ≡ false → (k : ℕ) → k ≡ i + length left - 1 → record { met = false; steps = k } ≡ climbTo t m n
+  unfolding climbTo
+  missed-after e k is = rw (met-left, e, depth-left, is)
+
+  pub climb-ends : slots ≤ i → record { met = false; steps = slots - 1 } ≡ climbTo t m n
   unfolding climb isIn any
-  climb-ends h = let e : slots - i ≡ 0 = omega arith in sym (c .left ∙ rw e)
+  climb-ends h =
+      let e : left ≡ [] = let z : slots - i ≡ 0 = omega arith in rw z in
+      missed-after (rw e) (slots - 1) (let h′ = c .bound in rw e (omega arith))
 
   module _ (h : i < slots) where
-    turn : atOrBelow t m n ≡ (eqb n at || cond (eqb at 0) false (isIn n (climb (slots - (i + 1)) t (parentIn t at))))
-    unfolding climb isIn any
-    turn = let e : slots - i ≡ suc (slots - (i + 1)) = omega arith in c .left ∙ rw e (ap (λ (b : Bool). eqb n at || b) (go (eqb at 0)))
-      where
-        go : (b : Bool) → any (eqb n) (cond b [] (climb (slots - (i + 1)) t (parentIn t at))) ≡ cond b false
-            (any (eqb n) (climb (slots - (i + 1)) t (parentIn t at)))
-        go true = refl
-        go false = refl
+    here : left ≡ at ∷ cond (eqb at 0) [] (climb (slots - (i + 1)) t (parentIn t at))
+    unfolding climb
+    here = let e : slots - i ≡ suc (slots - (i + 1)) = omega arith in rw e
 
-    pub climb-found : at ≡ n → true ≡ atOrBelow t m n
-    climb-found e = sym (turn ∙ rw (eq-eqb n at (sym e)))
+    pub climb-found : at ≡ n → record { met = true; steps = i } ≡ climbTo t m n
+    unfolding isIn any indexOf
+    climb-found e = met-after (rw (here, eq-eqb n at (sym e))) (rw (here, eq-eqb n at (sym e)))
+
+    -- so far there are no more steps than in all: the one to come leaves fewer
+    within : i ≤ climbTo t m n .steps
+    unfolding climbTo
+    within = rw (index-left, depth-left, here) (go (atOrBelow t m n) _ _)
+      where
+        go : (b : Bool) (j k : ℕ) → i ≤ cond b (i + j) (i + suc k - 1)
+        go true j k = omega arith
+        go false j k = omega arith
+
+    pub climb-less : climbTo t m n .steps + 1 - (i + 1) < climbTo t m n .steps + 1 - i
+    climb-less = omega (arith, within)
 
     module _ (ne : at ≡ n → ⊥) where
-      pub climb-root : at ≡ 0 → false ≡ atOrBelow t m n
-      climb-root z = sym (turn ∙ rw (ne-eqb n at (λ e. ne (sym e)), eq-eqb at 0 z))
+      pub climb-root : at ≡ 0 → record { met = false; steps = i } ≡ climbTo t m n
+      unfolding isIn any
+      climb-root z =
+          let e : left ≡ at ∷ [] = rw (here, eq-eqb at 0 z) in
+          missed-after (rw (e, ne-eqb n at (λ e. ne (sym e)))) i (rw e (omega arith))
 
       module _ (nz : at ≡ 0 → ⊥) (size : length t ≡ slots) (k : ℕ) (is : k ≡ slotOf at) where
-        pub climb-out : n < noParent → slots ≤ k → false ≡ atOrBelow t m n
+        onward : left ≡ at ∷ climb (slots - (i + 1)) t (parentIn t at)
+        onward = rw (here, ne-eqb at 0 nz)
+
+        pub climb-out : n < noParent → slots ≤ k → record { met = false; steps = slots - 1 } ≡ climbTo t m n
+        unfolding isIn any
         climb-out s o =
-            let e = outside t size at (omega arith) in
-            sym (turn ∙ rw (ne-eqb n at (λ e. ne (sym e)), ne-eqb at 0 nz, e, lost t size n (slots - (i + 1)) s))
+            let e : left ≡ at ∷ climb (slots - (i + 1)) t noParent = rw (onward, outside t size at (omega arith)) in
+            missed-after (rw (e, ne-eqb n at (λ e. ne (sym e))) (lost t size n (slots - (i + 1)) s)) (slots - 1)
+            (rw (e, endless t size (slots - (i + 1))) (omega arith))
 
         pub climb-on : k < slots → Climbing t m n (i + 1) (getD t k 0)
-        climb-on b =
-            let p = parent-read t at k is size (omega arith) in
-            record { steps = omega arith; left = turn ∙ rw (ne-eqb n at (λ e. ne (sym e)), ne-eqb at 0 nz, p) }
+        unfolding isIn any
+        climb-on b = record {
+          bound = omega arith;
+          behind = c .behind ++ (at ∷ []);
+          steps = rw (length-append, c .steps);
+          free = rw (any-append (eqb n) (c .behind) (at ∷ []), c .free, ne-eqb n at (λ e. ne (sym e)));
+          way = c .way ∙ rw (onward, parent-read t at k is size (omega arith), append-assoc);
+        }
 
----- a climb from n that stands at `at` after i steps: the depth is the steps, and one less than the entries from here on
+---- a depth, and the kind of a move: c is what the climb to a node has handed back
 
-pub record Rising (t : List ℕ) (n i at : ℕ) : Type 0 where
-  pub steps : i < slots
-  pub left : depth t n ≡ i + length (climb (slots - i) t at) - 1
+pub depth-is : (t : List ℕ) (n : ℕ) (c : Climbed) → climbedOf c ≡ climbTo t n 0 → c .steps ≡ depth t n
+depth-is t n c is = ap (λ (r : rules.Climbed). r .steps) is ∙ depth-climbed t n
 
-pub rise-starts : (t : List ℕ) (n : ℕ) → Rising t n 0 n
-unfolding depth path
-rise-starts t n =
-    let e : 0 + length (climb slots t n) ≡ length (climb slots t n) = omega arith in
-    record { steps = omega arith; left = rw e }
+module _ (t : List ℕ) (n p : ℕ) (c : Climbed) (is : climbedOf c ≡ climbTo t p n) where
+  pub met-is : c .met ≡ atOrBelow t p n
+  unfolding climbTo
+  met-is = ap (λ (r : rules.Climbed). r .met) is
 
-module _ (t : List ℕ) (n i at : ℕ) (c : Rising t n i at) where
-  pub rise-root : at ≡ 0 → i ≡ depth t n
-  unfolding climb
-  rise-root z =
-      let e : slots - i ≡ suc (slots - (i + 1)) = omega arith in
-      let one : length (climb (slots - i) t at) ≡ 1 = rw (e, eq-eqb at 0 z) in
-      omega arith
-
-  pub rise-ends : slots - 1 ≤ i → slots - 1 ≡ depth t n
-  unfolding climb
-  rise-ends h =
-      let e : slots - i ≡ 1 = omega arith in
-      let one : length (climb (slots - i) t at) ≡ 1 = rw e (go (eqb at 0)) in
-      omega arith
-    where
-      go : (b : Bool) → length (at ∷ cond b [] []) ≡ 1
-      go true = refl
-      go false = refl
-
-  module _ (nz : at ≡ 0 → ⊥) where
-    onward : length (climb (slots - i) t at) ≡ 1 + length (climb (slots - (i + 1)) t (parentIn t at))
-    unfolding climb
-    onward = let e : slots - i ≡ suc (slots - (i + 1)) = omega arith in rw (e, ne-eqb at 0 nz) (omega arith)
-
-    module _ (size : length t ≡ slots) (k : ℕ) (is : k ≡ slotOf at) where
-      pub rise-out : slots ≤ k → slots - 1 ≡ depth t n
-      rise-out o =
-          let e : length (climb (slots - (i + 1)) t (parentIn t at)) ≡ slots - (i + 1)
-          = rw (outside t size at (omega arith)) (endless t size (slots - (i + 1))) in
-          omega (arith, onward, c .left, c .steps)
-
-      pub rise-on : i < slots - 1 → k < slots → Rising t n (i + 1) (getD t k 0)
-      rise-on h b =
-          let p = parent-read t at k is size (omega arith) in
-          record { steps = omega arith; left = rw (← p) (omega (arith, onward, c .left)) }
-
----- the kind of a move
-
-module _ (t : List ℕ) (n p : ℕ) (b : Bool) (is : b ≡ atOrBelow t p n) where
-  pub move-cycle : b ≡ true → 0 ≡ moveOrCycle t n p
+  pub move-cycle : c .met ≡ true → 0 ≡ moveOrCycle t n p
   unfolding moveOrCycle
-  move-cycle e = rw (← is, e)
+  move-cycle e = rw (← met-is, e)
 
-  module _ (e : b ≡ false) (x y : ℕ) (hx : x ≡ depth t p) (hy : y ≡ depth t n) where
-    pub move-up : x < y → 3 ≡ moveOrCycle t n p
-    unfolding moveOrCycle moveKind
-    move-up h = rw (← is, e, ← hx, ← hy, lt-ltb x y h)
+  module _ (e : c .met ≡ false) (y : ℕ) (hy : y ≡ depth t n) where
+    steps-are : c .steps ≡ depth t p
+    unfolding climbTo
+    steps-are = ap (λ (r : rules.Climbed). r .steps) is ∙ rw (← met-is, e)
 
-    pub move-down : y ≤ x → 4 ≡ moveOrCycle t n p
+    pub move-up : c .steps < y → 3 ≡ moveOrCycle t n p
     unfolding moveOrCycle moveKind
-    move-down h = rw (← is, e, ← hx, ← hy, le-ltb x y h)
+    move-up h = rw (← met-is, e, ← steps-are, ← hy, lt-ltb (c .steps) y h)
+
+    pub move-down : y ≤ c .steps → 4 ≡ moveOrCycle t n p
+    unfolding moveOrCycle moveKind
+    move-down h = rw (← met-is, e, ← steps-are, ← hy, le-ltb (c .steps) y h)
 
 ---- what the code of the tree needs: search climbing
 
-pub ruleset climbs = (climb-starts, climb-found, climb-root, climb-out, climb-on, climb-ends)
+pub ruleset climbs = (climb-starts, climb-found, climb-root, climb-out, climb-on, climb-less, climb-ends)
 
-pub ruleset rises = (rise-starts, rise-root, rise-out, rise-on, rise-ends)
-
-pub ruleset climbing = (needs, slot-low, slot-high, climbs, rises, move-cycle, move-up, move-down)
+pub ruleset climbing = (needs, slot-low, slot-high, climbs, depth-is, move-cycle, move-up, move-down)

@@ -3,33 +3,51 @@ use crate::slots::slot_of;
 ghost use mathlib.Core.Path.{_≡_};
 ghost use Prim.Native.Nat.{_<_};
 ghost use lib.ListN.{length};
-ghost use Rattle.rules.specs.Tree.{slots, noParent, depth, atOrBelow};
-ghost use Rattle.tree.specs.Climb.{moveOrCycle};
+ghost use Rattle.rules.specs.Tree.{slots, noParent, depth, climbTo};
+ghost use Rattle.tree.specs.Climb.{climbedOf, moveOrCycle};
+
+// What a climb that ends at a node hands back: whether the node is met, and the number of steps.
+pub struct Climbed {
+    pub met: bool,
+    pub steps: usize,
+}
 
 // The depth where no climb ends.
 const DEEPEST: usize = SLOTS - 1;
 
-// Whether a node lies at or below another. The climb stops at the node, at the root, and where
+// Whether a parent is a node or lies below it. The climb ends at the node, at the root, and where
 // it leaves the table, since there it comes to no node any more.
-pub fn below(parents: &[u16], from: u16, node: u16) -> bool
+pub fn climb_to(parents: &[u16], parent: u16, node: u16) -> Climbed
     requires { ⌜ (length (now parents) ≡ slots) × (node < noParent) ⌝ }
-    ensures { λ r. ⌜ r ≡ atOrBelow (now (parents .entry)) from node ⌝ }
+    ensures { λ r. ⌜ climbedOf r ≡ climbTo (now (parents .entry)) parent node ⌝ }
 {
-    let mut above = from;
+    let mut at = parent;
     for i in 0..SLOTS {
-        if above == node {
-            return true;
+        if at == node {
+            return Climbed {
+                met: true,
+                steps: i,
+            };
         }
-        if above == 0 {
-            return false;
+        if at == 0 {
+            return Climbed {
+                met: false,
+                steps: i,
+            };
         }
-        let slot = slot_of(above);
+        let slot = slot_of(at);
         if SLOTS <= slot {
-            return false;
+            return Climbed {
+                met: false,
+                steps: DEEPEST,
+            };
         }
-        above = parents[slot];
+        at = parents[slot];
     }
-    false
+    Climbed {
+        met: false,
+        steps: DEEPEST,
+    }
 }
 
 // The number of steps to the root.
@@ -37,29 +55,21 @@ pub fn depth_of(parents: &[u16], node: u16) -> usize
     requires { ⌜ length (now parents) ≡ slots ⌝ }
     ensures { λ r. ⌜ r ≡ depth (now (parents .entry)) node ⌝ }
 {
-    let mut at = node;
-    for i in 0..DEEPEST {
-        if at == 0 {
-            return i;
-        }
-        let slot = slot_of(at);
-        if SLOTS <= slot {
-            return DEEPEST;
-        }
-        at = parents[slot];
-    }
-    DEEPEST
+    let climbed = climb_to(parents, node, 0);
+    climbed.steps
 }
 
-// The kind of a move in a tree, or 0 where the new parent is the node or lies below it.
+// The kind of a move in a tree, or 0 where the new parent is the node or lies below it. Where the
+// node is not met, the steps are the parent's depth.
 pub fn move_kind(parents: &[u16], node: u16, parent: u16) -> u8
     requires { ⌜ (length (now parents) ≡ slots) × (node < noParent) ⌝ }
     ensures { λ r. ⌜ r ≡ moveOrCycle (now (parents .entry)) node parent ⌝ }
 {
-    if below(parents, parent, node) {
+    let climbed = climb_to(parents, parent, node);
+    if climbed.met {
         return 0;
     }
-    if depth_of(parents, parent) < depth_of(parents, node) {
+    if climbed.steps < depth_of(parents, node) {
         return 3;
     }
     4

@@ -2,7 +2,8 @@
 mod climb;
 mod slots;
 
-pub use climb::below;
+pub use climb::Climbed;
+pub use climb::climb_to;
 pub use climb::depth_of;
 pub use climb::move_kind;
 pub use slots::NO_PARENT;

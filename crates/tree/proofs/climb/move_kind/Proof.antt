@@ -10,6 +10,5 @@ move-kind-spec =
     (λ c κs. search climbing)
     (λ c. search climbing)
     (λ c κs. search climbing)
-    (λ c κs. search climbing)
     (λ c. search climbing)
     (λ c. search climbing))
