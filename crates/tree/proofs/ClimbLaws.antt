@@ -9,14 +9,13 @@ use lib.Dec.{eqb, lit≤}
 use native.Mathlib.Decide.{ℕ-discrete}
 use borrow.Author.Tests.{eq-eqb, ne-eqb, lt-ltb, le-ltb}
 use borrow.Author.Needs.{needs}
-use Rattle.rules.specs.Tree.{atOrBelow, parentIn, slotOf, climb, climbTo, depth, path, slot, slots, noParent, moveKind}
+use Rattle.rules.specs.Tree.{Climbed, atOrBelow, parentIn, slotOf, climb, climbTo, depth, path, slot, slots, noParent, moveKind}
 use Rattle.lists.specs.Lists.{isIn, any, indexOf}
 use Rattle.lists.proofs.AllLaws.{any-append}
 use Rattle.lists.proofs.MemberLaws.{index-behind}
 use Rattle.rules.proofs.ClimbToLaws.{depth-climbed}
 use Rattle.tree.specs.Climb.{climbedOf, moveOrCycle}
-use Rattle.tree.specs.declared.climb.Climbed.{Climbed}
-use Rattle.rules.specs.Tree as rules
+use Rattle.tree.specs.declared.climb.Climbed as code
 
 ---- the slot of a node, as the code computes it
 
@@ -73,6 +72,12 @@ pub record Climbing (t : List ℕ) (m n i at : ℕ) : Type 0 where
   pub free : isIn n behind ≡ false
   pub way : path t m ≡ behind ++ climb (slots - i) t at
 
+abbrev met : ℕ → Climbed
+met k = record { met = true; steps = k }
+
+abbrev missed : ℕ → Climbed
+missed k = record { met = false; steps = k }
+
 pub climb-starts : (t : List ℕ) (m n : ℕ) → Climbing t m n 0 m
 unfolding path isIn any
 climb-starts t m n = record { bound = omega arith; behind = []; steps = refl; free = refl; way = refl }
@@ -92,28 +97,29 @@ module _ (t : List ℕ) (m n i at : ℕ) (c : Climbing t m n i at) where
   unfolding depth
   depth-left = rw (c .way, length-append, c .steps)
 
-  met-after : isIn n left ≡ true → indexOf n left ≡ 0 → record { met = true; steps = i } ≡ climbTo t m n
+  -- r is what is handed back from here
+  met-here : isIn n left ≡ true → indexOf n left ≡ 0 → (r : Climbed) → r ≡ met i → r ≡ climbTo t m n
   unfolding climbTo
-  met-after e z = let k : i + 0 ≡ i = omega arith in rw (met-left, e, index-left, z, k)
+  met-here e z r is = let k : i + 0 ≡ i = omega arith in is ∙ rw (met-left, e, index-left, z, k)
 
-  missed-after : isIn n left ≡ false → (k : ℕ) → k ≡ i + length left - 1 → record { met = false; steps = k } ≡ climbTo t m n
+  missed-here : isIn n left ≡ false → (k : ℕ) → k ≡ i + length left - 1 → (r : Climbed) → r ≡ missed k → r ≡ climbTo t m n
   unfolding climbTo
-  missed-after e k is = rw (met-left, e, depth-left, is)
+  missed-here e k so r is = is ∙ rw (met-left, e, depth-left, so)
 
-  pub climb-ends : slots ≤ i → record { met = false; steps = slots - 1 } ≡ climbTo t m n
+  pub climb-ends : slots ≤ i → (r : Climbed) → r ≡ missed (slots - 1) → r ≡ climbTo t m n
   unfolding climb isIn any
   climb-ends h =
       let e : left ≡ [] = let z : slots - i ≡ 0 = omega arith in rw z in
-      missed-after (rw e) (slots - 1) (let h′ = c .bound in rw e (omega arith))
+      missed-here (rw e) (slots - 1) (let b = c .bound in rw e (omega arith))
 
   module _ (h : i < slots) where
     here : left ≡ at ∷ cond (eqb at 0) [] (climb (slots - (i + 1)) t (parentIn t at))
     unfolding climb
     here = let e : slots - i ≡ suc (slots - (i + 1)) = omega arith in rw e
 
-    pub climb-found : at ≡ n → record { met = true; steps = i } ≡ climbTo t m n
+    pub climb-found : at ≡ n → (r : Climbed) → r ≡ met i → r ≡ climbTo t m n
     unfolding isIn any indexOf
-    climb-found e = met-after (rw (here, eq-eqb n at (sym e))) (rw (here, eq-eqb n at (sym e)))
+    climb-found e = met-here (rw (here, eq-eqb n at (sym e))) (rw (here, eq-eqb n at (sym e)))
 
     -- so far there are no more steps than in all: the one to come leaves fewer
     within : i ≤ climbTo t m n .steps
@@ -128,21 +134,21 @@ module _ (t : List ℕ) (m n i at : ℕ) (c : Climbing t m n i at) where
     climb-less = omega (arith, within)
 
     module _ (ne : at ≡ n → ⊥) where
-      pub climb-root : at ≡ 0 → record { met = false; steps = i } ≡ climbTo t m n
+      pub climb-root : at ≡ 0 → (r : Climbed) → r ≡ missed i → r ≡ climbTo t m n
       unfolding isIn any
       climb-root z =
           let e : left ≡ at ∷ [] = rw (here, eq-eqb at 0 z) in
-          missed-after (rw (e, ne-eqb n at (λ e. ne (sym e)))) i (rw e (omega arith))
+          missed-here (rw (e, ne-eqb n at (λ e. ne (sym e)))) i (rw e (omega arith))
 
       module _ (nz : at ≡ 0 → ⊥) (size : length t ≡ slots) (k : ℕ) (is : k ≡ slotOf at) where
         onward : left ≡ at ∷ climb (slots - (i + 1)) t (parentIn t at)
         onward = rw (here, ne-eqb at 0 nz)
 
-        pub climb-out : n < noParent → slots ≤ k → record { met = false; steps = slots - 1 } ≡ climbTo t m n
+        pub climb-out : n < noParent → slots ≤ k → (r : Climbed) → r ≡ missed (slots - 1) → r ≡ climbTo t m n
         unfolding isIn any
         climb-out s o =
             let e : left ≡ at ∷ climb (slots - (i + 1)) t noParent = rw (onward, outside t size at (omega arith)) in
-            missed-after (rw (e, ne-eqb n at (λ e. ne (sym e))) (lost t size n (slots - (i + 1)) s)) (slots - 1)
+            missed-here (rw (e, ne-eqb n at (λ e. ne (sym e))) (lost t size n (slots - (i + 1)) s)) (slots - 1)
             (rw (e, endless t size (slots - (i + 1))) (omega arith))
 
         pub climb-on : k < slots → Climbing t m n (i + 1) (getD t k 0)
@@ -157,13 +163,13 @@ module _ (t : List ℕ) (m n i at : ℕ) (c : Climbing t m n i at) where
 
 ---- a depth, and the kind of a move: c is what the climb to a node has handed back
 
-pub depth-is : (t : List ℕ) (n : ℕ) (c : Climbed) → climbedOf c ≡ climbTo t n 0 → c .steps ≡ depth t n
-depth-is t n c is = ap (λ (r : rules.Climbed). r .steps) is ∙ depth-climbed t n
+pub depth-is : (t : List ℕ) (n : ℕ) (c : code.Climbed) → climbedOf c ≡ climbTo t n 0 → c .steps ≡ depth t n
+depth-is t n c is = ap (λ (r : Climbed). r .steps) is ∙ depth-climbed t n
 
-module _ (t : List ℕ) (n p : ℕ) (c : Climbed) (is : climbedOf c ≡ climbTo t p n) where
+module _ (t : List ℕ) (n p : ℕ) (c : code.Climbed) (is : climbedOf c ≡ climbTo t p n) where
   pub met-is : c .met ≡ atOrBelow t p n
   unfolding climbTo
-  met-is = ap (λ (r : rules.Climbed). r .met) is
+  met-is = ap (λ (r : Climbed). r .met) is
 
   pub move-cycle : c .met ≡ true → 0 ≡ moveOrCycle t n p
   unfolding moveOrCycle
@@ -172,7 +178,7 @@ module _ (t : List ℕ) (n p : ℕ) (c : Climbed) (is : climbedOf c ≡ climbTo 
   module _ (e : c .met ≡ false) (y : ℕ) (hy : y ≡ depth t n) where
     steps-are : c .steps ≡ depth t p
     unfolding climbTo
-    steps-are = ap (λ (r : rules.Climbed). r .steps) is ∙ rw (← met-is, e)
+    steps-are = ap (λ (r : Climbed). r .steps) is ∙ rw (← met-is, e)
 
     pub move-up : c .steps < y → 3 ≡ moveOrCycle t n p
     unfolding moveOrCycle moveKind

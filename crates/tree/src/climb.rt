@@ -1,6 +1,7 @@
 use crate::slots::SLOTS;
 use crate::slots::slot_of;
 ghost use mathlib.Core.Path.{_≡_};
+ghost use mathlib.Core.Bool.{true, false};
 ghost use Prim.Native.Nat.{_<_};
 ghost use lib.ListN.{length};
 ghost use Rattle.rules.specs.Tree.{slots, noParent, depth, climbTo};
@@ -15,6 +16,18 @@ pub struct Climbed {
 // The depth where no climb ends.
 const DEEPEST: usize = SLOTS - 1;
 
+fn met_after(steps: usize) -> Climbed
+    ensures { λ r. ⌜ climbedOf r ≡ record { met = true; steps = steps } ⌝ }
+{
+    Climbed { met: true, steps }
+}
+
+fn missed_after(steps: usize) -> Climbed
+    ensures { λ r. ⌜ climbedOf r ≡ record { met = false; steps = steps } ⌝ }
+{
+    Climbed { met: false, steps }
+}
+
 // Whether a parent is a node or lies below it. The climb ends at the node, at the root, and where
 // it leaves the table, since there it comes to no node any more.
 pub fn climb_to(parents: &[u16], parent: u16, node: u16) -> Climbed
@@ -24,30 +37,18 @@ pub fn climb_to(parents: &[u16], parent: u16, node: u16) -> Climbed
     let mut at = parent;
     for i in 0..SLOTS {
         if at == node {
-            return Climbed {
-                met: true,
-                steps: i,
-            };
+            return met_after(i);
         }
         if at == 0 {
-            return Climbed {
-                met: false,
-                steps: i,
-            };
+            return missed_after(i);
         }
         let slot = slot_of(at);
         if SLOTS <= slot {
-            return Climbed {
-                met: false,
-                steps: DEEPEST,
-            };
+            return missed_after(DEEPEST);
         }
         at = parents[slot];
     }
-    Climbed {
-        met: false,
-        steps: DEEPEST,
-    }
+    missed_after(DEEPEST)
 }
 
 // The number of steps to the root.

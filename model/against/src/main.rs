@@ -3,14 +3,17 @@
 
 #[path = "../../bench/src/callgrind.rs"]
 mod callgrind;
+#[path = "../../bench/src/distance.rs"]
+mod distance;
 #[path = "../../bench/src/pick.rs"]
 mod pick;
 
 use callgrind::COUNTING;
+use distance::Distance;
 use outline_model::cases::examples;
 use outline_model::cases::world::{Style, World};
 use outline_model::rng::Rng;
-use outline_model::{Op, MAX_FILE, OP_LEN, SLOTS};
+use outline_model::{refusal, Op, MAX_FILE, OP_LEN, SLOTS};
 use pick::{last, names};
 use std::fmt::Write;
 use std::hint::black_box;
@@ -106,15 +109,48 @@ enum Call {
     Add,
     Remove,
     Move,
+    /// A move under the deepest node of a chain.
+    MoveOver(Distance),
     Judge,
+    /// A log of which half are such moves.
+    JudgeOver(Distance),
 }
 
-const CALLS: [(Call, &str); 5] = [
+impl Call {
+    /// Whether the call adds an op of its own, so that a full log can take none.
+    fn issues(self) -> bool {
+        matches!(
+            self,
+            Call::Add | Call::Remove | Call::Move | Call::MoveOver(_)
+        )
+    }
+
+    /// Whether the call leaves its buffer as it was.
+    fn judges(self) -> bool {
+        matches!(self, Call::Judge | Call::JudgeOver(_))
+    }
+
+    /// The logs that it is measured with.
+    fn shapes(self) -> &'static [&'static str] {
+        match self {
+            Call::MoveOver(_) | Call::JudgeOver(_) => &["deep"],
+            _ => &SHAPES,
+        }
+    }
+}
+
+const CALLS: [(Call, &str); 11] = [
     (Call::Deliver, "deliver"),
     (Call::Add, "issue_add"),
     (Call::Remove, "issue_remove"),
     (Call::Move, "issue_move"),
+    (Call::MoveOver(Distance::Near), "issue_move, near"),
+    (Call::MoveOver(Distance::Far), "issue_move, far"),
+    (Call::MoveOver(Distance::Beside), "issue_move, beside"),
     (Call::Judge, "judge"),
+    (Call::JudgeOver(Distance::Near), "judge, near"),
+    (Call::JudgeOver(Distance::Far), "judge, far"),
+    (Call::JudgeOver(Distance::Beside), "judge, beside"),
 ];
 
 /// One call with its arguments and the memory that it is lent.
@@ -145,11 +181,14 @@ fn ops(shape: &str, size: usize) -> Vec<Op> {
 
 impl Work {
     fn new(call: Call, shape: &str, size: usize) -> Work {
-        let mut ops = ops(shape, size);
+        let mut ops = match call {
+            Call::MoveOver(_) => distance::chain(size),
+            Call::JudgeOver(distance) => distance.moves(size),
+            _ => ops(shape, size),
+        };
         let last = last(&ops);
         let op = ops[last].bytes().to_vec();
-        let issues = matches!(call, Call::Add | Call::Remove | Call::Move);
-        if call == Call::Deliver || (issues && size == SLOTS - 1) {
+        if call == Call::Deliver || (call.issues() && size == SLOTS - 1) {
             ops.remove(last);
         }
         let log = examples::log_of(&ops);
@@ -160,7 +199,10 @@ impl Work {
             .iter()
             .position(|&count| count < 255)
             .unwrap_or(0);
-        let (node, parent) = names(&log);
+        let (node, parent) = match call {
+            Call::MoveOver(distance) => distance.names(&ops),
+            _ => names(&log),
+        };
         Work {
             call,
             buffer: file.clone(),
@@ -176,7 +218,7 @@ impl Work {
 
     /// Makes the call once, on the buffer as it was.
     fn once(&mut self, side: usize) -> usize {
-        if self.call != Call::Judge {
+        if !self.call.judges() {
             self.buffer.copy_from_slice(&self.file);
         }
         let (buf, n) = (black_box(self.buffer.as_mut_ptr()), self.buffer.len());
@@ -188,27 +230,41 @@ impl Work {
                 Call::Deliver => DELIVER[side](buf, n, self.op.as_ptr(), OP_LEN),
                 Call::Add => ADD[side](buf, n, replica, parent, out, OP_LEN),
                 Call::Remove => REMOVE[side](buf, n, replica, node, out, OP_LEN),
-                Call::Move => MOVE[side](buf, n, replica, node, parent, out, OP_LEN),
-                Call::Judge => JUDGE[side](buf, n, parents, SLOTS, out, SLOTS),
+                Call::Move | Call::MoveOver(_) => {
+                    MOVE[side](buf, n, replica, node, parent, out, OP_LEN)
+                }
+                Call::Judge | Call::JudgeOver(_) => JUDGE[side](buf, n, parents, SLOTS, out, SLOTS),
             }
         })
     }
 
-    /// Both leave the same behind, and neither refuses.
+    /// Whether this is what the call is to answer: moves below themselves alone are
+    /// refused.
+    fn is_meant(&self, answer: usize) -> bool {
+        match self.call {
+            Call::MoveOver(distance) if distance.is_met() => {
+                answer == usize::from(refusal::BELOW_ITSELF)
+            }
+            _ => answer >= 16,
+        }
+    }
+
+    /// Both leave the same behind, and answer as is meant.
     fn check(&mut self) {
         let mut left = |side| {
             self.parents.fill(1);
             self.bytes.fill(1);
-            let refused = self.once(side) < 16;
+            let answer = self.once(side);
             (
-                refused,
+                self.is_meant(answer),
                 self.buffer.clone(),
                 self.parents.clone(),
                 self.bytes.clone(),
             )
         };
         let (before, after) = (left(0), left(1));
-        assert!(!before.0 && before == after, "the two differ");
+        assert!(before.0, "not the answer that is meant");
+        assert!(before == after, "the two differ");
     }
 
     /// Keeps the least time of a call at each side, of some rounds in turn.
@@ -235,7 +291,7 @@ impl Work {
 fn works() -> Vec<Work> {
     let mut works = vec![];
     for (call, _) in CALLS {
-        for shape in SHAPES {
+        for shape in call.shapes() {
             works.extend(SIZES.map(|size| Work::new(call, shape, size)));
         }
     }
@@ -272,8 +328,8 @@ fn main() {
     };
     let mut text = format!("{TITLE}\n{HEAD}");
     let mut next = 0..;
-    for (_, name) in CALLS {
-        for shape in SHAPES {
+    for (call, name) in CALLS {
+        for shape in call.shapes() {
             let cells = SIZES.map(|_| cell(next.next().expect("there is always one more")));
             let _ = writeln!(text, "| {name} | {shape} | {} |", cells.join(" | "));
         }

@@ -2,6 +2,7 @@
 //! programs, and writes docs/PERFORMANCE.md.
 
 mod callgrind;
+mod distance;
 mod meeting;
 mod pick;
 mod program;

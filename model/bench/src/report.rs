@@ -22,6 +22,12 @@ ops. A delivery brings the last op of a log of that size, of the lowest replica 
 means at 2,039: a full log takes no more. Issuing a remove or a move at 0 is refused, for want of a node. Moves, paths: of
 the deepest unmarked node; adds: under another.
 
+A climb from the new parent of a move finds whether it lies below the node. In the rows **near**, **far** and **beside** the log is a chain
+with one leaf under the root beside it, and the new parent is the deepest node. Near moves the node right above that one, which the climb
+meets after one step; far moves the first node of the chain, which it meets at the top: both are refused, and passed over where they are
+judged. Beside moves the leaf, which it does not meet on its whole way to the root: this is accepted, and applied. Where they are judged, half
+of the ops are the chain and the leaf, and the others such a move again and again, each counting all before.
+
 A whole exchange delivers all ops of a log to an empty one, one by one, in causal order: none is early, and one pass is enough. Its log is
 **interleaved**: one chain in which the eight replicas take turns, the highest first. Offered in the order of the file until none is early, its
 2,040 ops would take 1,786 rounds.

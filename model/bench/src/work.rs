@@ -1,9 +1,10 @@
 //! What is measured: every call on logs of each shape and size.
 
 use crate::callgrind;
+use crate::distance::{self, Distance};
 use crate::meeting::{hand_over, Meeting};
 use crate::pick::{last, names};
-use outline::plain;
+use outline::{plain, Refusal};
 use outline_bench::careful;
 use outline_model::cases::examples;
 use outline_model::cases::world::{Style, World};
@@ -60,7 +61,11 @@ pub enum Call {
     Add,
     Remove,
     Move,
+    /// A move under the deepest node of a chain.
+    MoveOver(Distance),
     Judge,
+    /// A log of which half are such moves.
+    JudgeOver(Distance),
     Path,
     Keeping,
     Skipping,
@@ -86,13 +91,19 @@ pub enum Call {
     InTurn,
 }
 
-pub const CALLS: [Call; 19] = [
+pub const CALLS: [Call; 25] = [
     Call::Make,
     Call::Deliver,
     Call::Add,
     Call::Remove,
     Call::Move,
+    Call::MoveOver(Distance::Near),
+    Call::MoveOver(Distance::Far),
+    Call::MoveOver(Distance::Beside),
     Call::Judge,
+    Call::JudgeOver(Distance::Near),
+    Call::JudgeOver(Distance::Far),
+    Call::JudgeOver(Distance::Beside),
     Call::Path,
     Call::Keeping,
     Call::Skipping,
@@ -116,7 +127,13 @@ impl Call {
             Call::Add => "issue_add",
             Call::Remove => "issue_remove",
             Call::Move => "issue_move",
+            Call::MoveOver(Distance::Near) => "issue_move, near",
+            Call::MoveOver(Distance::Far) => "issue_move, far",
+            Call::MoveOver(Distance::Beside) => "issue_move, beside",
             Call::Judge => "judge",
+            Call::JudgeOver(Distance::Near) => "judge, near",
+            Call::JudgeOver(Distance::Far) => "judge, far",
+            Call::JudgeOver(Distance::Beside) => "judge, beside",
             Call::Path => "path",
             Call::Keeping => "listing, keeping",
             Call::Skipping => "listing, skipping",
@@ -135,7 +152,11 @@ impl Call {
 
     /// Whether the call adds an op, so that a full log can take none.
     fn adds(self) -> bool {
-        self.brings_last() || matches!(self, Call::Add | Call::Remove | Call::Move)
+        let issues = matches!(
+            self,
+            Call::Add | Call::Remove | Call::Move | Call::MoveOver(_)
+        );
+        self.brings_last() || issues
     }
 
     /// Whether the call delivers the last op of the log.
@@ -197,7 +218,11 @@ pub struct Work {
 
 impl Work {
     pub fn new(call: Call, shape: Shape, size: usize) -> Work {
-        let mut ops = shape.ops(size.max(1));
+        let mut ops = match call {
+            Call::MoveOver(_) => distance::chain(size),
+            Call::JudgeOver(distance) => distance.moves(size),
+            _ => shape.ops(size.max(1)),
+        };
         let chain = if call.has_chain() {
             ops.split_off(ops.len() - CHAIN)
         } else {
@@ -232,7 +257,10 @@ impl Work {
         file.resize((file.len() + room).min(MAX_FILE), 0);
         let counts = log.held();
         let replica = counts.iter().position(|&count| count < 255).unwrap_or(0);
-        let (node, parent) = names(&log);
+        let (node, parent) = match call {
+            Call::MoveOver(distance) => distance.names(&ops),
+            _ => names(&log),
+        };
         Work {
             call,
             buffer: file.clone(),
@@ -290,18 +318,18 @@ impl Work {
             (Call::Remove, Side::Rust) => {
                 accepted(|| careful::issue_remove(buffer, self.replica, self.node, &mut self.out))
             }
-            (Call::Move, Side::Library) => callgrind::count(|| {
+            (Call::Move | Call::MoveOver(_), Side::Library) => callgrind::count(|| {
                 let (replica, node, parent) = (self.replica, self.node, self.parent);
                 plain::issue_move(buffer, replica, node, parent, &mut self.out).is_ok()
             }),
-            (Call::Move, Side::Rust) => accepted(|| {
+            (Call::Move | Call::MoveOver(_), Side::Rust) => accepted(|| {
                 let (replica, node, parent) = (self.replica, self.node, self.parent);
                 careful::issue_move(buffer, replica, node, parent, &mut self.out)
             }),
-            (Call::Judge, Side::Library) => callgrind::count(|| {
+            (Call::Judge | Call::JudgeOver(_), Side::Library) => callgrind::count(|| {
                 plain::judge(buffer, &mut self.words, &mut self.bytes[..SLOTS]).is_ok()
             }),
-            (Call::Judge, Side::Rust) => {
+            (Call::Judge | Call::JudgeOver(_), Side::Rust) => {
                 accepted(|| careful::judge(buffer, &mut self.words, &mut self.bytes[..SLOTS]))
             }
             (Call::Path, Side::Library) => {
@@ -367,6 +395,14 @@ impl Work {
         }
         let name = self.call.name();
         assert!(left[0] == left[1], "{name}: the sides differ");
+        // No other refusal than the one that is meant.
+        if let Call::MoveOver(distance) = self.call {
+            let (replica, node, parent) = (self.replica, self.node, self.parent);
+            let mut buffer = self.file.clone();
+            let answer = plain::issue_move(&mut buffer, replica, node, parent, &mut self.out);
+            let meant = distance.is_met().then_some(Refusal::Cycle);
+            assert_eq!(answer.err(), meant, "{name}");
+        }
     }
 }
 
@@ -395,6 +431,7 @@ pub fn all() -> impl Iterator<Item = (Call, Shape, usize)> {
                 (Call::Make, _) => shape == Shape::Flat && size == 0,
                 (Call::Exchange, _) => shape == Shape::Interleaved && size > 0,
                 (Call::Bundles | Call::OpByOp, _) => shape == Shape::Random && size == 1000,
+                (Call::MoveOver(_) | Call::JudgeOver(_), _) => shape == Shape::Deep && size > 0,
                 _ if call.has_chain() => shape == Shape::Interleaved && size > CHAIN,
                 (_, Shape::Interleaved) => false,
                 _ => size > 0 || shape == Shape::Flat,

@@ -1,10 +1,14 @@
 //! The measured Rust answers and leaves behind what the model does.
 
+#[path = "../src/distance.rs"]
+mod distance;
+
+use distance::{chain, Distance};
 use outline_bench::careful;
 use outline_model::cases::world::{self, full, part, Style, World};
 use outline_model::cases::{damage, examples};
 use outline_model::rng::Rng;
-use outline_model::{Answer, Op, Vector, View, MAX_FILE, SLOTS};
+use outline_model::{refusal, tree, Answer, Op, Tree, Vector, View, MAX_FILE, SLOTS};
 
 fn both<T: Clone + PartialEq + std::fmt::Debug, U: Clone + PartialEq + std::fmt::Debug>(
     one: &[T],
@@ -228,6 +232,105 @@ fn marked_nodes() {
     }
 }
 
+/// Moves under the deepest node of a chain are refused and passed over, or not,
+/// as their distance says.
+#[test]
+fn distances() {
+    for distance in [Distance::Near, Distance::Far, Distance::Beside] {
+        for size in [8, 100, 1000, 2040] {
+            issue_over(distance, size);
+            judge_over(distance, size);
+        }
+    }
+}
+
+fn issue_over(distance: Distance, size: usize) {
+    let ops = chain(size.min(2039));
+    let (node, parent) = distance.names(&ops);
+    let mut buffer = examples::file_of(&ops);
+    let end = buffer.len() + 14;
+    buffer.resize(end, 9);
+    let expected = if distance.is_met() {
+        Answer::Refused(refusal::BELOW_ITSELF)
+    } else {
+        Answer::Accepted(end)
+    };
+    both(
+        &buffer,
+        &[7u8; 14],
+        |b, o| careful::issue_move(b, 8, node, parent, o),
+        |b, o| {
+            let answer = outline_model::issue_move(b, 8, node, parent, o);
+            assert_eq!(answer, expected);
+            answer
+        },
+    );
+}
+
+fn judge_over(distance: Distance, size: usize) {
+    let buffer = examples::file_of(&distance.moves(size));
+    let (_, outcomes) = both(
+        &[7u16; SLOTS],
+        &[7u8; SLOTS],
+        |p, o| careful::judge(&buffer, p, o),
+        |p, o| outline_model::judge(&buffer, p, o),
+    );
+    // The ops fill replica after replica, so their slots are in their order.
+    let (adds, moves) = outcomes[1..=size].split_at(size / 2);
+    let expected = if distance.is_met() {
+        tree::BELOW_NODE
+    } else {
+        tree::APPLIED
+    };
+    assert!(adds.iter().all(|&outcome| outcome == tree::APPLIED));
+    assert!(moves.iter().all(|&outcome| outcome == expected));
+}
+
+/// The steps of a climb are those of the model's path to the node, or the depth.
+#[test]
+fn climbs() {
+    let mut rng = Rng::new(9);
+    for ops in [
+        examples::longest_chain(),
+        examples::turns(2040),
+        chain(2040),
+        full(&mut rng, Style::moves),
+    ] {
+        let tree = Tree::judge(&examples::log_of(&ops));
+        let parents = tree.parents[..].try_into().expect("2,041 entries");
+        let nodes: Vec<u16> = tree.nodes().chain([0]).collect();
+        let mut met = [0; 2];
+        for _ in 0..3000 {
+            let (from, node) = (rng.pick(&nodes), rng.pick(&nodes));
+            let climb = careful::climb_to(parents, from, node);
+            let place = tree.path(from).position(|above| above == node);
+            assert_eq!(climb.met, place.is_some());
+            assert_eq!(climb.steps, place.unwrap_or(tree.depth(from)));
+            met[usize::from(climb.met)] += 1;
+        }
+        assert!(met[0] > 10 && met[1] > 10, "{met:?}");
+    }
+}
+
+/// Moves between the ends of two deep chains: one step settles which are upward.
+#[test]
+fn two_chains() {
+    for [one, two] in [[1018, 1019], [1019, 1019], [1019, 1018]] {
+        let mut ops = examples::longest_chain()[..one + two].to_vec();
+        ops[one].parent = 0;
+        let [node, parent] = [ops[one - 1].node, ops[one + two - 1].node];
+        let mut buffer = examples::file_of(&ops);
+        buffer.resize(buffer.len() + 14, 9);
+        let (_, op) = both(
+            &buffer,
+            &[7u8; 14],
+            |b, o| careful::issue_move(b, 8, node, parent, o),
+            |b, o| outline_model::issue_move(b, 8, node, parent, o),
+        );
+        assert_eq!(op[0], if two < one { 3 } else { 4 });
+    }
+}
+
 /// An exchange takes one pass, and leaves the same file.
 #[test]
 fn exchanges() {
@@ -242,7 +345,7 @@ fn exchanges() {
         assert_eq!(careful::exchange(&file, &mut to), Answer::Done);
         assert_eq!(to, file);
     }
-    let unsound = Answer::Refused(outline_model::refusal::UNSOUND);
+    let unsound = Answer::Refused(refusal::UNSOUND);
     assert_eq!(careful::exchange(&[], &mut [0; 40]), unsound);
 }
 

@@ -1,7 +1,7 @@
 //! Making, delivering, issuing and judging.
 
 use super::log::{Layout, Log, Op, ADD, DOWN, HEADER, OP, REMOVE, REPLICAS, UP};
-use super::replay::{depth, is_below, marks, replay, slot_of, NO_PARENT, SLOTS};
+use super::replay::{climb_to, depth, marks, replay, slot_of, NO_PARENT, SLOTS};
 use outline_model::{refusal, Answer};
 
 pub fn answer(result: Result<Answer, u8>) -> Answer {
@@ -101,10 +101,12 @@ pub fn issue_move(
         let mut parents = [NO_PARENT; SLOTS];
         let mut outcomes = [0; SLOTS];
         replay(log, &mut parents, &mut outcomes);
-        if is_below(&parents, parent, node) {
+        let climb = climb_to(&parents, parent, node);
+        if climb.met {
             return Err(refusal::BELOW_ITSELF);
         }
-        let upward = depth(&parents, parent) < depth(&parents, node);
+        // Not met, so that its steps are the parent's depth.
+        let upward = climb.steps < depth(&parents, node);
         Ok((if upward { UP } else { DOWN }, node, parent))
     }))
 }

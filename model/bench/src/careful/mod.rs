@@ -17,3 +17,4 @@ pub use calls::{deliver, issue_add, issue_move, issue_remove, judge, make};
 pub use exchange::exchange;
 pub use holdback::deliver_holdback;
 pub use list::{listing, path};
+pub use replay::climb_to;

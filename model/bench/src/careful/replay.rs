@@ -10,11 +10,12 @@ const APPLIED: u8 = 1;
 const RIVAL_FIRST: u8 = 2;
 const BELOW_NODE: u8 = 3;
 
+/// A node is 256 times its replica and its sequence, its slot 255 times the replicas
+/// before and its sequence. In a climb the test for the root is made already.
 pub fn slot_of(node: u16) -> usize {
-    let [replica, sequence] = node.to_be_bytes().map(usize::from);
-    match replica.checked_sub(1) {
-        Some(index) => 255 * index + sequence,
-        None => sequence,
+    match usize::from(node) {
+        0 => 0,
+        node => node - (node >> 8) - 255,
     }
 }
 
@@ -52,7 +53,7 @@ pub fn replay(log: &Log, parents: &mut [u16; SLOTS], outcomes: &mut [u8; SLOTS])
                 let slot = slot_of(op.node());
                 let outcome = match kind {
                     UP | DOWN if placed[slot] == time => RIVAL_FIRST,
-                    UP | DOWN if is_below(parents, op.parent(), op.node()) => BELOW_NODE,
+                    UP | DOWN if climb_to(parents, op.parent(), op.node()).met => BELOW_NODE,
                     _ => APPLIED,
                 };
                 if outcome == APPLIED && kind != REMOVE {
@@ -112,25 +113,26 @@ pub fn marks(log: &Log) -> [u8; SLOTS] {
     marks
 }
 
-/// Whether `from` is the node or lies below it.
-pub fn is_below(parents: &[u16; SLOTS], from: u16, node: u16) -> bool {
+/// A way up the tree.
+pub struct Climb {
+    pub met: bool,
+    /// Those to the node that was met, else to the root.
+    pub steps: usize,
+}
+
+/// Climbs until it meets the node, which it may start from, or to the root.
+pub fn climb_to(parents: &[u16; SLOTS], from: u16, node: u16) -> Climb {
     let mut at = from;
-    while at != node {
-        if at == 0 {
-            return false;
-        }
+    let mut steps = 0;
+    while at != node && at != 0 {
         at = parents[slot_of(at)];
+        steps += 1;
     }
-    true
+    let met = at == node;
+    Climb { met, steps }
 }
 
 /// Steps to the root.
 pub fn depth(parents: &[u16; SLOTS], node: u16) -> usize {
-    let mut at = node;
-    let mut steps = 0;
-    while at != 0 {
-        at = parents[slot_of(at)];
-        steps += 1;
-    }
-    steps
+    climb_to(parents, node, 0).steps
 }

@@ -19,8 +19,11 @@ climb-to-spec =
     Inv-loop
     μ-loop
     (λ c. search climbing)
+    (λ c κs. search climbing)
     (λ c. search climbing)
+    (λ c κs. search climbing)
     (λ c. search climbing)
+    (λ c κs. search climbing)
     (λ c κs. search climbing)
     (λ c. search climbing)
     (λ c. search climbing)
@@ -28,4 +31,5 @@ climb-to-spec =
     (λ c. search climbing)
     (λ c. search climbing)
     (λ c. search climbing)
+    (λ c κs. search climbing)
     (λ c. search climbing))
