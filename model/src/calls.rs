@@ -105,13 +105,15 @@ fn names_marked_node(log: &Log, op: &Op) -> bool {
     }
 }
 
-/// Test 10, then the kind by the depths in the present tree.
+/// Test 10, then the kind by the depths in the present tree. One climb tells both
+/// of the parent: where it does not meet the node, its steps are the depth.
 fn move_kind(log: &Log, node: u16, parent: u16) -> Result<Kind, u8> {
     let tree = Tree::judge(log);
-    if tree.path(parent).any(|above| above == node) {
+    let climb = tree.climb_to(parent, node);
+    if climb.met {
         return Err(refusal::BELOW_ITSELF);
     }
-    let upward = tree.depth(node) > tree.depth(parent);
+    let upward = tree.depth(node) > climb.steps;
     Ok(if upward { Kind::Up } else { Kind::Down })
 }
 

@@ -1,6 +1,7 @@
 //! The cases of the vectors, section by section. All are deterministic.
 
 mod bundle;
+mod climb;
 pub mod damage;
 mod deliver;
 pub mod examples;
@@ -23,7 +24,8 @@ pub struct Script {
 impl Script {
     /// Runs one case and hands back the line to print.
     pub fn push(&mut self, case: Case) -> &str {
-        assert!(case.fits(), "the grammar has no such line");
+        let in_grammar = case.fits() && self.machine.takes(&case);
+        assert!(in_grammar, "the grammar has no such line");
         self.cases.push(case.line());
         self.answers.push(self.machine.run(&case));
         self.answers.last().map_or("", String::as_str)
@@ -68,6 +70,11 @@ impl Script {
         self.deliver_holdback(op, &holdback)
     }
 
+    /// Climbs from a parent to a node.
+    pub fn climb(&mut self, parent: u16, node: u16) -> &str {
+        self.push(Case::Climb(parent, node))
+    }
+
     pub fn buffer(&self) -> &[u8] {
         &self.machine.buffer
     }
@@ -86,6 +93,7 @@ impl Script {
             "view" => view::write(self),
             "bundle" => bundle::write(self),
             "holdback" => holdback::write(self),
+            "climb" => climb::write(self),
             _ => return false,
         }
         true

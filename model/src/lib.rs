@@ -23,7 +23,7 @@ pub use calls::{
 pub use holdback::{deliver_holdback, HOLDBACK_LEN, HOLDBACK_PLACES};
 pub use log::{Knowledge, Log, HEADER_LEN, MAX_FILE};
 pub use op::{Kind, Op, Vector, MAX_SEQUENCE, OP_LEN, REPLICAS};
-pub use tree::{slot_of, Tree, NO_PARENT, SLOTS};
+pub use tree::{slot_of, Climb, Tree, NO_PARENT, SLOTS};
 pub use view::{listing, listing_size, outline, path, View};
 
 /// What a call hands back ("Numbers handed back").

@@ -3,7 +3,7 @@
 
 use crate::{
     deliver, deliver_holdback, issue_add, issue_move, issue_remove, judge, listing, make,
-    make_bundle, open_bundle, outline, path, Answer, Vector, View,
+    make_bundle, open_bundle, outline, path, refusal, Answer, Log, Tree, Vector, View,
 };
 
 /// Limits of the grammar.
@@ -39,6 +39,8 @@ pub enum Case {
     OpenBundle(Vec<u8>),
     /// A record and a holdback.
     DeliverHoldback(Vec<u8>, Vec<u8>),
+    /// From a parent to a node.
+    Climb(u16, u16),
 }
 
 impl Case {
@@ -82,6 +84,7 @@ impl Case {
                 line.extend(op);
                 line.extend(holdback);
             }
+            Case::Climb(parent, node) => numbers(&mut line, 0x0e, &[*parent, *node]),
         }
         line
     }
@@ -129,6 +132,19 @@ pub struct Machine {
 }
 
 impl Machine {
+    /// Whether the grammar has this case at the present buffer: in a sound log a
+    /// climb is between added nodes and the root.
+    pub fn takes(&self, case: &Case) -> bool {
+        let Case::Climb(parent, node) = case else {
+            return true;
+        };
+        let Some(log) = Log::open(&self.buffer) else {
+            return true;
+        };
+        let is_added = |&node: &u16| log.knowledge(&log.held(), node).is_known();
+        [parent, node].iter().all(|&end| *end == 0 || is_added(end))
+    }
+
     /// The line to print for this case.
     pub fn run(&mut self, case: &Case) -> String {
         let (answer, other) = self.call(case);
@@ -180,8 +196,19 @@ impl Machine {
                 let answer = deliver_holdback(buffer, op, &mut self.holdback);
                 (text(answer), vec![self.holdback.clone()])
             }
+            Case::Climb(parent, node) => (run_climb(buffer, *parent, *node), vec![]),
         }
     }
+}
+
+/// A climb in the tree that judging the buffer leads to.
+fn run_climb(file: &[u8], parent: u16, node: u16) -> String {
+    let Some(log) = Log::open(file) else {
+        return text(Answer::Refused(refusal::UNSOUND));
+    };
+    let climb = Tree::judge(&log).climb_to(parent, node);
+    let met = if climb.met { "y" } else { "n" };
+    format!("{met} {}", climb.steps)
 }
 
 fn run_judge(file: &[u8], parents: u16, outcomes: u16) -> (String, Vec<Vec<u8>>) {

@@ -22,6 +22,15 @@ pub struct Tree {
     moved_at: Vec<usize>,
 }
 
+/// What a climb from a parent towards a node comes to.
+#[derive(Clone, Copy, PartialEq, Eq, Debug)]
+pub struct Climb {
+    /// Whether the parent is the node or lies below it.
+    pub met: bool,
+    /// Steps from the parent up to the node; the parent's depth if it is not met.
+    pub steps: usize,
+}
+
 impl Tree {
     pub fn judge(log: &Log) -> Tree {
         let mut tree = Tree {
@@ -46,7 +55,7 @@ impl Tree {
                 if self.moved_at[slot] == timestamp {
                     return RIVAL_FIRST;
                 }
-                if self.path(op.parent).any(|above| above == op.node) {
+                if self.climb_to(op.parent, op.node).met {
                     return BELOW_NODE;
                 }
                 self.parents[slot] = op.parent;
@@ -54,6 +63,22 @@ impl Tree {
             }
         }
         APPLIED
+    }
+
+    /// Climbs from the parent until the node is met, or else to the root. Only
+    /// the entries of those below the node are looked at: neither the node's own
+    /// nor any above it.
+    pub fn climb_to(&self, parent: u16, node: u16) -> Climb {
+        let mut at = parent;
+        let mut steps = 0;
+        while at != node && at != 0 {
+            at = self.parents[slot_of(at)];
+            steps += 1;
+        }
+        Climb {
+            met: at == node,
+            steps,
+        }
     }
 
     /// The node, its parent, and so on; the root comes last.

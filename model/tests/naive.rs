@@ -156,7 +156,29 @@ fn compare(ops: &[Op]) -> [usize; 4] {
     for &node in naive.parents.keys() {
         assert_eq!(path_in(&file, node, 2041).1, naive.path(node));
     }
+    compare_climbs(&log_of(ops), &naive);
     seen
+}
+
+/// Every climb, against what is found downwards: the steps are those on the way
+/// that lie below the node, or all, if the parent does not.
+fn compare_climbs(log: &Log, naive: &Naive) {
+    let tree = Tree::judge(log);
+    let mut below = BTreeMap::from([(0, naive.below(0))]);
+    for &node in naive.parents.keys() {
+        below.insert(node, naive.below(node));
+    }
+    let is_below = |inner: u16, outer: u16| below[&outer].contains(&inner);
+    for &parent in below.keys() {
+        let way = |&&at: &&u16| at == parent || is_below(parent, at);
+        let way: Vec<u16> = naive.parents.keys().filter(way).copied().collect();
+        for &node in below.keys() {
+            let met = parent == node || is_below(parent, node);
+            let counts = |&&at: &&u16| !met || is_below(at, node);
+            let steps = way.iter().filter(counts).count();
+            assert_eq!(tree.climb_to(parent, node), Climb { met, steps });
+        }
+    }
 }
 
 #[test]

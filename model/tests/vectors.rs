@@ -1,10 +1,13 @@
 //! The vectors: their grammar, their size, and a few lines known by hand.
 
+use outline_model::cases::examples::{file_of, p1};
 use outline_model::cases::Script;
 use outline_model::script::{Case, Machine};
 use outline_model::View;
 
-const SECTIONS: [&str; 6] = ["deliver", "judge", "issue", "view", "bundle", "holdback"];
+const SECTIONS: [&str; 7] = [
+    "deliver", "judge", "issue", "view", "bundle", "holdback", "climb",
+];
 
 fn section(name: &str) -> Script {
     let mut script = Script::default();
@@ -33,6 +36,58 @@ fn lines_by_hand() {
     assert_eq!(answer, "r 1 66566 000102 0 ");
     let answer = run(Case::DeliverHoldback(vec![], vec![0, 1]));
     assert_eq!(answer, "r 1 66566 000102 259 0001");
+    assert_eq!(run(Case::Climb(0, 0)), "r 1 66566 000102");
+    assert_eq!(run(Case::Climb(257, 65535)), "r 1 66566 000102");
+    run(Case::Load(vec![]));
+    assert_eq!(run(Case::Climb(0, 0)), "r 1 0 ");
+}
+
+/// P1: 257 lies under 258. The buffer stays as it is.
+#[test]
+fn climbs_by_hand() {
+    let mut machine = Machine::default();
+    let file = file_of(&p1());
+    let loaded = machine.run(&Case::Load(file.clone()));
+    let buffer = loaded.strip_prefix("l ").expect("the buffer was set");
+    for (parent, node, answer) in [
+        (257, 257, "y 0"),
+        (257, 258, "y 1"),
+        (257, 0, "y 2"),
+        (258, 257, "n 1"),
+        (258, 0, "y 1"),
+        (0, 257, "n 0"),
+        (0, 0, "y 0"),
+    ] {
+        let line = machine.run(&Case::Climb(parent, node));
+        assert_eq!(line, format!("{answer} {buffer}"));
+    }
+    assert_eq!(machine.buffer, file);
+}
+
+/// The root and added nodes alone, but anything where there is no log.
+#[test]
+fn climbs_of_the_grammar() {
+    let mut machine = Machine::default();
+    let mut takes = |file: &[u8], parent, node| {
+        machine.run(&Case::Load(file.to_vec()));
+        machine.takes(&Case::Climb(parent, node))
+    };
+    let file = file_of(&p1());
+    for end in [0, 257, 258] {
+        assert!(takes(&file, end, 0) && takes(&file, 0, end) && takes(&file, end, 257));
+    }
+    for no_node in [1, 255, 256, 259, 512, 513, 2303, 2304, 65535] {
+        assert!(!takes(&file, no_node, 0) && !takes(&file, 257, no_node));
+        assert!(takes(&file[1..], no_node, no_node) && takes(&[], no_node, 0));
+    }
+}
+
+#[test]
+#[should_panic(expected = "the grammar has no such line")]
+fn no_case_names_what_is_no_node() {
+    let mut script = Script::default();
+    script.load(&file_of(&p1()));
+    script.climb(257, 259);
 }
 
 /// An early record waits, and goes when the one before it comes. The buffer and
@@ -97,6 +152,8 @@ fn case_bytes() {
         (Case::OpenBundle(vec![1, 2]), "0c0102"),
         (Case::DeliverHoldback(vec![], vec![]), "0d00"),
         (Case::DeliverHoldback(vec![1, 2], vec![3]), "0d02010203"),
+        (Case::Climb(257, 2303), "0e010108ff"),
+        (Case::Climb(0, 258), "0e00000102"),
     ];
     for (case, line) in cases {
         assert_eq!(case.line(), line);
@@ -113,7 +170,7 @@ fn sections_are_of_good_size_and_repeat() {
         let bytes: usize = script.cases.iter().map(|line| line.len() + 1).sum();
         let most = match name {
             "deliver" | "holdback" => 1_500_000,
-            "bundle" => 400_000,
+            "bundle" | "climb" => 400_000,
             _ => 1_000_000,
         };
         assert!(bytes < most && script.cases.len() > 1000);
@@ -159,6 +216,44 @@ fn sections_reach_every_answer() {
     let mut holdback: Vec<&str> = owned.iter().map(String::as_str).collect();
     holdback.extend(["h ", "w ", "a 46 ", "a 494 ", "a 28592 "]);
     reaches("holdback", &holdback);
+    reaches(
+        "climb",
+        &[
+            "r 1 ", "r 10 ", "r 11 ", "y 0 ", "y 2040 ", "n 0 ", "n 2039 ",
+        ],
+    );
+}
+
+/// Steps of a climb that met the node, and of one that did not: none, few, more
+/// than a byte can hold. Also issued moves of both kinds, and those refused.
+#[test]
+fn climbs_are_near_and_far() {
+    let script = section("climb");
+    let mut steps = [[0; 3]; 2];
+    let mut moves = std::collections::BTreeMap::new();
+    for (case, line) in script.cases.iter().zip(&script.answers) {
+        let words: Vec<&str> = line.split(' ').collect();
+        match (&case[..2], words[0]) {
+            ("0e", "y" | "n") => {
+                let size = match words[1].parse::<usize>().unwrap() {
+                    0 => 0,
+                    1..=255 => 1,
+                    _ => 2,
+                };
+                steps[usize::from(words[0] == "y")][size] += 1;
+            }
+            // An issued record is printed in full, with its kind first.
+            ("06", "a") => *moves.entry(&words[words.len() - 1][..2]).or_insert(0) += 1,
+            ("06", _) => *moves.entry(words[1]).or_insert(0) += 1,
+            _ => {}
+        }
+    }
+    let [missed, met] = steps;
+    assert!(missed[0] > 50 && missed[1] > 400 && missed[2] > 10);
+    assert!(met[0] > 100 && met[1] > 400 && met[2] > 30);
+    for (key, least) in [("03", 50), ("04", 40), ("10", 50), ("11", 5)] {
+        assert!(moves[key] > least, "{moves:?}");
+    }
 }
 
 /// The calls with holdbacks alone: there are enough of each answer, and 5 is none.

@@ -2,7 +2,7 @@
 use Rattle.lists.specs.Lists.{any, indexOf, isIn}
 use Rattle.lists.proofs.BoolLaws.{never}
 use Rattle.lists.proofs.MemberLaws.{index-at, index-within}
-use Rattle.rules.specs.ClimbClaim.{ClimbSays, ClimbStops, Climbs}
+use Rattle.rules.specs.ClimbClaim.{AlikeAlong, ClimbStops, Climbs}
 use Rattle.rules.specs.Tree.{Climbed, atOrBelow, climb, climbTo, depth, parentIn, path, slots}
 use mathlib.Core.Bool.{Bool, cond, false, true}
 use mathlib.Core.List.{List, [], _∷_}
@@ -54,10 +54,8 @@ unfolding climb
 climb-step t n k p ne nz = rw (ne-eqb p 0 nz) (along-step n p ne (parentIn t p) _)
 
 module _ (t u : List ℕ) (n : ℕ) where
-  -- the first k entries of the path have the same parents in both tables, as far as the climb goes
   abbrev Alike : ℕ → ℕ → Type 0
-  Alike k p =
-      (i : ℕ) → i < along n (climb k t p) .steps → parentIn u (getD (climb k t p) i 0) ≡ parentIn t (getD (climb k t p) i 0)
+  Alike k p = AlikeAlong t u (climb k t p) (along n (climb k t p) .steps)
 
   module _ (k p : ℕ) (h : Alike (suc (suc k)) p) (ne : n ≡ p → ⊥) (nz : p ≡ 0 → ⊥) where
     steps-on : along n (climb (suc (suc k)) t p) .steps ≡ suc (along n (climb (suc k) t (parentIn t p)) .steps)

@@ -21,10 +21,12 @@ pub record ClimbSays (parents : List ℕ) (p n : ℕ) : Type 0 where
 abbrev pub Climbs : Type 0
 Climbs = (parents : List ℕ) (p n : ℕ) → atOrBelow parents p 0 ≡ true → ClimbSays parents p n
 
--- "must not climb past the node": the climb rests on the parents of as many nodes of the path as it makes steps, and on no other entry
+-- two tables have the same parents for the first k nodes of a path
+abbrev pub AlikeAlong : (parents other way : List ℕ) (k : ℕ) → Type 0
+AlikeAlong parents other way k = (i : ℕ) → i < k → parentIn other (getD way i 0) ≡ parentIn parents (getD way i 0)
+
+-- "must not climb past the node": the parents of as many nodes as there are steps settle the climb, and no other entry of the table
 abbrev pub ClimbStops : Type 0
 ClimbStops =
-    (parents other : List ℕ) (p n : ℕ)
-    → ((i : ℕ) → i < climbTo parents p n .steps
-    → parentIn other (getD (path parents p) i 0) ≡ parentIn parents (getD (path parents p) i 0))
+    (parents other : List ℕ) (p n : ℕ) → AlikeAlong parents other (path parents p) (climbTo parents p n .steps)
     → climbTo other p n ≡ climbTo parents p n

@@ -10,7 +10,13 @@ use codec::widen;
 use codec::widen16;
 use codec::word_at;
 use printing::LONGEST;
+use tree::NO_PARENT;
+use tree::SLOTS;
+use tree::climb_to;
 use view::View;
+ghost use mathlib.Core.Path.{_≡_};
+ghost use lib.ListN.{length};
+ghost use Rattle.rules.specs.Tree.{slots};
 
 fn refused(why: Refusal) {
     text(b"r ");
@@ -240,6 +246,37 @@ fn deliver_holdback(buf: &mut [u8], line: &[u8]) {
     deliver_part(buf, &line[2..end], &mut holdback, n);
 }
 
+fn climb_in(parents: &[u16], parent: u16, node: u16)
+    requires { ⌜ length (now parents) ≡ slots ⌝ }
+{
+    if node == NO_PARENT {
+        return;
+    }
+    let climbed = climb_to(parents, parent, node);
+    if climbed.met {
+        text(b"y ");
+    } else {
+        text(b"n ");
+    }
+    number(climbed.steps);
+}
+
+// In the tree of the buffer.
+fn climb(file: &[u8], line: &[u8]) {
+    if line.len() < 5 {
+        return;
+    }
+    let mut parents = [0u16; SLOTS];
+    let mut outcomes = [0u8; SLOTS];
+    let Answer::Refused(why) = replica::judge(file, &mut parents, &mut outcomes) else {
+        climb_in(&parents, word_at(line, 1), word_at(line, 3));
+        memory(file);
+        return;
+    };
+    refused(why);
+    memory(file);
+}
+
 fn open_bundle(buf: &mut [u8], bytes: &[u8]) {
     answered(bundle::open(buf, bytes));
     memory(buf);
@@ -321,7 +358,11 @@ fn dispatch(call: u8, line: &[u8], lent: &mut [u8]) {
             deliver_holdback(lent, line);
             return;
         }
-        0 | 10 | 14..=255 => {
+        14 => {
+            climb(lent, line);
+            return;
+        }
+        0 | 10 | 15..=255 => {
             text(b"l");
             memory(lent);
             return;

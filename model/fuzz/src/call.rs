@@ -95,6 +95,18 @@ impl Call {
             Call::HoldbackDeliver { .. } => 14,
         }
     }
+
+    /// Whether it issues or delivers one op, or judges.
+    pub fn is_single(&self) -> bool {
+        matches!(
+            self,
+            Call::Deliver(_)
+                | Call::Add { .. }
+                | Call::Remove { .. }
+                | Call::Move { .. }
+                | Call::Judge { .. }
+        )
+    }
 }
 
 /// What both sides answer, in one form.

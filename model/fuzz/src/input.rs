@@ -2,7 +2,7 @@
 
 use crate::call::Call;
 use outline::plain::{HOLDBACK, LARGEST_BUNDLE};
-use outline_model::cases::world::{full, holdback, part, Style, World};
+use outline_model::cases::world::{full, holdback, part, Deep, Style, World};
 use outline_model::cases::{damage, examples};
 use outline_model::rng::Rng;
 use outline_model::{Kind, Log, Op, Vector, View, HOLDBACK_PLACES, MAX_FILE, OP_LEN, SLOTS};
@@ -14,6 +14,8 @@ pub struct Input {
     ops: Vec<Op>,
     /// How many of them the log starts with.
     pub held: usize,
+    /// The chains that the ops start with, if the log is deep.
+    deep: Option<Deep>,
 }
 
 /// Logs that take long to make, made once.
@@ -81,6 +83,27 @@ fn ops(rng: &mut Rng, stock: &Stock) -> (Vec<Op>, usize) {
     }
 }
 
+/// Chains of a hundred nodes and more, and moves along and across them. The trees
+/// of the other worlds are shallow.
+fn deep(rng: &mut Rng) -> Deep {
+    let longest = if rng.one_in(20) { 600 } else { 200 };
+    Deep {
+        chains: 1 + rng.below(3),
+        length: 100 + rng.below(longest - 100),
+        moves: 5 + rng.below(40),
+    }
+}
+
+/// The ops of a deep world; mostly all nodes and some of the moves are held.
+fn deep_ops(rng: &mut Rng, deep: Deep) -> (Vec<Op>, usize) {
+    let ops = World::deep(rng, deep).ops;
+    if rng.one_in(8) {
+        return split(rng, ops);
+    }
+    let held = ops.len() - rng.below(deep.moves + 1);
+    (ops, held)
+}
+
 fn split(rng: &mut Rng, ops: Vec<Op>) -> (Vec<Op>, usize) {
     let held = if rng.one_in(3) {
         ops.len()
@@ -109,9 +132,14 @@ impl Input {
         if rng.one_in(20) {
             return Input::noise(rng);
         }
-        let (ops, held) = ops(rng, stock);
+        let deep = rng.one_in(7).then(|| deep(rng));
+        let (ops, held) = match deep {
+            Some(deep) => deep_ops(rng, deep),
+            None => ops(rng, stock),
+        };
         let mut file = examples::file_of(&ops[..held]);
-        if rng.one_in(4) {
+        // A damaged log has no tree most of the time, whether deep or not.
+        if rng.one_in(if deep.is_some() { 20 } else { 4 }) {
             for _ in 0..1 + rng.below(3) {
                 file = damage::random(rng, &file);
             }
@@ -122,7 +150,12 @@ impl Input {
             buffer.push(rng.byte());
         }
         buffer.truncate(length);
-        Input { buffer, ops, held }
+        Input {
+            buffer,
+            ops,
+            held,
+            deep,
+        }
     }
 
     /// Bytes that are no file, or an empty file with a damaged header.
@@ -140,6 +173,7 @@ impl Input {
             buffer,
             ops: examples::p1(),
             held: 0,
+            deep: None,
         }
     }
 
@@ -152,6 +186,10 @@ impl Input {
         self.held > 60
     }
 
+    pub fn is_deep(&self) -> bool {
+        self.deep.is_some()
+    }
+
     /// How many calls are made on it.
     pub fn calls(&self, rng: &mut Rng) -> usize {
         20 + rng.below(60)
@@ -159,6 +197,43 @@ impl Input {
 
     /// A call on buffer and holdback as the calls before have left them.
     pub fn call(&self, rng: &mut Rng, buffer: &[u8], holdback: &[u8]) -> Call {
+        match self.deep {
+            Some(deep) if rng.one_in(2) => self.deep_call(rng, deep, buffer),
+            _ => self.any_call(rng, buffer, holdback),
+        }
+    }
+
+    /// A move near or far in the chains, issued or delivered, or judging.
+    fn deep_call(&self, rng: &mut Rng, deep: Deep, buffer: &[u8]) -> Call {
+        let (node, parent) = deep.places(rng);
+        let node = self.ops[node].node;
+        let parent = parent.map_or(0, |place| self.ops[place].node);
+        match rng.below(10) {
+            0..=4 => Call::Move {
+                replica: replica(rng),
+                node,
+                parent,
+                room: record_room(rng),
+            },
+            // The next one, and one that is judged after all that is held: here
+            // a parent below the node is taken, and left out at judging.
+            5 | 6 => Call::Deliver(self.record(rng)),
+            7 | 8 => {
+                let make = rng.pick(&[
+                    examples::up as fn(u8, u16, u16, &[u8]) -> Op,
+                    examples::down,
+                ]);
+                let op = make(1 + rng.below(8) as u8, node, parent, &held(buffer));
+                Call::Deliver(op.bytes().to_vec())
+            }
+            _ => Call::Judge {
+                parents: table_room(rng),
+                outcomes: table_room(rng),
+            },
+        }
+    }
+
+    fn any_call(&self, rng: &mut Rng, buffer: &[u8], holdback: &[u8]) -> Call {
         match rng.below(140) {
             0 => Call::Make,
             1..=35 => Call::Deliver(self.record(rng)),

@@ -70,6 +70,8 @@ fn number(word: &str) -> Result<u64, String> {
 struct Tally {
     counts: [[u64; 19]; NAMES.len()],
     full: u64,
+    /// Issues, deliveries and judgings in deep chains.
+    deep: u64,
 }
 
 impl Tally {
@@ -162,6 +164,9 @@ fn compare_calls(options: &Options) -> u64 {
             if input.held >= 2000 {
                 tally.full += 1;
             }
+            if input.is_deep() && call.is_single() {
+                tally.deep += 1;
+            }
             if library != model || ours != theirs {
                 differences += 1;
                 println!(
@@ -185,10 +190,12 @@ fn compare_calls(options: &Options) -> u64 {
     }
     tally.print();
     println!(
-        "{} calls with seed {}, {} of them on logs of at least 2,000 ops, in {:.1} s: {} differences",
+        "{} calls with seed {}, {} of them on logs of at least 2,000 ops, {} issues, deliveries and \
+         judgings in deep chains, in {:.1} s: {} differences",
         tally.calls(),
         options.seed,
         tally.full,
+        tally.deep,
         began.elapsed().as_secs_f64(),
         differences
     );

@@ -260,10 +260,16 @@ pub fn longest_chain() -> Vec<Op> {
 
 /// A chain in which the replicas take turns, the highest first.
 pub fn turns(count: usize) -> Vec<Op> {
+    chains(1, count)
+}
+
+/// Chains of this length, one after the other, in which the replicas take turns.
+pub fn chains(count: usize, length: usize) -> Vec<Op> {
     let mut ops: Vec<Op> = vec![];
     let mut counts = [0; REPLICAS];
-    for (index, _) in (0..REPLICAS).rev().cycle().zip(0..count) {
-        let parent = ops.last().map_or(0, |op| op.node);
+    for (index, place) in (0..REPLICAS).rev().cycle().zip(0..count * length) {
+        let is_first = place % length == 0;
+        let parent = if is_first { 0 } else { ops[place - 1].node };
         ops.push(add(index as u8 + 1, parent, &counts));
         counts[index] += 1;
     }

@@ -1,7 +1,7 @@
 //! Random sound logs: replicas that hear of each other now and then.
 
 use super::damage;
-use super::examples::holdback_with;
+use super::examples::{chains, holdback_with, log_of};
 use crate::op::{at_most, join, node_number, replica_index, MAX_SEQUENCE, OP_LEN, REPLICAS};
 use crate::rng::Rng;
 use crate::{Kind, Op, Vector, HOLDBACK_PLACES};
@@ -42,6 +42,42 @@ impl Style {
     }
 }
 
+/// How a deep world grows: chains side by side, and then moves.
+#[derive(Clone, Copy)]
+pub struct Deep {
+    pub chains: usize,
+    /// Nodes of each chain.
+    pub length: usize,
+    /// With the nodes at most 2,040.
+    pub moves: usize,
+}
+
+impl Deep {
+    /// Nodes of all chains; their adds are the first ops.
+    pub fn nodes(&self) -> usize {
+        self.chains * self.length
+    }
+
+    /// The places, among the adds, of a node and of a new parent for it; none is
+    /// the root. The parent is just below the node or far below it, just above it,
+    /// in the next chain at about its depth, or now and then far above.
+    pub fn places(&self, rng: &mut Rng) -> (usize, Option<usize>) {
+        let node = rng.below(self.nodes());
+        let near = 1 + rng.below(3);
+        let far = 1 + rng.below(self.length);
+        let last = self.nodes() - 1;
+        let parent = match rng.below(12) {
+            0..=2 => last.min(node + near),
+            3..=6 => last.min(node + far),
+            7 | 8 => node.saturating_sub(near),
+            9 | 10 => (node + self.length + near - 2) % self.nodes(),
+            // Few of these, since they make the tree shallow.
+            _ => node.saturating_sub(far),
+        };
+        (node, (parent != node).then_some(parent))
+    }
+}
+
 /// Ops in an order in which each comes after all it counts.
 pub struct World {
     pub ops: Vec<Op>,
@@ -71,12 +107,40 @@ impl World {
         world
     }
 
-    /// The replica gets an op with all that it counts.
+    /// Chains that every replica knows, and then moves by replicas that hear of
+    /// each other now and then; some remove instead. The trees of `random` are
+    /// shallow: no climb there is long.
+    pub fn deep(rng: &mut Rng, deep: Deep) -> World {
+        let ops = chains(deep.chains, deep.length);
+        let held = log_of(&ops).held();
+        let mut world = World {
+            nodes: ops.iter().map(|op| op.node).collect(),
+            ops,
+            seen: [held; REPLICAS],
+        };
+        while world.ops.len() < deep.nodes() + deep.moves {
+            let replica = 1 + rng.below(REPLICAS) as u8;
+            let moves = &world.ops[deep.nodes()..];
+            if !moves.is_empty() && rng.one_in(3) {
+                let heard = rng.pick(moves);
+                world.hear_of(replica, &heard);
+            }
+            world.issue_deep(rng, replica, deep);
+        }
+        world
+    }
+
+    /// The replica hears of some op.
     fn hear(&mut self, rng: &mut Rng, replica: u8) {
         if self.ops.is_empty() {
             return;
         }
         let heard = rng.pick(&self.ops);
+        self.hear_of(replica, &heard);
+    }
+
+    /// The replica gets an op with all that it counts.
+    fn hear_of(&mut self, replica: u8, heard: &Op) {
         let seen = &mut self.seen[usize::from(replica) - 1];
         *seen = join(seen, &heard.vector);
         let count = &mut seen[heard.index()];
@@ -114,6 +178,26 @@ impl World {
             replica,
             node,
             parent,
+            vector,
+        });
+    }
+
+    /// A move along or across the chains, or now and then a remove.
+    fn issue_deep(&mut self, rng: &mut Rng, replica: u8, deep: Deep) {
+        let vector = self.seen[usize::from(replica) - 1];
+        if usize::from(vector[usize::from(replica) - 1]) == MAX_SEQUENCE {
+            return;
+        }
+        let (node, parent) = deep.places(rng);
+        let (kind, parent) = match rng.below(12) {
+            0 => (Kind::Remove, None),
+            _ => (rng.pick(&[Kind::Up, Kind::Down]), parent),
+        };
+        self.put(Op {
+            kind,
+            replica,
+            node: self.nodes[node],
+            parent: parent.map_or(0, |place| self.nodes[place]),
             vector,
         });
     }
