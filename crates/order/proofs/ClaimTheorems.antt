@@ -1,5 +1,5 @@
 -- The claims, proved.
-use Rattle.order.specs.Claims.{BoundsFree, Decimals, Listings, NoNewWork, OneFile, Ordered, PartsAlike, TreeClimbs}
+use Rattle.order.specs.Claims.{BoundsFree, Decimals, JudgedClimbs, Listings, NoNewWork, OneFile, Ordered, PartsAlike, TreeClimbs}
 use Rattle.order.proofs.LevelLaws.{Cut, equation}
 use Rattle.rules.specs.File.{Log, countsOf, logOf}
 use Rattle.rules.proofs.ExtendLaws.{alike-more, replay-alike}
@@ -16,7 +16,11 @@ use Rattle.order.proofs.WorkLaws.{issued-unmarked, marked-line}
 use Rattle.rules.proofs.IssueLaws.{allowed}
 use Rattle.rules.proofs.SoundLaws.{sound-good}
 use Rattle.rules.proofs.ClimbToLaws.{climbs}
-use Rattle.order.proofs.TreeTheorem.{hangs}
+use Rattle.order.proofs.TreeTheorem.{below-root}
+use Rattle.order.proofs.RunLaws.{along-at, replay-run}
+use Rattle.lists.proofs.BoolLaws.{never}
+use Rattle.rules.specs.Op.{isMove}
+use Rattle.rules.specs.Replay.{start}
 
 pub one-file : OneFile
 one-file w f bytes s =
@@ -49,7 +53,15 @@ pub tree-climbs : TreeClimbs
 tree-climbs w f s cut cv cl p n k =
     let log : Log = logOf w f in
     let is : Cut log cut = record { is-covered = cv; is-closed = cl } in
-    climbs _ p n (hangs log (structural-good w f s) cut is p (parent-reads log cut p k))
+    climbs _ p n (below-root log (structural-good w f s) cut is p (parent-reads log cut p k))
+
+pub judged-climbs : JudgedClimbs
+unfolding isMove
+judged-climbs w f s cut cv cl before after x e moves =
+    let log : Log = logOf w f in
+    let is : Cut log cut = record { is-covered = cv; is-closed = cl } in
+    let found = along-at start before x after (rw e at (replay-run log (structural-good w f s) cut is .along)) in
+    climbs _ _ _ (found .parent (λ k. never (rw k at moves)))
 
 pub listings : Listings
 listings w f s =

@@ -21,6 +21,7 @@ use Rattle.rules.proofs.SlotLaws.{Valid, slot-injective}
 use Rattle.rules.proofs.ClimbLaws.{up, Reaches, short}
 use Rattle.rules.proofs.TreeLaws.{free-avoids, new-reaches, still-reaches}
 use Rattle.rules.proofs.StructureLaws.{HeldOp, GoodLog, good-ops}
+use Rattle.rules.proofs.CircleLaws.{reached}
 use Rattle.rules.proofs.StepLaws.{step-add, step-move, step-remove}
 
 ---- one op
@@ -54,10 +55,14 @@ tree-same log D E st le back x = record {
     less m (inl e) = inl e
     less m (inr e) = inr (back m e)
 
--- an op finds its nodes: a way to the root from each that it names
+-- an op finds its nodes: each that it names lies below the root
 pub record Finds (st : State) (x : Stamped) : Type 0 where
-  pub parent : (kindOf (x .op) ≡ 2 → ⊥) → (i : ℕ) × (up (st .parents) i (parentOf (x .op)) ≡ 0)
-  pub node : (kindOf (x .op) ≡ 1 → ⊥) → (i : ℕ) × (up (st .parents) i (nodeOf (x .op)) ≡ 0)
+  pub parent : (kindOf (x .op) ≡ 2 → ⊥) → atOrBelow (st .parents) (parentOf (x .op)) 0 ≡ true
+  pub node : (kindOf (x .op) ≡ 1 → ⊥) → atOrBelow (st .parents) (nodeOf (x .op)) 0 ≡ true
+
+-- what the vector knows lies below the root
+pub tree-below : (log : Log) (D : Vector) (st : State) → Tree log D st → (m : ℕ) → Named log D m → atOrBelow (st .parents) m 0 ≡ true
+tree-below log D st tree m w = let (i, r) = tree .way m w in reached (Named log D) (named-valid log D) (st .parents) i m r
 
 module _ (log : Log) (good : GoodLog log) where
   -- an op whose vector lies within D
@@ -80,9 +85,8 @@ module _ (log : Log) (good : GoodLog log) where
 
       pub finds : Finds st x
       finds = record {
-        parent = λ k. let (i, w) = tree .way (parentOf r) (parent-named k) in (i, w .root);
-        node = λ k. let (i, w) = tree .way (nodeOf r) (inr (known-later log (vectorOf r) D le _ (names-node log r (held .names) k))) in
-            (i, w .root);
+        parent = λ k. tree-below log D st tree (parentOf r) (parent-named k);
+        node = λ k. tree-below log D st tree (nodeOf r) (inr (known-later log (vectorOf r) D le _ (names-node log r (held .names) k)));
       }
 
       -- an add: E counts it besides

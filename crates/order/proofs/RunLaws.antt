@@ -40,6 +40,10 @@ along-append : (st : State) (xs ys : List Stamped) → Along st xs → Along (fo
 along-append st [] ys a b = b
 along-append st (x ∷ xs) ys a b = (a .0, along-append (step st x) xs ys (a .1) b)
 
+pub along-at : (st : State) (xs : List Stamped) (x : Stamped) (ys : List Stamped) → Along st (xs ++ (x ∷ ys)) → Finds (foldl step st xs) x
+along-at st [] x ys a = a .0
+along-at st (y ∷ xs) x ys a = along-at (step st y) xs x ys (a .1)
+
 pub join : (log : Log) (D E : Vector) (st : State) (xs ys : List Stamped) → Run log D st xs
     → (Tree log D (foldl step st xs) → Run log E (foldl step st xs) ys) → Run log E st (xs ++ ys)
 join log D E st xs ys a b =

@@ -11,13 +11,14 @@ use Rattle.rules.specs.TreeClaim.{Trees, IsTree}
 use Rattle.rules.specs.Op.{Vector}
 use Rattle.rules.specs.Replay.{replay, addedIn}
 use Rattle.lists.specs.Lists.{isIn}
-use Rattle.rules.specs.Tree.{atOrBelow, path, slotOf, slots}
+use Rattle.rules.specs.Tree.{atOrBelow, slotOf}
 use Rattle.rules.proofs.StructureLaws.{GoodLog, structural-good}
 use Rattle.rules.proofs.SlotLaws.{slot-root}
 use Rattle.rules.proofs.ClimbLaws.{in-climb}
 use Rattle.order.proofs.LevelLaws.{Cut}
 use Rattle.rules.proofs.KnownLaws.{Named}
-use Rattle.order.proofs.RunLaws.{replay-reaches, replay-run}
+use Rattle.order.proofs.GrowLaws.{tree-below}
+use Rattle.order.proofs.RunLaws.{replay-run}
 use Rattle.order.proofs.NodeLaws.{added-is}
 use Rattle.order.proofs.DepthLaws.{depth-bound}
 
@@ -42,12 +43,10 @@ module _ (log : Log) (good : GoodLog log) (cut : Vector) (is : Cut log cut) wher
       off i p none m (inl e) q = omega (arith, slot-root m e)
       off i p none m (inr e) q = none m (added-is log good cut is m ∙ e) q
 
-  -- every parent that is known hangs below the root
-  pub hangs : (p : ℕ) → Named log cut p → atOrBelow parents p 0 ≡ true
-  unfolding atOrBelow path
-  hangs p w =
-      let (j, b, r, first) = replay-reaches log good cut is p w in
-      rw (r .root) at (in-climb parents slots j p (omega arith) first)
+  -- every parent that is known lies below the root
+  pub below-root : (p : ℕ) → Named log cut p → atOrBelow parents p 0 ≡ true
+  unfolding replay
+  below-root p w = tree-below log cut (replay log cut) (replay-run log good cut is .tree) p w
 
 pub trees : Trees
 trees w f s cut cv cl =

@@ -2,12 +2,12 @@
 use Prim.Native.Nat.{ℕ, _+_, _*_, _-_, _≤_, _<_}
 use mathlib.Core.Path.{_≡_}
 use mathlib.Core.Bool.{Bool, true, false, cond}
-use mathlib.Core.List.{List, [], _∷_, map, foldl}
+use mathlib.Core.List.{List, [], _∷_, _++_, map, foldl}
 use lib.ListN.{length, take, getD}
 use lib.Dec.{eqb}
 use Rattle.lists.specs.Lists.{greatest, filter, isIn}
 use Rattle.rules.specs.Bytes.{byte}
-use Rattle.rules.specs.Op.{Op, Vector, replicas, countIn, nodeOf, parentOf, vectorOf, isRemove}
+use Rattle.rules.specs.Op.{Op, Vector, replicas, countIn, nodeOf, parentOf, vectorOf, isMove, isRemove}
 use Rattle.rules.specs.File.{Log, opAt, countsOf, Extends, fileEnd, logOf, fileOf}
 use Rattle.rules.specs.Log.{covered, closed, knownParent, structural}
 use Rattle.rules.specs.Tree.{slots, climb, path, depth}
@@ -15,7 +15,7 @@ use Rattle.rules.specs.ClimbClaim.{ClimbSays}
 use Rattle.rules.specs.Marks.{marked, isMarked, knowledge}
 use Rattle.rules.specs.Answer.{accepted}
 use Rattle.rules.specs.Issue.{Request, issued, issueAnswer}
-use Rattle.rules.specs.Replay.{opsWithin, timestamp, Stamped, stamped, ordered, replay, parentsOf}
+use Rattle.rules.specs.Replay.{opsWithin, timestamp, Stamped, stamped, ordered, start, step, replay, parentsOf}
 use Rattle.rules.specs.Views.{View}
 use Rattle.rules.specs.Listing.{preorder, digits, decimal, lineOf, line, listingOf}
 
@@ -66,6 +66,14 @@ TreeClimbs =
     (w : ℕ) (f : List ℕ) → structural w f ≡ true
     → (cut : Vector) → covered (logOf w f) cut ≡ true → closed (logOf w f) cut ≡ true
     → (p n : ℕ) → knownParent (logOf w f) cut p ≡ true → ClimbSays (replay (logOf w f) cut .parents) p n
+
+-- and in the tree in which a move is judged, from its new parent to its node
+abbrev pub JudgedClimbs : Type 0
+JudgedClimbs =
+    (w : ℕ) (f : List ℕ) → structural w f ≡ true
+    → (cut : Vector) → covered (logOf w f) cut ≡ true → closed (logOf w f) cut ≡ true
+    → (before after : List Stamped) (x : Stamped) → ordered (logOf w f) cut ≡ before ++ (x ∷ after) → isMove (x .op) ≡ true
+    → ClimbSays (foldl step start before .parents) (parentOf (x .op)) (nodeOf (x .op))
 
 ---- the listing
 

@@ -5,13 +5,12 @@ use Rattle.lists.proofs.MemberLaws.{index-at, index-within}
 use Rattle.rules.specs.ClimbClaim.{AlikeAlong, ClimbStops, Climbs}
 use Rattle.rules.specs.Tree.{Climbed, atOrBelow, climb, climbTo, depth, parentIn, path, slots}
 use mathlib.Core.Bool.{Bool, cond, false, true}
-use mathlib.Core.List.{List, [], _∷_}
-use Prim.Native.Nat.{_+_, _-_, _<_, _≤_, suc, zero, ℕ}
+use mathlib.Core.List.{List, _∷_}
+use Prim.Native.Nat.{_+_, _-_, _≤_, suc, zero, ℕ}
 use mathlib.Core.Path.{_∙_, _≡_, ap, refl, sym}
 use native.Mathlib.Omega.{arith}
 use native.Mathlib.Decide.{ℕ-discrete}
 use borrow.Author.Tests.{eq-eqb, ne-eqb}
-use lib.Dec.{eqb}
 use lib.ListN.{getD, length}
 
 ---- along a path to n, or to its end
@@ -28,25 +27,20 @@ module _ (n m : ℕ) where
   unfolding along isIn any indexOf
   along-met l e = rw (eq-eqb n m e)
 
-  module _ (ne : n ≡ m → ⊥) where
-    along-end : along n (m ∷ []) ≡ record { met = false; steps = 0 }
-    unfolding along isIn any indexOf
-    along-end = rw (ne-eqb n m ne)
-
-    along-step : (x : ℕ) (l : List ℕ) → along n (m ∷ x ∷ l) ≡ further (along n (x ∷ l))
-    unfolding along isIn any indexOf
-    along-step x l = rw (ne-eqb n m ne) (go (isIn n (x ∷ l)))
-      where
-        go : (b : Bool) → _≡_ {A = Climbed} (record { met = b; steps = cond b (suc (indexOf n (x ∷ l))) (suc (suc (length l)) - 1) })
-            (record { met = b; steps = suc (cond b (indexOf n (x ∷ l)) (suc (length l) - 1)) })
-        go true = refl
-        go false = ap (λ (k : ℕ). record { met = false; steps = k }) (omega arith)
+  along-step : (n ≡ m → ⊥) → (x : ℕ) (l : List ℕ) → along n (m ∷ x ∷ l) ≡ further (along n (x ∷ l))
+  unfolding along isIn any indexOf
+  along-step ne x l = rw (ne-eqb n m ne) (go (isIn n (x ∷ l)))
+    where
+      go : (b : Bool) → _≡_ {A = Climbed} (record { met = b; steps = cond b (suc (indexOf n (x ∷ l))) (suc (suc (length l)) - 1) })
+          (record { met = b; steps = suc (cond b (indexOf n (x ∷ l)) (suc (length l) - 1)) })
+      go true = refl
+      go false = ap (λ (k : ℕ). record { met = false; steps = k }) (omega arith)
 
 ---- it rests on the parents along its steps
 
-climb-on : (t : List ℕ) (k p : ℕ) → (p ≡ 0 → ⊥) → climb (suc k) t p ≡ p ∷ climb k t (parentIn t p)
+climb-up : (t : List ℕ) (k p : ℕ) → (p ≡ 0 → ⊥) → climb (suc k) t p ≡ p ∷ climb k t (parentIn t p)
 unfolding climb
-climb-on t k p nz = rw (ne-eqb p 0 nz)
+climb-up t k p nz = rw (ne-eqb p 0 nz)
 
 climb-step : (t : List ℕ) (n k p : ℕ) → (n ≡ p → ⊥) → (p ≡ 0 → ⊥)
     → along n (climb (suc (suc k)) t p) ≡ further (along n (climb (suc k) t (parentIn t p)))
@@ -62,10 +56,10 @@ module _ (t u : List ℕ) (n : ℕ) where
     steps-on = ap (λ (c : Climbed). c .steps) (climb-step t n k p ne nz)
 
     parent-alike : parentIn u p ≡ parentIn t p
-    parent-alike = rw (climb-on t (suc k) p nz) at (h 0 (omega (arith, steps-on)))
+    parent-alike = rw (climb-up t (suc k) p nz) at (h 0 (omega (arith, steps-on)))
 
     alike-on : Alike (suc k) (parentIn t p)
-    alike-on i l = rw (climb-on t (suc k) p nz) at (h (suc i) (omega (arith, steps-on)))
+    alike-on i l = rw (climb-up t (suc k) p nz) at (h (suc i) (omega (arith, steps-on)))
 
   stops-in : (k p : ℕ) → Alike k p → along n (climb k u p) ≡ along n (climb k t p)
   unfolding climb
@@ -104,7 +98,7 @@ module _ (t : List ℕ) where
     | yes z ↦ rw (eq-eqb p 0 (sym z))
     | no ne ↦
         let (nz, r′) = in-rest 0 k p ne r in
-        climb-on t (suc k) p nz ∙ ap (λ (l : List ℕ). p ∷ l) (root-enough k (parentIn t p) r′) ∙ sym (climb-on t k p nz)
+        climb-up t (suc k) p nz ∙ ap (λ (l : List ℕ). p ∷ l) (root-enough k (parentIn t p) r′) ∙ sym (climb-up t k p nz)
   ]
 
   index-here : (k p : ℕ) → indexOf p (climb (suc k) t p) ≡ 0
@@ -113,7 +107,7 @@ module _ (t : List ℕ) where
 
   index-on : (n k p : ℕ) → (n ≡ p → ⊥) → (p ≡ 0 → ⊥) → indexOf n (climb (suc k) t p) ≡ suc (indexOf n (climb k t (parentIn t p)))
   unfolding indexOf
-  index-on n k p ne nz = rw (climb-on t k p nz, ne-eqb n p ne)
+  index-on n k p ne nz = rw (climb-up t k p nz, ne-eqb n p ne)
 
   none-in : {A : Type 0} (m p : ℕ) → isIn m (climb 0 t p) ≡ true → A
   unfolding climb isIn any
@@ -130,7 +124,7 @@ module _ (t : List ℕ) where
         let (_, r′) = in-rest 0 k p (λ z. nz (sym z)) r in
         let (ih, l) = met-root n k (parentIn t p) r′ m′ in
         let same = root-enough k n ih in
-        (rw same ih, rw (same, index-on n k p ne nz, climb-on t k p nz) (omega (arith, l)))
+        (rw same ih, rw (same, index-on n k p ne nz, climb-up t k p nz) (omega (arith, l)))
   ]
 
   climb-some : (k p : ℕ) → 1 ≤ length (climb (suc k) t p)

@@ -516,14 +516,14 @@ unfolding ofOps table p1 p1Adds p1File p1Buffer emptyFile p10 p11 p11All p12 p12
     kindOf replicaOf nodeOf parentOf vectorOf ownCount seqOf nodeNumber isAdd isRemove isMove wellFormed emptyLog opsOf opAt countsOf
     append countAt startAt headerCounts startOf endOf fileEnd chunks chunksOf logOf headerEntry headerOf fileOf within covered closedAt
     closed isKnown isMarked nodeWithin knowledge knownParent namesKnown soundOp soundOps soundLog soundHeader laid structural sound
-    makeAnswer isHeld heldAnswer admitAnswer deliverAnswer slot slotOf parentIn climb path depth atOrBelow indexOf climbTo opsWithin addedIn removedIn
-    timestampIn timestamp stamp stamped ofReplica ofKind ofTime byTime ordered start outcomeSlot outcomeOf step replay parentsOf
-    outcomesOf opBytes moveKind issued requestKnown requestUnmarked requestClear issueAnswer issueOut nodes marked shown children
-    preorder digits decimal lineOf line listingIn listingOf listingAnswer listing listingSize refusedLine outline judgeAnswer pathOf
-    pathAnswer pathCall endAnswer countsAnswer countsCall appended deliverBuffer ones onesIn beyondCounts headByte headOf isBeyond
-    opsBeyond bundleOf bundleAnswer bundleCall headSize countsRead headCounts bodiesIn opsBy wholeBundle unlessRefused turnsAnswer
-    turnsBuffer openAnswer openBuffer crowd holdbackOps holdbackOf soundHoldback stays look searchOn looks search waits putBack earlyAnswer
-    released answerOn holdbackAnswer holdbackBuffer holdbackAfter
+    makeAnswer isHeld heldAnswer admitAnswer deliverAnswer slot slotOf parentIn climb path depth atOrBelow indexOf climbTo opsWithin
+    addedIn removedIn timestampIn timestamp stamp stamped ofReplica ofKind ofTime byTime ordered start outcomeSlot outcomeOf step replay
+    parentsOf outcomesOf opBytes moveKind issued requestKnown requestUnmarked requestClear issueAnswer issueOut nodes marked shown
+    children preorder digits decimal lineOf line listingIn listingOf listingAnswer listing listingSize refusedLine outline judgeAnswer
+    pathOf pathAnswer pathCall endAnswer countsAnswer countsCall appended deliverBuffer ones onesIn beyondCounts headByte headOf
+    isBeyond opsBeyond bundleOf bundleAnswer bundleCall headSize countsRead headCounts bodiesIn opsBy wholeBundle unlessRefused
+    turnsAnswer turnsBuffer openAnswer openBuffer crowd holdbackOps holdbackOf soundHoldback stays look searchOn looks search waits
+    putBack earlyAnswer released answerOn holdbackAnswer holdbackBuffer holdbackAfter
 table-holds =
     (refl, refl) & refl & refl & refl & refl & refl & refl & refl & refl & refl & refl & refl & refl & refl & refl
     & refl & refl & refl & refl & refl & refl & refl & refl & refl & refl & refl & refl & refl & refl & refl & refl
