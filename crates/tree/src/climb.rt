@@ -16,20 +16,22 @@ pub struct Climbed {
 // The depth where no climb ends.
 const DEEPEST: usize = SLOTS - 1;
 
+// The node is met.
 fn met_after(steps: usize) -> Climbed
     ensures { λ r. ⌜ climbedOf r ≡ record { met = true; steps = steps } ⌝ }
 {
     Climbed { met: true, steps }
 }
 
+// The node is not met.
 fn missed_after(steps: usize) -> Climbed
     ensures { λ r. ⌜ climbedOf r ≡ record { met = false; steps = steps } ⌝ }
 {
     Climbed { met: false, steps }
 }
 
-// Whether a parent is a node or lies below it. The climb ends at the node, at the root, and where
-// it leaves the table, since there it comes to no node any more.
+// Whether a parent is a node or lies below it, by a climb from the parent. It ends at the node, at
+// the root, and where it leaves the table, since there it comes to no node any more.
 pub fn climb_to(parents: &[u16], parent: u16, node: u16) -> Climbed
     requires { ⌜ (length (now parents) ≡ slots) × (node < noParent) ⌝ }
     ensures { λ r. ⌜ climbedOf r ≡ climbTo (now (parents .entry)) parent node ⌝ }

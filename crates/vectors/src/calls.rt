@@ -261,7 +261,7 @@ fn climb_in(parents: &[u16], parent: u16, node: u16)
     number(climbed.steps);
 }
 
-// In the tree of the buffer.
+// The climb from a parent to a node, in the tree of the buffer.
 fn climb(file: &[u8], line: &[u8]) {
     if line.len() < 5 {
         return;
