@@ -3,13 +3,13 @@ use Prim.Native.Nat.{_+_, _-_, _<_, suc, zero, ℕ, _≤_}
 use borrow.Author.Tests.{eq-eqb, eqb-true, ne-eqb}
 use lib.Dec.{eqb}
 use lib.ListN.{getD, length}
-use mathlib.Core.Bool.{cond, false, or-false, or-true, true, _||_}
+use mathlib.Core.Bool.{false, or-false, or-true, true, _||_}
 use mathlib.Core.List.{List, [], _∷_}
 use mathlib.Core.Logic.{inr, ⊎-elim}
 use mathlib.Core.Path.{ap, refl, sym, _∙_, _≡_}
 use native.Mathlib.Nat.{le-of-suc-le-suc, not-suc-le-zero}
 use native.Mathlib.Omega.{arith}
-use Rattle.rules.proofs.ClimbLaws.{Depth, climb-enough, depth-unique, Reaches, up, up-add}
+use Rattle.rules.proofs.ClimbLaws.{Depth, climb-enough, climb-up, depth-unique, Reaches, up, up-add}
 use Rattle.order.proofs.FuelLaws.{has-depth}
 use Rattle.rules.proofs.KnownLaws.{Known, Named, known-reads}
 use Rattle.order.proofs.RunLaws.{replay-reaches}
@@ -40,10 +40,6 @@ climb-at parents (suc k) zero n (suc i) h l o = absurd (not-suc-le-zero l)
 climb-at parents (suc k) (suc j) n (suc i) h l o =
     rw (ne-eqb n 0 (o 0 (omega arith))) (climb-at parents k j (parentIn parents n) i (le-of-suc-le-suc h) (le-of-suc-le-suc l)
     (λ m b. o (suc m) (omega arith)))
-
-climb-turn : (parents : List ℕ) (k n : ℕ) → climb (suc k) parents n ≡ n ∷ cond (eqb n 0) [] (climb k parents (parentIn parents n))
-unfolding climb
-climb-turn parents k n = refl
 
 -- what is above a node of a climb is on it
 climb-closed : (parents : List ℕ) (k j m c : ℕ) → Depth parents j m → j < k → isIn c (climb k parents m) ≡ true → (c ≡ 0 → ⊥)
@@ -134,16 +130,15 @@ module _ (log : Log) (good : GoodLog log) where
       let (j, b, d) = has-depth log good c (u .node) in
       let (i, e, d′) = depth-parent P j c d (u .below-root) in
       rw (
-        climb-turn P 2040 c,
-        ne-eqb c 0 (u .below-root),
+        climb-up P 2040 c (u .below-root),
         climb-enough P i 2040 slots (parentIn P c) d′ (omega arith)
             (omega arith),
         u .parent,
       )
 
   pub path-root : path P 0 ≡ 0 ∷ []
-  unfolding path
-  path-root = climb-turn P 2040 0
+  unfolding path climb
+  path-root = refl
 
   pub path-closed : (m c : ℕ) → Named log (countsOf log) m → isIn c (path P m) ≡ true → (c ≡ 0 → ⊥) → isIn (parentIn P c) (path P m) ≡ true
   unfolding path

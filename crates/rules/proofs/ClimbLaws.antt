@@ -55,6 +55,11 @@ short P pv parents i n r =
         o (a + d) (omega arith) (up-add parents a d n ∙ ap (up parents d) same ∙ sym (up-add parents b d n) ∙ ap (λ (t : ℕ). up parents t n)
         k ∙ z)
 
+-- from any node but the root a climb goes on from its parent
+pub climb-up : (parents : List ℕ) (k n : ℕ) → (n ≡ 0 → ⊥) → climb (suc k) parents n ≡ n ∷ climb k parents (parentIn parents n)
+unfolding climb
+climb-up parents k n nz = rw (ne-eqb n 0 nz)
+
 -- what is met on the way to the first root is in the list of the climb
 pub in-climb : (parents : List ℕ) (k j n : ℕ) → j < k → ((i : ℕ) → i < j → up parents i n ≡ 0 → ⊥)
     → isIn (up parents j n) (climb k parents n) ≡ true

@@ -2,6 +2,7 @@
 use Rattle.lists.specs.Lists.{any, indexOf, isIn}
 use Rattle.lists.proofs.BoolLaws.{never}
 use Rattle.lists.proofs.MemberLaws.{index-at, index-within}
+use Rattle.rules.proofs.ClimbLaws.{climb-enough, climb-in, climb-up}
 use Rattle.rules.specs.ClimbClaim.{AlikeAlong, ClimbStops, Climbs}
 use Rattle.rules.specs.Tree.{Climbed, atOrBelow, climb, climbTo, depth, parentIn, path, slots}
 use mathlib.Core.Bool.{Bool, cond, false, true}
@@ -37,10 +38,6 @@ module _ (n m : ℕ) where
       go false = ap (λ (k : ℕ). record { met = false; steps = k }) (omega arith)
 
 ---- it rests on the parents along its steps
-
-climb-up : (t : List ℕ) (k p : ℕ) → (p ≡ 0 → ⊥) → climb (suc k) t p ≡ p ∷ climb k t (parentIn t p)
-unfolding climb
-climb-up t k p nz = rw (ne-eqb p 0 nz)
 
 climb-step : (t : List ℕ) (n k p : ℕ) → (n ≡ p → ⊥) → (p ≡ 0 → ⊥)
     → along n (climb (suc (suc k)) t p) ≡ further (along n (climb (suc k) t (parentIn t p)))
@@ -92,14 +89,9 @@ module _ (t : List ℕ) where
 
   -- a climb that comes to the root has no more entries with a larger bound
   root-enough : (k p : ℕ) → isIn 0 (climb k t p) ≡ true → climb (suc k) t p ≡ climb k t p
-  unfolding climb isIn any
-  root-enough zero p r = never r
-  root-enough (suc k) p r = elim (ℕ-discrete 0 p) [
-    | yes z ↦ rw (eq-eqb p 0 (sym z))
-    | no ne ↦
-        let (nz, r′) = in-rest 0 k p ne r in
-        climb-up t (suc k) p nz ∙ ap (λ (l : List ℕ). p ∷ l) (root-enough k (parentIn t p) r′) ∙ sym (climb-up t k p nz)
-  ]
+  root-enough k p r =
+      let (i, l, w, o) = climb-in t k p 0 r in
+      climb-enough t i (suc k) k p (record { root = w; first = o }) (omega arith) l
 
   index-here : (k p : ℕ) → indexOf p (climb (suc k) t p) ≡ 0
   unfolding climb indexOf

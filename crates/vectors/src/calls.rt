@@ -312,61 +312,30 @@ fn fill(buf: &mut [u8], from: usize, to: usize) {
     }
 }
 
+// Loading and resizing are done by now.
+fn loaded(lent: &[u8]) {
+    text(b"l");
+    memory(lent);
+}
+
 // Makes the call of a line on the lent buffer.
 fn dispatch(call: u8, line: &[u8], lent: &mut [u8]) {
     if line.len() == 0 {
         return;
     }
     match call {
-        1 => {
-            make(lent);
-            return;
-        }
-        2 => {
-            deliver(lent, &line[1..]);
-            return;
-        }
-        3 => {
-            judge(lent, line);
-            return;
-        }
-        4..=6 => {
-            issue(lent, line);
-            return;
-        }
-        7 => {
-            path(lent, line);
-            return;
-        }
-        8 => {
-            listing(lent, line);
-            return;
-        }
-        9 => {
-            outline(lent);
-            return;
-        }
-        11 => {
-            make_bundle(lent, line);
-            return;
-        }
-        12 => {
-            open_bundle(lent, &line[1..]);
-            return;
-        }
-        13 => {
-            deliver_holdback(lent, line);
-            return;
-        }
-        14 => {
-            climb(lent, line);
-            return;
-        }
-        0 | 10 | 15..=255 => {
-            text(b"l");
-            memory(lent);
-            return;
-        }
+        1 => make(lent),
+        2 => deliver(lent, &line[1..]),
+        3 => judge(lent, line),
+        4..=6 => issue(lent, line),
+        7 => path(lent, line),
+        8 => listing(lent, line),
+        9 => outline(lent),
+        11 => make_bundle(lent, line),
+        12 => open_bundle(lent, &line[1..]),
+        13 => deliver_holdback(lent, line),
+        14 => climb(lent, line),
+        0 | 10 | 15..=255 => loaded(lent),
     }
 }
 
