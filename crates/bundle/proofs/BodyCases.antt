@@ -17,15 +17,17 @@ use Rattle.rules.specs.File.{Log, headerCounts, logOf, width}
 use Rattle.rules.specs.Log.{structural}
 use Rattle.rules.specs.Op.{Vector, countIn, replicaOf, seqOf}
 use Rattle.rules.specs.Replay.{Stamped, ordered}
+use Rattle.rules.specs.Tree.{mostOps}
 use Rattle.rules.proofs.FileLaws.{counts-logOf}
 use Rattle.rules.proofs.SoundLaws.{sound-structural}
 use Rattle.oplog.specs.Places.{Held}
 use Rattle.oplog.proofs.FieldLaws.{op-is}
 use Rattle.oplog.proofs.HeldLaws.{held-op, whole-closed, whole-held}
 use Rattle.tree.specs.Slots.{opIn, replicaIn, sequenceIn, slotPlace}
-use Rattle.schedule.specs.Schedule.{mostOps, schedule, scheduled}
+use Rattle.schedule.specs.Schedule.{schedule, scheduled}
 use Rattle.schedule.specs.Level.{SchedulableCut}
-use Rattle.schedule.proofs.OrderLaws.{count-is, entered, few-ops, noOp}
+use Rattle.schedule.proofs.OrderLaws.{count-is, entered, few-ops}
+use Rattle.order.specs.Undo.{noOp}
 use Rattle.bundle.specs.Bodies.{BodiesRoom, BodyRoom, Copied, copied, Output, WholeRoom, bodiesAlong, bodyOf, laidOver, output}
 
 ---- bytes laid over others

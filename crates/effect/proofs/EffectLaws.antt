@@ -10,17 +10,18 @@ use lib.ListN.{length, drop, getD, set}
 use borrow.Author.Tests.{eq-eqb, ne-eqb}
 use borrow.Author.Needs.{needs}
 use Rattle.rules.specs.Op.{vectorOf, kindOf, parentOf, nodeNumber, isAdd, nodeOf, isMove, Op}
-use Rattle.rules.specs.Tree.{climbTo, slotOf, slot, slots}
+use Rattle.rules.specs.Tree.{climbTo, noParent, slotOf, slot, slots}
 use Rattle.rules.specs.Replay.{outcomeOf, outcomeSlot, step}
 use Rattle.rules.specs.File.{opAt, logOf}
+use Rattle.rules.specs.Log.{structural}
 use Rattle.rules.proofs.SlotLaws.{slot-below}
 use Rattle.rules.proofs.KnownLaws.{names-add, names-node, known-reads}
 use Rattle.tree.specs.Climb.{climbedOf}
 use Rattle.tree.specs.declared.climb.Climbed.{Climbed}
 use Rattle.tree.proofs.ClimbLaws.{met-is}
-use Rattle.tree.specs.Slots.{opIn, replicaIn, sequenceIn, slotPlace}
+use Rattle.tree.specs.Slots.{InSlot, opIn, replicaIn, sequenceIn, slotPlace}
 use Rattle.rules.proofs.StructureLaws.{HeldOp}
-use Rattle.oplog.proofs.FieldLaws.{fields-at, small}
+use Rattle.oplog.proofs.FieldLaws.{SameFields, fields-at, small}
 use Rattle.effect.specs.Effects.{Applicable, Slotted, hungBy, moves, notedBy, outcomeBy, stampedAt, tables}
 use Rattle.oplog.proofs.HeldLaws.{held-op}
 
@@ -120,7 +121,7 @@ module _ (l : List ℕ) (k o i t : ℕ) where
 
 ---- what an op of a structurally sound file names has a slot
 
-module _ (w : ℕ) (f : List ℕ) (i : ℕ) (p o l : List ℕ) (x : Applicable w f i p o l) where
+module _ (w : ℕ) (f : List ℕ) (i : ℕ) (st : structural w f ≡ true) (x : InSlot w f i) where
   abbrev s : ℕ
   s = replicaIn i
 
@@ -131,37 +132,59 @@ module _ (w : ℕ) (f : List ℕ) (i : ℕ) (p o l : List ℕ) (x : Applicable w
   r = opAt (logOf w f) s q
 
   held : HeldOp (logOf w f) s q r
-  held = held-op w f (x .is-structural) s q (x .in-slot .in-file)
+  held = held-op w f st s q (x .in-file)
 
   node-range : (1 ≤ nodeOf r / 256) × (nodeOf r / 256 ≤ 8) × (1 ≤ nodeOf r % 256)
   unfolding nodeNumber
   node-range = elim (ℕ-discrete (kindOf r) 1) [
     | yes e ↦
         let n : nodeOf r ≡ 256 * s + q = names-add (logOf w f) r (held .names) e .1 ∙ rw (held .origin, held .number) in
-        let b = small w f s q (x .in-slot .in-file) in
-        (omega arith, omega (arith, x .in-slot .in-file .high), omega arith)
+        let b = small w f s q (x .in-file) in
+        (omega arith, omega (arith, x .in-file .high), omega arith)
     | no ne ↦
         let k = known-reads (logOf w f) (vectorOf r) (nodeOf r) (names-node (logOf w f) r (held .names) ne) .0 in
         (k .low, k .high, k .first)
   ]
 
+  pub named-below : slotOf (nodeOf (opIn (logOf w f) i)) < slots
+  unfolding opIn
+  named-below = slot-below (nodeOf r) (inr node-range)
+
+  node-small : nodeOf (opIn (logOf w f) i) < noParent
+  unfolding opIn
+  node-small = omega (arith, node-range .1)
+
+  pub own-below : i < slots
+  own-below = omega (arith, small w f s q (x .in-file), x .in-file .high, x .some)
+
+  -- its outcome stands there
+  pub slot-own : outcomeSlot (opIn (logOf w f) i) ≡ i
+  unfolding outcomeSlot slot opIn
+  slot-own = let own : 255 * (s - 1) + q ≡ i = omega (arith, x .some) in rw (held .origin, held .number, own)
+
+module _ (w : ℕ) (f : List ℕ) (i : ℕ) (p o l : List ℕ) (x : Applicable w f i p o l) where
+  abbrev op : Op
+  op = opIn (logOf w f) i
+
   pub own-slot : i < length o
-  own-slot =
-      let n = x .in-slot in
-      omega (arith, small w f s q (n .in-file), n .in-file .high, n .some, x .sized .outcomes)
+  own-slot = omega (arith, own-below w f i (x .is-structural) (x .in-slot), x .sized .outcomes)
 
   -- what the code has read are the op's fields
   module _ (at : ℕ) (is : at ≡ slotPlace w f i) (n j : ℕ) (hn : n ≡ nodeOf (drop at f)) (hj : j ≡ slotOf n) where
-    node-so : n ≡ nodeOf r
-    node-so = hn ∙ sym (fields-at w f s q (x .in-slot .in-file) at is .node)
+    fields : SameFields op (drop at f)
+    unfolding opIn
+    fields = fields-at w f (replicaIn i) (sequenceIn i) (x .in-slot .in-file) at is
+
+    node-so : n ≡ nodeOf op
+    node-so = hn ∙ sym (fields .node)
 
     slot-so : j < slots
-    slot-so = rw (hj, node-so) (slot-below (nodeOf r) (inr node-range))
+    slot-so = rw (hj, node-so) (named-below w f i (x .is-structural) (x .in-slot))
 
     pub node-slotted : Slotted p l n j
     node-slotted = record {
       parents = x .sized .parents;
-      small = omega (arith, node-so, node-range .1);
+      small = rw node-so (node-small w f i (x .is-structural) (x .in-slot));
       placed = omega (arith, slot-so, x .sized .placed);
     }
 
@@ -174,14 +197,12 @@ module _ (w : ℕ) (f : List ℕ) (i : ℕ) (p o l : List ℕ) (x : Applicable w
     module _ (k m u t : ℕ) (hk : k ≡ kindOf (drop at f)) (hm : m ≡ parentOf (drop at f)) (hu : u ≡ outcomeBy p l k n m j t) where
       pub applied : (p′ l′ : List ℕ) → p′ ≡ hungBy p k u j m → l′ ≡ notedBy l k u j t
           → tables p′ (set o i u) l′ ≡ step (tables p o l) (stampedAt t (opIn (logOf w f) i))
-      unfolding step outcomeOf outcomeBy outcomeSlot slot hungBy notedBy isAdd isMove opIn
+      unfolding step outcomeOf outcomeBy hungBy notedBy isAdd isMove
       applied p′ l′ hp hl =
-          let y = fields-at w f s q (x .in-slot .in-file) at is in
-          let ek : k ≡ kindOf r = hk ∙ sym (y .kind) in
-          let em : m ≡ parentOf r = hm ∙ sym (y .parent) in
-          let g : j ≡ slotOf (nodeOf r) = hj ∙ ap slotOf node-so in
-          let own : 255 * (s - 1) + q ≡ i = omega (arith, x .in-slot .some) in
-          rw (hp, hl, hu, ek, em, g, node-so, held .origin, held .number, own)
+          let ek : k ≡ kindOf op = hk ∙ sym (fields .kind) in
+          let em : m ≡ parentOf op = hm ∙ sym (fields .parent) in
+          let g : j ≡ slotOf (nodeOf op) = hj ∙ ap slotOf node-so in
+          rw (hp, hl, hu, ek, em, g, node-so, slot-own w f i (x .is-structural) (x .in-slot))
 
 ---- what the code of the effects needs: search effects
 

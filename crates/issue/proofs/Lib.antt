@@ -1,1 +1,2 @@
 pub mod IssueCases
+pub mod OpeningCases

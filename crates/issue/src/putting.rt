@@ -44,7 +44,7 @@ fn put_out(buf: &mut [u8], replica: u8, draft: Draft, out: &mut [u8]) -> Answer
 }
 
 // Issues one op at a sound log: the tests from 9 on.
-pub fn issue_next(buf: &mut [u8], replica: u8, request: Request, out: &mut [u8]) -> Answer
+pub(crate) fn issue_next(buf: &mut [u8], replica: u8, request: Request, out: &mut [u8]) -> Answer
     requires { ⌜ Lent (now buf) (length (now out)) replica ⌝ }
     ensures { λ r. ⌜ record { answer = answerOf r; buffer = now (buf .exit); out = now (out .exit) }
         ≡ rules.issue width (now (buf .entry)) (now (out .entry)) replica (requestOf request) ⌝ }

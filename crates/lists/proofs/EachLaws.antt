@@ -25,6 +25,10 @@ each-at P [] d i h l = absurd (not-suc-le-zero l)
 each-at P (x ∷ xs) d zero h l = h .0
 each-at P (x ∷ xs) d (suc i) h l = each-at P xs d i (h .1) (le-of-suc-le-suc l)
 
+pub each-of : {A : Type 0} (P : A → Type 0) (xs : List A) (d : A) → ((i : ℕ) → i < length xs → P (getD xs i d)) → Each P xs
+each-of P [] d h = tt
+each-of P (x ∷ xs) d h = (h 0 (omega arith), each-of P xs d (λ i l. h (suc i) (omega arith)))
+
 pub each-map : {A : Type 0} (P Q : A → Type 0) (xs : List A) → ((x : A) → P x → Q x) → Each P xs → Each Q xs
 each-map P Q [] f h = tt
 each-map P Q (x ∷ xs) f h = (f x (h .0), each-map P Q xs f (h .1))
@@ -95,6 +99,12 @@ module _ {A : Type 0} (P : A → Type 0) where
   unfolding downFrom concat
   each-down F zero h = tt
   each-down F (suc n) h = each-append P (F (suc n)) _ (h (suc n)) (each-down F n h)
+
+-- of each number of a range
+pub each-range : (P : ℕ → Type 0) (n a : ℕ) → ((i : ℕ) → a ≤ i → i < a + n → P i) → Each P (upFrom a n)
+unfolding upFrom
+each-range P zero a h = tt
+each-range P (suc n) a h = (h a (le-refl a) (omega arith), each-range P n (suc a) (λ i l u. h i (omega arith) (omega arith)))
 
 -- what is kept of each, kept of all
 pub kept-children : (g : ℕ → Bool) (b : Bool) (F G : ℕ → List ℕ) (cs : List ℕ) → Each (λ c. F c ≡ cond (b && g c) (G c) []) cs

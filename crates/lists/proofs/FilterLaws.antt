@@ -1,6 +1,7 @@
 -- Laws of the elements that pass a test.
 use Rattle.lists.specs.Lists.{all, any, concat, downFrom, filter, upFrom}
 use Rattle.lists.proofs.BoolLaws.{and-left, and-right, never}
+use Rattle.lists.proofs.EachLaws.{Each}
 use Rattle.lists.proofs.RangeLaws.{concat-none, concat-nothing}
 use mathlib.Core.Bool.{Bool, _&&_, _||_, cond, false, true}
 use mathlib.Core.List.{List, [], _++_, _∷_, append-nil, map, map-append}
@@ -8,8 +9,8 @@ use Prim.Native.Nat.{_+_, _-_, _<_, _≤_, suc, zero, ℕ}
 use mathlib.Core.Path.{_∙_, _≡_, ap, refl, sym}
 use native.Mathlib.Nat.{add-zero, le-of-suc-le-suc, le-refl, not-suc-le-zero}
 use native.Mathlib.Omega.{arith}
-use borrow.Author.Tests.{eq-eqb, leb-true, ltb-false, ltb-true, ne-eqb}
-use lib.Dec.{eqb, leb, ltb}
+use borrow.Author.Tests.{eq-eqb, le-ltb, leb-true, lt-ltb, ltb-false, ltb-true, ne-eqb}
+use lib.Dec.{eqb, leb, leb·suc-suc, ltb}
 use lib.ListN.{getD, length, length-append, take}
 use native.Mathlib.Decide.{ℕ-discrete}
 
@@ -57,6 +58,39 @@ module _ {A : Type 0} (p : A → Bool) where
       go true q ih = omega (arith, ltb-true v (a + 0 + 1) (sym first ∙ q))
       go false q ih = omega (arith, ltb-false v (a + 0 + 1) (sym first ∙ q))
 
+-- an element that passes is left
+pub any-passes : {A : Type 0} (p : A → Bool) (xs : List A) → any p xs ≡ true → 1 ≤ length (filter p xs)
+unfolding filter any
+any-passes p [] e = never e
+any-passes p (x ∷ xs) e = go (p x) e (any-passes p xs)
+  where
+    go : (b : Bool) → (b || any p xs) ≡ true → (any p xs ≡ true → 1 ≤ length (filter p xs))
+        → 1 ≤ length (cond b (x ∷ filter p xs) (filter p xs))
+    go true e ih = omega arith
+    go false e ih = ih e
+
+pub filter-alike : {A : Type 0} (p q : A → Bool) (xs : List A) → Each (λ x. p x ≡ q x) xs → filter p xs ≡ filter q xs
+unfolding filter
+filter-alike p q [] h = refl
+filter-alike p q (x ∷ xs) h = rw (h .0, filter-alike p q xs (h .1))
+
+pub filter-each : {A : Type 0} (p : A → Bool) (xs : List A) → Each (λ x. p x ≡ true) xs → filter p xs ≡ xs
+unfolding filter
+filter-each p [] h = refl
+filter-each p (x ∷ xs) h = rw (h .0, filter-each p xs (h .1))
+
+pub filter-swap : {A : Type 0} (p q : A → Bool) (xs : List A) → filter p (filter q xs) ≡ filter q (filter p xs)
+unfolding filter
+filter-swap p q [] = refl
+filter-swap p q (x ∷ xs) = go (p x) refl (q x) refl (filter-swap p q xs)
+  where
+    go : (b : Bool) → p x ≡ b → (c : Bool) → q x ≡ c → filter p (filter q xs) ≡ filter q (filter p xs)
+        → filter p (cond c (x ∷ filter q xs) (filter q xs)) ≡ filter q (cond b (x ∷ filter p xs) (filter p xs))
+    go true e true f ih = rw (e, f, ih)
+    go true e false f ih = rw (f, ih)
+    go false e true f ih = rw (e, ih)
+    go false e false f ih = ih
+
 pub filter-map : {A B : Type 0} (p : B → Bool) (h : A → B) (xs : List A) → filter p (map h xs) ≡ map h (filter (λ x. p (h x)) xs)
 unfolding filter
 filter-map p h [] = refl
@@ -87,6 +121,21 @@ module _ {A B : Type 0} (p : B → Bool) (h : A → B) (d : A) where
   filter-one (suc n) (suc j) (x ∷ xs) hn hl e =
       rw (e 0 (omega arith) (omega arith) (λ z. omega arith)) (filter-one n j xs (le-of-suc-le-suc hn) (le-of-suc-le-suc hl)
       (λ i a l ne. e (suc i) (omega arith) (omega arith) (λ z. ne (omega arith))))
+
+  -- of m elements the first n pass, and no others
+  pub filter-front : (n m : ℕ) (xs : List A) → n ≤ m → ((i : ℕ) → i < m → i < length xs → p (h (getD xs i d)) ≡ ltb i n)
+      → filter p (map h (take m xs)) ≡ map h (take n xs)
+  unfolding filter
+  filter-front zero zero xs l e = refl
+  filter-front (suc n) zero xs l e = absurd (not-suc-le-zero l)
+  filter-front zero (suc m) [] l e = refl
+  filter-front (suc n) (suc m) [] l e = refl
+  filter-front zero (suc m) (x ∷ xs) l e =
+      rw (e 0 (omega arith) (omega arith)) (filter-front zero m xs (omega arith)
+      (λ i a b. e (suc i) (omega arith) (omega arith) ∙ le-ltb (suc i) 0 (omega arith) ∙ sym (le-ltb i 0 (omega arith))))
+  filter-front (suc n) (suc m) (x ∷ xs) l e =
+      rw (e 0 (omega arith) (omega arith), lt-ltb 0 (suc n) (omega arith)) (ap (_∷_ (h x)) (filter-front n m xs (le-of-suc-le-suc l)
+      (λ i a b. e (suc i) (omega arith) (omega arith) ∙ leb·suc-suc (suc i) n)))
 
 module _ {A B : Type 0} (p : B → Bool) (h : A → B) (F : ℕ → List A) where
   filter-parts-none : (n a : ℕ) → ((s : ℕ) → a ≤ s → s < a + n → filter p (map h (F s)) ≡ [])
@@ -165,7 +214,7 @@ none-from p (suc n) a h =
     let e : p a ≡ false = rw (← add-zero a) (h 0 (omega arith)) in
     rw e (none-from p n (suc a) (λ i l. let q : suc a + i ≡ a + suc i = omega arith in rw q (h (suc i) (omega arith))))
 
-pub filter-length : (p : ℕ → Bool) (xs : List ℕ) → length (filter p xs) ≤ length xs
+pub filter-length : {A : Type 0} (p : A → Bool) (xs : List A) → length (filter p xs) ≤ length xs
 unfolding filter
 filter-length p [] = omega arith
 filter-length p (x ∷ xs) = go (p x) (filter-length p xs)
@@ -173,6 +222,17 @@ filter-length p (x ∷ xs) = go (p x) (filter-length p xs)
     go : (b : Bool) → length (filter p xs) ≤ length xs → length (cond b (x ∷ filter p xs) (filter p xs)) ≤ suc (length xs)
     go true ih = omega arith
     go false ih = omega arith
+
+-- where none is dropped, all are left
+pub filter-full : {A : Type 0} (p : A → Bool) (xs : List A) → length xs ≤ length (filter p xs) → filter p xs ≡ xs
+unfolding filter
+filter-full p [] h = refl
+filter-full p (x ∷ xs) h = go (p x) h (filter-full p xs)
+  where
+    go : (b : Bool) → suc (length xs) ≤ length (cond b (x ∷ filter p xs) (filter p xs))
+        → (length xs ≤ length (filter p xs) → filter p xs ≡ xs) → cond b (x ∷ filter p xs) (filter p xs) ≡ x ∷ xs
+    go true h ih = ap (_∷_ x) (ih (le-of-suc-le-suc h))
+    go false h ih = absurd (omega (arith, filter-length p xs))
 
 pub filter-both : {A : Type 0} (p q : A → Bool) (xs : List A) → filter (λ x. p x && q x) xs ≡ filter q (filter p xs)
 unfolding filter

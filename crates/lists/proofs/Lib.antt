@@ -3,7 +3,7 @@ pub mod NumberLaws
 pub mod AllLaws
 pub mod ListLaws
 pub mod RangeLaws
+pub mod EachLaws
 pub mod FilterLaws
 pub mod GreatestLaws
-pub mod EachLaws
 pub mod MemberLaws

@@ -91,6 +91,16 @@ pub map-map : {A B C : Type 0} (f : B → C) (g : A → B) (xs : List A) → map
 map-map f g [] = refl
 map-map f g (x ∷ xs) = ap (λ ys. f (g x) ∷ ys) (map-map f g xs)
 
+pub map-take : {A B : Type 0} (g : A → B) (n : ℕ) (ys : List A) → map g (take n ys) ≡ take n (map g ys)
+map-take g zero ys = refl
+map-take g (suc n) [] = refl
+map-take g (suc n) (y ∷ ys) = ap (_∷_ (g y)) (map-take g n ys)
+
+pub map-drop : {A B : Type 0} (g : A → B) (n : ℕ) (ys : List A) → map g (drop n ys) ≡ drop n (map g ys)
+map-drop g zero ys = refl
+map-drop g (suc n) [] = refl
+map-drop g (suc n) (y ∷ ys) = map-drop g n ys
+
 ---- parts and stores
 
 pub no-length : {A : Type 0} (xs : List A) → length xs ≡ 0 → xs ≡ []

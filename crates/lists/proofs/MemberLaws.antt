@@ -2,6 +2,7 @@
 use Rattle.lists.specs.Lists.{any, concat, filter, indexOf, isIn}
 use Rattle.lists.proofs.NumberLaws.{mul-step, pigeonhole}
 use Rattle.lists.proofs.BoolLaws.{never, or-cases}
+use Rattle.lists.proofs.EachLaws.{Each}
 use mathlib.Core.Bool.{Bool, _||_, cond, false, or-true, true}
 use mathlib.Core.List.{List, [], _++_, _∷_, map}
 use Prim.Native.Nat.{_*_, _+_, _<_, _≤_, suc, zero, ℕ}
@@ -51,6 +52,12 @@ isIn-there y x xs e = rw (e, or-true)
 pub isIn-cons : (y x : ℕ) (xs : List ℕ) → isIn y (x ∷ xs) ≡ true → (y ≡ x) ⊎ (isIn y xs ≡ true)
 unfolding isIn any
 isIn-cons y x xs e = ⊎-elim (λ w. inl (eqb-true y x w)) (λ w. inr w) (or-cases (eqb y x) _ e)
+
+-- a fact of every element
+pub each-in : (P : ℕ → Type 0) (xs : List ℕ) → Each P xs → (y : ℕ) → isIn y xs ≡ true → P y
+unfolding isIn any
+each-in P [] h y e = never e
+each-in P (x ∷ xs) h y e = ⊎-elim (λ (z : y ≡ x). rw z (h .0)) (λ (z : isIn y xs ≡ true). each-in P xs (h .1) y z) (isIn-cons y x xs e)
 
 pub isIn-at : (xs : List ℕ) (j : ℕ) → j < length xs → isIn (getD xs j 0) xs ≡ true
 isIn-at [] j h = absurd (not-suc-le-zero h)

@@ -2,13 +2,14 @@
 use Rattle.lists.specs.Lists.{all, concat, downFrom, sum, upFrom}
 use Rattle.lists.proofs.BoolLaws.{and-left, and-right, never}
 use mathlib.Core.Bool.{Bool, _&&_, false, true}
-use mathlib.Core.List.{List, [], _++_, _∷_, append-nil, foldl, map}
+use mathlib.Core.List.{List, [], _++_, _∷_, append-nil, foldl, map, map-append}
 use Prim.Native.Nat.{_*_, _+_, _-_, _<_, _≤_, suc, zero, ℕ}
 use mathlib.Core.Path.{_∙_, _≡_, ap, ap₂, refl, sym}
 use native.Mathlib.Nat.{add-suc, add-zero, le-refl, mul-suc, mul-zero, suc-add, zero-add}
 use native.Mathlib.Numerals.{add-one}
 use native.Mathlib.Omega.{arith}
-use lib.ListN.{getD, length}
+use lib.ListN.{drop, getD, length, length-map, take}
+use lib.Seq.{drop-at, take-at}
 use lib.Arith.{lt-of-le-ne}
 use native.Mathlib.Decide.{decLt, ℕ-discrete}
 
@@ -24,6 +25,11 @@ pub upFrom-add : (a m n : ℕ) → upFrom a (m + n) ≡ upFrom a m ++ upFrom (a 
 unfolding upFrom
 upFrom-add a zero n = rw (zero-add, add-zero)
 upFrom-add a (suc m) n = rw (suc-add, upFrom-add (suc a) m n, suc-add, add-suc)
+
+length-up : (a n : ℕ) → length (upFrom a n) ≡ n
+unfolding upFrom
+length-up a zero = refl
+length-up a (suc n) = ap suc (length-up (suc a) n)
 
 pub map-upFrom : {A : Type 0} (f g : ℕ → A) (n a : ℕ) → ((i : ℕ) → a ≤ i → i < a + n → f i ≡ g i) → map f (upFrom a n) ≡ map g (upFrom a n)
 unfolding upFrom
@@ -121,6 +127,23 @@ module _ {A : Type 0} (F : ℕ → List A) where
         rw (e (suc n) (omega arith) (le-refl _) (λ w. omega arith) (λ w. omega arith))
         (two-down n hi lo l h (omega arith) (λ r a b. e r a (omega arith)))
   ]
+
+-- the places before i, and those from i on
+module _ {A : Type 0} (g : ℕ → A) (n i : ℕ) (h : i ≤ n) where
+  split : map g (upFrom 0 n) ≡ map g (upFrom 0 i) ++ map g (upFrom i (n - i))
+  split =
+      let e : n ≡ i + (n - i) = omega arith in
+      let z : 0 + i ≡ i = omega arith in
+      ap (λ (m : ℕ). map g (upFrom 0 m)) e ∙ rw (upFrom-add 0 i (n - i), map-append, z)
+
+  size : length (map g (upFrom 0 i)) ≡ i
+  size = length-map (upFrom 0 i) g ∙ length-up 0 i
+
+  pub take-places : take i (map g (upFrom 0 n)) ≡ map g (upFrom 0 i)
+  take-places = rw split (take-at (map g (upFrom 0 i)) (map g (upFrom i (n - i))) i size)
+
+  pub drop-places : drop i (map g (upFrom 0 n)) ≡ map g (upFrom i (n - i))
+  drop-places = rw split (drop-at (map g (upFrom 0 i)) (map g (upFrom i (n - i))) i size)
 
 ---- what is left of a fold over the numbers below n, or from n down, with those before k passed
 

@@ -19,4 +19,8 @@ pub mod RemoveLaws
 pub mod WorkLaws
 pub mod TreePathLaws
 pub mod ViewLaws
+pub mod PartLaws
+pub mod SlotLaws
+pub mod UndoLaws
+pub mod CarryLaws
 pub mod ClaimTheorems

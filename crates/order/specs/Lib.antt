@@ -1,3 +1,4 @@
 pub mod Levels
 pub mod Placing
 pub mod Claims
+pub mod Undo

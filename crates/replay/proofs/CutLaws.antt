@@ -11,15 +11,16 @@ use Rattle.lists.proofs.RangeLaws.{fold-places}
 use Rattle.rules.specs.Op.{Vector}
 use Rattle.rules.specs.File.{logOf, headerCounts}
 use Rattle.rules.specs.Log.{structural, soundHeader}
-use Rattle.rules.specs.Tree.{slots, noParent}
+use Rattle.rules.specs.Tree.{mostOps, slots, noParent}
 use Rattle.rules.specs.Replay.{State, ordered, outcomesOf, parentsOf, replay, start, step}
 use Rattle.rules.proofs.FileLaws.{counts-logOf}
 use Rattle.rules.proofs.StructureLaws.{laid-reads, structural-laid}
 use Rattle.oplog.proofs.HeaderLaws.{laid-header}
 use Rattle.effect.specs.Effects.{tables}
-use Rattle.schedule.specs.Schedule.{mostOps, schedule, scheduled}
+use Rattle.schedule.specs.Schedule.{schedule, scheduled}
 use Rattle.schedule.specs.Level.{SchedulableCut}
-use Rattle.schedule.proofs.OrderLaws.{count-is, entered, few-ops, noOp}
+use Rattle.schedule.proofs.OrderLaws.{count-is, entered, few-ops}
+use Rattle.order.specs.Undo.{noOp}
 use Rattle.replay.specs.Tables.{Along, ReplayableCut, appliedAlong, opAlong}
 use Rattle.oplog.proofs.HeldLaws.{whole-held, whole-closed}
 

@@ -1,40 +1,21 @@
--- The tests 1, 2 and 3 of issuing.
+-- The test 1 of issuing.
 use mathlib.Core.Path.{_≡_}
-use mathlib.Core.Bool.{true, false}
+use mathlib.Core.Bool.{false}
 use mathlib.Core.List.{List}
-use Prim.Native.Nat.{ℕ, _≤_, _<_}
+use Prim.Native.Nat.{ℕ}
 use lib.ListN.{length}
 use borrow.Author.Needs.{needs}
-use borrow.Author.Tests.{lt-leb, le-leb}
-use Rattle.rules.specs.Answer.{Answer, refused, require}
-use Rattle.rules.specs.Issue.{Request, Issued, issueAnswer, issueBuffer, issueOut}
+use Rattle.rules.specs.Answer.{refused, require}
+use Rattle.rules.specs.Issue.{Request, issueAnswer, issueBuffer, issueOut}
 use Rattle.rules.specs.File.{width}
-use Rattle.rules.specs.Op.{isReplica}
 use Rattle.rules.specs.Sound.{sound}
 use Rattle.lists.proofs.BoolLaws.{tested}
-use Rattle.issue.specs.Issuing.{Lent}
 use Rattle.rules.specs.Issue as rules
 
--- what a call hands back
-abbrev handed : Answer → (buffer out : List ℕ) → Issued
-handed a b o = record { answer = a; buffer = b; out = o }
-
-module _ (f out : List ℕ) (s : ℕ) (q : Request) where
-  pub issue-unsound : sound width f ≡ false → handed (refused 1) f out ≡ rules.issue width f out s q
-  unfolding issueAnswer issueBuffer issueOut require
-  issue-unsound e = rw e
-
-  module _ (a : sound width f ≡ true) where
-    pub issue-short : length out < width → handed (refused 2) f out ≡ rules.issue width f out s q
-    unfolding issueAnswer issueBuffer issueOut require
-    issue-short h = rw (a, lt-leb width (length out) h)
-
-    pub no-replica : width ≤ length out → isReplica s ≡ false → handed (refused 3) f out ≡ rules.issue width f out s q
-    unfolding issueAnswer issueBuffer issueOut require
-    no-replica b e = rw (a, le-leb width (length out) b, e)
-
-pub lent : (f : List ℕ) (room s : ℕ) → sound width f ≡ true → width ≤ room → isReplica s ≡ true → Lent f room s
-lent f room s a b e = record { issuer = record { is-sound = a; is-replica = e }; space = b }
+pub issue-unsound : (f out : List ℕ) (s : ℕ) (q : Request) → sound width f ≡ false
+    → record { answer = refused 1; buffer = f; out = out } ≡ rules.issue width f out s q
+unfolding issueAnswer issueBuffer issueOut require
+issue-unsound f out s q e = rw e
 
 ---- what the code of issuing needs: search issuing
-pub ruleset issuing = (needs, tested, lent, issue-unsound, issue-short, no-replica)
+pub ruleset issuing = (needs, tested, issue-unsound)

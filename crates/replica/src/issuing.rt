@@ -1,26 +1,14 @@
 use codec::Answer;
 use codec::Refusal;
-use issue::issue_next;
+use issue::issue_sound;
 use request::Request;
-use soundness::WIDTH;
 use soundness::is_sound;
 ghost use mathlib.Core.Path.{_≡_};
 ghost use Rattle.rules.specs.Issue.{add, remove, move};
 ghost use Rattle.rules.specs.File.{width};
-ghost use Rattle.rules.specs.Op.{isReplica};
 ghost use Rattle.codec.specs.Answers.{answerOf};
 ghost use Rattle.request.specs.Requests.{requestOf};
 ghost use Rattle.rules.specs.Issue as rules;
-
-// Whether a number is a replica's.
-fn is_replica(s: u8) -> bool
-    ensures { λ r. ⌜ r ≡ isReplica s ⌝ }
-{
-    if s < 1 {
-        return false;
-    }
-    s <= 8
-}
 
 // Issues what is asked for.
 fn issue(buf: &mut [u8], replica: u8, request: Request, out: &mut [u8]) -> Answer
@@ -30,13 +18,7 @@ fn issue(buf: &mut [u8], replica: u8, request: Request, out: &mut [u8]) -> Answe
     if !is_sound(buf) {
         return Answer::Refused(Refusal::Unsound);
     }
-    if out.len() < WIDTH {
-        return Answer::Refused(Refusal::Length);
-    }
-    if !is_replica(replica) {
-        return Answer::Refused(Refusal::Malformed);
-    }
-    issue_next(buf, replica, request, out)
+    issue_sound(buf, replica, request, out)
 }
 
 // Issues an add of a new node under a parent.

@@ -6,7 +6,7 @@ use lib.ListN.{length, drop}
 use lib.Dec.{leb, eqb}
 use Rattle.rules.specs.Answer.{Answer, hadIt, accepted, require, ifAccepted}
 use Rattle.lists.specs.Lists.{same}
-use Rattle.rules.specs.Op.{Op, countIn, replicaOf, vectorOf, seqOf, wellFormed}
+use Rattle.rules.specs.Op.{Op, replicaOf, vectorOf, seqOf, counted, wellFormed}
 use Rattle.rules.specs.File.{Log, emptyLog, opAt, countsOf, fileEnd, logOf, fileOf, appended}
 use Rattle.rules.specs.Log.{covered, closed, namesKnown}
 use Rattle.rules.specs.Sound.{sound}
@@ -31,7 +31,7 @@ make w f = record { answer = makeAnswer f; buffer = makeBuffer w f }
 
 -- the log has an op of this replica and sequence
 unfoldable pub isHeld : Log → Op → Bool
-isHeld log r = leb (seqOf r) (countIn (countsOf log) (replicaOf r))
+isHeld log r = counted (countsOf log) r
 
 -- "same bytes: answer had it; else 4"
 unfoldable pub heldAnswer : Log → Op → Answer

@@ -49,6 +49,10 @@ ownCount r = countIn (vectorOf r) (replicaOf r)
 unfoldable pub seqOf : Op → ℕ
 seqOf r = ownCount r + 1
 
+-- a vector counts an op
+abbrev pub counted : Vector → Op → Bool
+counted v r = leb (seqOf r) (countIn v (replicaOf r))
+
 -- the node that replica s's op q makes, if it is an add: 256 x seat + sequence
 unfoldable pub nodeNumber : ℕ → ℕ → ℕ
 nodeNumber s q = 256 * s + q

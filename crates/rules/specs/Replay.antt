@@ -84,6 +84,10 @@ start = record {
 unfoldable pub outcomeSlot : Op → ℕ
 outcomeSlot r = slot (replicaOf r) (seqOf r)
 
+-- the judging order of a cut as slots
+unfoldable pub orderOf : Log → Vector → List ℕ
+orderOf log cut = map (λ (x : Stamped). outcomeSlot (x .op)) (ordered log cut)
+
 -- 1 applied; a move: 2 "if an applied move of the same stamp already placed its node", else 3 "if the new parent is
 -- the node or lies below it"
 unfoldable pub outcomeOf : State → Stamped → ℕ

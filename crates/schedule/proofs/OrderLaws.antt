@@ -17,8 +17,8 @@ use Rattle.lists.proofs.ListLaws.{map-at, map-concat, map-map, stores, stores-a
 use Rattle.rules.specs.Op.{countIn, kindOf, replicaOf, seqOf, Op, Vector}
 use Rattle.rules.specs.File.{Log, logOf, opAt, countsOf, within}
 use Rattle.rules.specs.Log.{structural, closed, covered}
-use Rattle.rules.specs.Replay.{Stamped, outcomeSlot, ordered, stamp}
-use Rattle.rules.specs.Tree.{slot, slots}
+use Rattle.rules.specs.Replay.{Stamped, outcomeSlot, ordered, orderOf, stamp}
+use Rattle.rules.specs.Tree.{slot, slots, mostOps}
 use Rattle.rules.proofs.CausalLaws.{within-le, le-within, total-small, within-length}
 use Rattle.rules.proofs.FileLaws.{count-map, vector-eta}
 use Rattle.rules.proofs.KnownLaws.{kinds}
@@ -28,12 +28,13 @@ use Rattle.vector.proofs.VectorLaws.{length-eight}
 use Rattle.order.specs.Levels.{levelKind, advancedAt, readyOp, level, levels, readyOps, nothing, advanced}
 use Rattle.order.proofs.LevelLaws.{Cut, count-nothing, ordered-levels}
 use Rattle.order.proofs.OnceLaws.{ordered-length}
+use Rattle.order.specs.Undo.{noOp}
 use Rattle.order.proofs.OrderLaws.{ordered-each}
 use Rattle.oplog.specs.Places.{Held}
 use Rattle.oplog.proofs.FieldLaws.{counts-in, in-file-of, small}
 use Rattle.oplog.proofs.HeldLaws.{held-op, count-small}
 use Rattle.tree.specs.Slots.{InSlot, opIn, replicaIn, sequenceIn}
-use Rattle.schedule.specs.Schedule.{Entry, Schedule, entryOf, mostOps, put, schedule, scheduled}
+use Rattle.schedule.specs.Schedule.{Entry, Schedule, entryOf, put, schedule, scheduled}
 use Rattle.schedule.specs.Level.{Room, SchedulableCut, classAt, classEntries, classesOf, dueEntry, levelEntries}
 use Rattle.schedule.proofs.ReadyLaws.{next-held}
 use Rattle.schedule.proofs.ClassLaws.{class-is}
@@ -137,7 +138,7 @@ front-stores xs t h = let z : 0 + length xs ≡ length xs = omega arith in store
 module _ (log : Log) (cut : Vector) (o t : List ℕ) where
   entries-scheduled : length (ordered log cut) ≤ length o → length (ordered log cut) ≤ length t
       → foldl put (schedule o t 0) (map entryOf (ordered log cut)) ≡ scheduled log cut o t
-  unfolding scheduled entryOf
+  unfolding scheduled entryOf orderOf
   entries-scheduled ho ht =
       let xs = ordered log cut in
       let z : 0 + length (map entryOf xs) ≡ length xs = omega (arith, length-map xs entryOf) in
@@ -240,9 +241,6 @@ slot-back : (s q : ℕ) → 1 ≤ s → 1 ≤ q → q ≤ 255 → (replicaIn (sl
 unfolding slot
 slot-back s q ls lq uq = (omega arith, omega arith, omega arith)
 
-abbrev pub noOp : Stamped
-noOp = record { time = 0; op = [] }
-
 module _ (w : ℕ) (f : List ℕ) (cut : Vector) where
   -- an op has its slot in the file
   record Slotted (x : Stamped) : Type 0 where
@@ -270,7 +268,7 @@ module _ (w : ℕ) (f : List ℕ) (cut : Vector) where
     count-is = ap (λ (x : Schedule). x .count) is
 
     pub entered : structural w f ≡ true → Held w f cut → (i : ℕ) → i < n → Entered o t i
-    unfolding scheduled outcomeSlot
+    unfolding scheduled orderOf outcomeSlot
     entered st h i l =
         let xs = ordered (logOf w f) cut in
         let short : i < length xs = omega (arith, count-is) in

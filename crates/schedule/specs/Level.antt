@@ -9,9 +9,9 @@ use Rattle.lists.specs.Lists.{concat, upFrom, downFrom}
 use Rattle.rules.specs.Op.{Vector, replicas, countIn, kindOf}
 use Rattle.rules.specs.File.{Log, logOf, opAt}
 use Rattle.rules.specs.Log.{structural, closed}
-use Rattle.rules.specs.Tree.{slot}
+use Rattle.rules.specs.Tree.{slot, mostOps}
 use Rattle.oplog.specs.Places.{Held}
-use Rattle.schedule.specs.Schedule.{Entry, mostOps}
+use Rattle.schedule.specs.Schedule.{Entry}
 
 ---- what is ready
 

@@ -4,11 +4,7 @@ use mathlib.Core.List.{List, _++_, map}
 use lib.ListN.{length, drop, set}
 use Rattle.rules.specs.Op.{Vector}
 use Rattle.rules.specs.File.{Log}
-use Rattle.rules.specs.Replay.{Stamped, outcomeSlot, ordered}
-
--- the most ops that a log has: 255 of each of the eight replicas
-abbrev pub mostOps : ℕ
-mostOps = 2040
+use Rattle.rules.specs.Replay.{Stamped, outcomeSlot, ordered, orderOf}
 
 -- an op, by its slot and its timestamp
 pub record Entry : Type 0 where
@@ -40,7 +36,7 @@ unfoldable pub scheduled : Log → Vector → (order times : List ℕ) → Sched
 scheduled log cut o t =
     let xs = ordered log cut in
     record {
-      order = map (λ (x : Stamped). outcomeSlot (x .op)) xs ++ drop (length xs) o;
+      order = orderOf log cut ++ drop (length xs) o;
       times = map (λ (x : Stamped). x .time) xs ++ drop (length xs) t;
       count = length xs;
     }

@@ -1,5 +1,4 @@
 -- `replica::issuing::issue` meets its contract.
-use borrow.Author.Needs.{needs}
 use Rattle.replica.proofs.IssueCases.{issuing}
 use Rattle.replica.proofs.issuing.issue.Statement.{statement}
 use Rattle.replica.proofs.issuing.issue.Tie as tie
@@ -8,15 +7,10 @@ pub issue-spec : {M : Type 1} → statement M
 issue-spec =
     tie.close
     (tie.spec
-    (λ c κs. search needs)
-    (λ c. search needs)
+    (λ c κs. search issuing)
     (λ c. search issuing)
-    (λ c. search needs)
-    (λ c. search issuing)
-    (λ c κs. search needs)
-    (λ c. search needs)
     (λ c. search issuing)
     (λ c κs. search issuing)
-    (λ c. search needs)
-    (λ c. search needs)
-    (λ c. search needs))
+    (λ c. search issuing)
+    (λ c. search issuing)
+    (λ c. search issuing))

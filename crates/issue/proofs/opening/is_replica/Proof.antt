@@ -1,8 +1,8 @@
--- `replica::issuing::is_replica` meets its contract.
+-- `issue::opening::is_replica` meets its contract.
 use borrow.Author.Tests.{lt-leb, le-leb}
 use Rattle.rules.specs.Op.{isReplica}
-use Rattle.replica.proofs.issuing.is_replica.Statement.{statement}
-use Rattle.replica.proofs.issuing.is_replica.Tie as tie
+use Rattle.issue.proofs.opening.is_replica.Statement.{statement}
+use Rattle.issue.proofs.opening.is_replica.Tie as tie
 
 returns : tie.Need-returns
 unfolding isReplica
