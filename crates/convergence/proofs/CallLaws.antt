@@ -10,7 +10,7 @@ use Rattle.rules.specs.Op.{Op}
 use Rattle.rules.specs.File.{logOf, fileEnd, appended, width}
 use Rattle.rules.specs.Answer.{Answer, refused, hadIt, waiting, done, accepted, ifAccepted}
 use Rattle.rules.specs.Deliver.{makeAnswer, makeBuffer, deliverAnswer, deliverBuffer}
-use Rattle.rules.specs.Issue.{issued, issueAnswer, issueBuffer, issueOut}
+use Rattle.rules.specs.Issue.{Request, issued, issueAnswer, issueBuffer, issueOut}
 use Rattle.rules.specs.Bundle.{bodiesIn, unlessRefused, turnsAnswer, turnsBuffer, turnsTaken, openAnswer, openBuffer}
 use Rattle.rules.proofs.DeliverLaws.{if-not, required, accepted-same, Admitted, admitted, delivered, appended-end}
 use Rattle.rules.proofs.IssueLaws.{issue-admitted}
@@ -19,8 +19,10 @@ use Rattle.rules.specs.Holdback.{Look, found, none, look, searchOn, looks, sear
 use Rattle.rules.proofs.ReleaseLaws.{accepted-says, released-alike, answer-alike, after-alike}
 use Rattle.rules.proofs.SearchLaws.{look-found}
 use Rattle.rules.proofs.TurnLaws.{OneLog, one-end, turns-end, deliver-alike, turns-alike}
-use Rattle.convergence.specs.Exchange.{Call, make, issue, deliver, openBundle, deliverHoldback, Site, answer, bufferAfter, begun, added, Adds, reply, outAfter}
+use Rattle.convergence.specs.Exchange.{Call, make, issue, deliver, openBundle, deliverHoldback, deliverPage, issuePage, Site, answer, bufferAfter, begun, added, Adds, reply, outAfter, pageAfter, takenBack}
 use Rattle.convergence.specs.Lists.{CallsAdd}
+use Rattle.page_rules.specs.Page.{Page, deliverPageAnswer, issuePageAnswer, pageWith, takenWith, withPage}
+use Rattle.page_rules.proofs.FewLaws.{page-delivered, page-issued}
 
 ---- what a call adds
 
@@ -82,6 +84,11 @@ adds x (openBundle b) n e = rw e (turns-add (bodiesIn width b) (x .buffer) n (op
 adds x (deliverHoldback r h) n e =
     let y = accepted-says width (x .buffer) r h n e in
     rw e (y .first, y .takes, search-adds (deliverBuffer width (x .buffer) r) (holdbackOps width h))
+adds x (deliverPage r p) n e = rw e (adds-one (x .buffer) r n (page-delivered (x .buffer) r p n e))
+adds x (issuePage out s q p) n e =
+    let h = page-issued (x .buffer) out s q p n e in
+    let r : Op = issued (logOf width (x .buffer)) s q in
+    rw (e, take-at r (drop width out) width (h .long)) (adds-one (x .buffer) r n h)
 
 made : (f : List ℕ) (n : ℕ) → makeAnswer f ≡ accepted n → accepted 32 ≡ accepted n
 unfolding makeAnswer
@@ -95,6 +102,8 @@ ends f (issue out s q) n e = let h = issue-admitted f (length out) s q n e in rw
 ends f (deliver r) n e = let h = admitted width f r n e in rw e (appended-end width f r n h ∙ h .end)
 ends f (openBundle b) n e = rw e (turns-end width (bodiesIn width b) f n (opened f b n e))
 ends f (deliverHoldback r h) n e = rw e (accepted-says width f r h n e .end)
+ends f (deliverPage r p) n e = let h = page-delivered f r p n e in rw e (appended-end width f r n h ∙ h .end)
+ends f (issuePage out s q p) n e = let h = page-issued f out s q p n e in rw e (appended-end width f _ n h ∙ h .end)
 
 keeps : (f : List ℕ) (c : Call) → ifAccepted (answer f c) true false ≡ false → bufferAfter f c ≡ f
 unfolding answer bufferAfter makeBuffer issueBuffer deliverBuffer openBuffer holdbackBuffer
@@ -103,6 +112,8 @@ keeps f (issue out s q) e = if-not (issueAnswer width f (length out) s q) _ f e
 keeps f (deliver r) e = if-not (deliverAnswer width f r) _ f e
 keeps f (openBundle b) e = if-not (openAnswer width f b) _ f e
 keeps f (deliverHoldback r h) e = if-not (holdbackAnswer width f r h) _ f e
+keeps f (deliverPage r p) e = if-not (deliverPageAnswer width f r p) _ f e
+keeps f (issuePage out s q p) e = if-not (issuePageAnswer width f (length out) s q p) _ f e
 
 pub calls-add : CallsAdd
 calls-add = record { adds = adds; ends = ends; keeps = keeps }
@@ -116,6 +127,8 @@ begun-is P x (issue out s q) m k = k
 begun-is P x (deliver r) m k = k
 begun-is P x (openBundle b) m k = k
 begun-is P x (deliverHoldback r h) m k = k
+begun-is P x (deliverPage r p) m k = k
+begun-is P x (issuePage out s q p) m k = k
 
 pub begun-held : (x y : Site) (c : Call) → x .held ≡ y .held → begun x c .held ≡ begun y c .held
 unfolding begun
@@ -124,27 +137,58 @@ begun-held x y (issue out s q) e = e
 begun-held x y (deliver r) e = e
 begun-held x y (openBundle b) e = e
 begun-held x y (deliverHoldback r h) e = e
+begun-held x y (deliverPage r p) e = e
+begun-held x y (issuePage out s q p) e = e
 
 ---- the log and the buffer's length settle it
 
 -- making asks for the length alone
 pub make-alike : (f g : List ℕ) → length f ≡ length g → reply f make ≡ reply g make
-unfolding reply answer outAfter makeAnswer
+unfolding reply answer takenBack outAfter pageAfter makeAnswer
 make-alike f g e = rw e
 
 module _ (f g : List ℕ) (x : OneLog width f g) where
+  -- with a page, where the answer without it is one
+  module _ (p : Page) (r : Op) (a b : Answer) (e : a ≡ b) where
+    with-alike : withPage width f p a ≡ withPage width g p b
+    unfolding withPage
+    with-alike = rw (x .first, x .second, e)
+
+    taken-alike : takenWith width f p r (withPage width f p a) ≡ takenWith width g p r (withPage width g p b)
+    unfolding takenWith
+    taken-alike = rw (with-alike, x .log)
+
+    page-alike : pageWith width f p r (withPage width f p a) ≡ pageWith width g p r (withPage width g p b)
+    unfolding pageWith
+    page-alike = rw (with-alike, x .log)
+
+  issue-alike : (room s : ℕ) (q : Request) → issueAnswer width f room s q ≡ issueAnswer width g room s q
+  unfolding issueAnswer
+  issue-alike room s q = rw (x .first, x .second, one-end width f g (x .log), x .log, x .size)
+
   pub reply-alike : (c : Call) → reply f c ≡ reply g c
-  unfolding reply answer outAfter issueAnswer issueOut openAnswer
+  unfolding reply answer takenBack outAfter pageAfter issueOut openAnswer deliverPageAnswer issuePageAnswer
   reply-alike make = make-alike f g (x .size)
-  reply-alike (issue out s q) = rw (x .first, x .second, one-end width f g (x .log), x .log, x .size)
+  reply-alike (issue out s q) = rw (issue-alike (length out) s q, x .log)
   reply-alike (deliver r) = rw (deliver-alike width f g x r)
   reply-alike (openBundle b) = rw (x .first, x .second, turns-alike width (bodiesIn width b) f g x .0)
   reply-alike (deliverHoldback r h) = rw (answer-alike width f g x r h, after-alike width f g x r h)
+  reply-alike (deliverPage r p) =
+      let e = deliver-alike width f g x r in
+      rw (taken-alike p r _ _ e, page-alike p r _ _ e, with-alike p r _ _ e)
+  reply-alike (issuePage out s q p) =
+      let e = issue-alike (length out) s q in
+      let r : Op = issued (logOf width f) s q in
+      rw (← x .log, taken-alike p r _ _ e, page-alike p r _ _ e, with-alike p r _ _ e)
 
   pub added-alike : (c : Call) → added f c ≡ added g c
-  unfolding added issueOut issueAnswer holdbackTaken
+  unfolding added issueOut holdbackTaken issuePageAnswer
   added-alike make = refl
-  added-alike (issue out s q) = rw (x .first, x .second, one-end width f g (x .log), x .log, x .size)
+  added-alike (issue out s q) = rw (issue-alike (length out) s q, x .log)
   added-alike (deliver r) = refl
   added-alike (openBundle b) = turns-alike width (bodiesIn width b) f g x .1
+  added-alike (deliverPage r p) = refl
+  added-alike (issuePage out s q p) =
+      let e = issue-alike (length out) s q in
+      rw (← x .log, with-alike p (issued (logOf width f) s q) _ _ e)
   added-alike (deliverHoldback r h) = ap (λ (t : List Op). r ∷ t) (released-alike width f g x r h .same-taken)

@@ -14,6 +14,8 @@ use Rattle.rules.specs.Deliver.{makeAnswer, makeBuffer, deliverAnswer, deliverB
 use Rattle.rules.specs.Issue.{Request, issueAnswer, issueBuffer, issueOut}
 use Rattle.rules.specs.Bundle.{bodiesIn, turnsTaken, openAnswer, openBuffer}
 use Rattle.rules.specs.Holdback.{holdbackAnswer, holdbackBuffer, holdbackAfter, holdbackTaken}
+use Rattle.page_rules.specs.Page.{Page, page}
+use Rattle.page_rules.specs.Page as pages
 
 ---- a list of calls
 
@@ -25,6 +27,8 @@ pub data Call : Type 0 where
   deliver : (op : List ℕ) → Call
   openBundle : (bundle : List ℕ) → Call
   deliverHoldback : (op holdback : List ℕ) → Call
+  deliverPage : (op : List ℕ) (lent : Page) → Call
+  issuePage : (out : List ℕ) (replica : ℕ) → Request → (lent : Page) → Call
 
 -- a buffer, and the ops held there, in the order in which they were accepted
 pub record Site : Type 0 where
@@ -37,6 +41,8 @@ answer f (issue out s q) = issueAnswer width f (length out) s q
 answer f (deliver r) = deliverAnswer width f r
 answer f (openBundle b) = openAnswer width f b
 answer f (deliverHoldback r h) = holdbackAnswer width f r h
+answer f (deliverPage r p) = pages.deliverPage width f r p .answer
+answer f (issuePage out s q p) = pages.issuePage width f out s q p .answer
 
 unfoldable pub bufferAfter : List ℕ → Call → List ℕ
 bufferAfter f make = makeBuffer width f
@@ -44,6 +50,8 @@ bufferAfter f (issue out s q) = issueBuffer width f (length out) s q
 bufferAfter f (deliver r) = deliverBuffer width f r
 bufferAfter f (openBundle b) = openBuffer width f b
 bufferAfter f (deliverHoldback r h) = holdbackBuffer width f r h
+bufferAfter f (deliverPage r p) = pages.deliverPage width f r p .buffer
+bufferAfter f (issuePage out s q p) = pages.issuePage width f out s q p .buffer
 
 -- what an accepted call adds to: making begins with nothing held, every other call with what there was
 unfoldable pub begun : Site → Call → Site
@@ -52,16 +60,20 @@ begun x (issue out s q) = x
 begun x (deliver r) = x
 begun x (openBundle b) = x
 begun x (deliverHoldback r h) = x
+begun x (deliverPage r p) = x
+begun x (issuePage out s q p) = x
 
 -- the ops that an accepted call adds, in this order: the one that issuing put in the first lent bytes; the one that was delivered; the
 -- bodies of a bundle but those that are passed by; the one that was delivered with a holdback, and those that the search finds there,
--- whatever the holdback has
+-- whatever the holdback has; with a page the same as without, whatever the page has
 unfoldable pub added : List ℕ → Call → List Op
 added f make = []
 added f (issue out s q) = take width (issueOut width f out s q) ∷ []
 added f (deliver r) = r ∷ []
 added f (openBundle b) = turnsTaken width f (bodiesIn width b)
 added f (deliverHoldback r h) = holdbackTaken width f r h
+added f (deliverPage r p) = r ∷ []
+added f (issuePage out s q p) = take width (pages.issuePage width f out s q p .out) ∷ []
 
 unfoldable pub perform : Site → Call → Site
 perform x c = record {
@@ -82,10 +94,13 @@ lent f = record { buffer = f; held = [] }
 unfoldable pub run : List ℕ → List Call → Site
 run f calls = foldl perform (lent f) (make ∷ calls)
 
--- what a call hands back: its answer, and what it leaves in the bytes that it was lent for the op, or in the holdback
+-- what a call hands back: its answer, how many ops it took back, and what it leaves in the bytes that it was lent for the op, or in the
+-- holdback, and in the page
 pub record Reply : Type 0 where
   pub answer : Answer
+  pub taken : ℕ
   pub out : List ℕ
+  pub page : Page
 
 unfoldable pub outAfter : List ℕ → Call → List ℕ
 outAfter f make = []
@@ -93,9 +108,33 @@ outAfter f (issue out s q) = issueOut width f out s q
 outAfter f (deliver r) = []
 outAfter f (openBundle b) = []
 outAfter f (deliverHoldback r h) = holdbackAfter width f r h
+outAfter f (deliverPage r p) = []
+outAfter f (issuePage out s q p) = pages.issuePage width f out s q p .out
+
+unfoldable pub takenBack : List ℕ → Call → ℕ
+takenBack f make = 0
+takenBack f (issue out s q) = 0
+takenBack f (deliver r) = 0
+takenBack f (openBundle b) = 0
+takenBack f (deliverHoldback r h) = 0
+takenBack f (deliverPage r p) = pages.deliverPage width f r p .taken
+takenBack f (issuePage out s q p) = pages.issuePage width f out s q p .taken
+
+-- no page was lent
+abbrev noPage : Page
+noPage = page [] [] []
+
+unfoldable pub pageAfter : List ℕ → Call → Page
+pageAfter f make = noPage
+pageAfter f (issue out s q) = noPage
+pageAfter f (deliver r) = noPage
+pageAfter f (openBundle b) = noPage
+pageAfter f (deliverHoldback r h) = noPage
+pageAfter f (deliverPage r p) = pages.deliverPage width f r p .page
+pageAfter f (issuePage out s q p) = pages.issuePage width f out s q p .page
 
 unfoldable pub reply : List ℕ → Call → Reply
-reply f c = record { answer = answer f c; out = outAfter f c }
+reply f c = record { answer = answer f c; taken = takenBack f c; out = outAfter f c; page = pageAfter f c }
 
 unfoldable pub replies : Site → List Call → List Reply
 replies x [] = []

@@ -1,0 +1,31 @@
+-- `page::tables::order_shows` meets its contract.
+use Rattle.page.proofs.TableLaws.{tabling, Matched}
+use Prim.Native.Nat.{_-_}
+use lib.ListN.{take}
+use Rattle.rules.specs.Tree.{mostOps}
+use Rattle.page.specs.Tables.{without}
+use Rattle.page.proofs.tables.order_shows.Statement.{statement}
+use Rattle.page.proofs.tables.order_shows.Tie as tie
+
+abbrev Inv-loop : tie.InvT-loop
+Inv-loop lent order place j₀ j =
+    Matched (take mostOps lent) (without place order) mostOps j
+
+abbrev μ-loop : tie.MeasureT-loop
+μ-loop lent order place j₀ j = mostOps - j
+
+pub order-shows-spec : {M : Type 1} → statement M
+order-shows-spec =
+    tie.close
+    (tie.spec
+    Inv-loop
+    μ-loop
+    (λ c. search tabling)
+    (λ c. search tabling)
+    (λ c. search tabling)
+    (λ c κs. search tabling)
+    (λ c. search tabling)
+    (λ c. search tabling)
+    (λ c. search tabling)
+    (λ c. search tabling)
+    (λ c. search tabling))
