@@ -4,6 +4,7 @@ mod answer;
 mod bundles;
 mod calls;
 mod holdbacks;
+mod pages;
 
 pub use bundles::outline_bundle_make;
 pub use bundles::outline_bundle_open;
@@ -21,3 +22,7 @@ pub use calls::outline_make;
 pub use calls::outline_path;
 pub use calls::outline_version;
 pub use holdbacks::outline_holdback_deliver;
+pub use pages::outline_page_deliver;
+pub use pages::outline_page_issue_add;
+pub use pages::outline_page_issue_move;
+pub use pages::outline_page_issue_remove;

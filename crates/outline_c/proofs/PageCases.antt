@@ -1,0 +1,91 @@
+-- The numbers of calls with a page, as the code meets them.
+use Prim.Native.Nat.{ℕ, _+_, _*_, _≤_, _<_}
+use borrow.Author.Needs.{needs}
+use lib.ListN.{length}
+use mathlib.Core.List.{List}
+use mathlib.Core.Path.{_≡_, refl, ap, sym, _∙_}
+use native.Mathlib.Omega.{arith}
+use Rattle.codec.specs.Answers.{answerOf, numberOf}
+use Rattle.codec.specs.declared.answer.Answer.the-variants.{Refused, HadIt, Waiting, Done, Accepted}
+use Rattle.codec.specs.declared.answer.Refusal.{Refusal}
+use Rattle.codec.specs.declared.answer.Refusal.the-variants.{Unsound, Length, Malformed, Conflict, Early, NotClosed, Unknown, NoRoom, Exhausted, Cycle, Marked, BadBundle, HoldbackFull, BadHoldback}
+use Rattle.rules.specs.Answer.{Answer, accepted, refused, hadIt, waiting, done}
+use Rattle.rules.specs.File.{largest, width}
+use Rattle.rules.specs.Issue.{Request}
+use Rattle.rules.specs.Tree.{mostOps}
+use Rattle.page_rules.specs.Page.{Page, PageIssued, PageResult, deliverPage, issuePage, page}
+use Rattle.page_rules.proofs.FewLaws.{deliver-end, deliver-few, issue-end, issue-few}
+use Rattle.page.specs.Answers.{issuedOf, resultOf}
+use Rattle.page.specs.declared.answer.Paged.{Paged}
+use Rattle.outline_c.specs.Fits.{PageFits, fits}
+use Rattle.outline_c.specs.Number.{number, ofPage, ofPageIssued, pageNumber}
+use Rattle.codec.specs.declared.answer.Answer as code
+
+---- both parts are small
+
+few-refusals : (why : Refusal) → numberOf why ≤ 14
+few-refusals Unsound = omega arith
+few-refusals Length = omega arith
+few-refusals Malformed = omega arith
+few-refusals Conflict = omega arith
+few-refusals Early = omega arith
+few-refusals NotClosed = omega arith
+few-refusals Unknown = omega arith
+few-refusals NoRoom = omega arith
+few-refusals Exhausted = omega arith
+few-refusals Cycle = omega arith
+few-refusals Marked = omega arith
+few-refusals BadBundle = omega arith
+few-refusals HoldbackFull = omega arith
+few-refusals BadHoldback = omega arith
+
+low-number : (a : code.Answer) → ((n : ℕ) → answerOf a ≡ accepted n → n ≤ largest width) → number (answerOf a) < 65536
+unfolding number
+low-number (Refused why) h = omega (arith, few-refusals why)
+low-number HadIt h = omega arith
+low-number Waiting h = omega arith
+low-number Done h = omega arith
+low-number (Accepted n) h = omega (arith, h n refl)
+
+module _ (r : Paged) (f : List ℕ) (lent after : Page) (b : List ℕ) where
+  pub delivered-pages : (op : List ℕ) → resultOf r b after ≡ deliverPage width f op lent → PageFits (answerOf (r .answer)) (r .taken)
+  delivered-pages op e = record {
+    low = low-number (r .answer) (λ n z. deliver-end f op lent n (sym (ap (λ (x : PageResult). x .answer) e) ∙ z));
+    few = rw (ap (λ (x : PageResult). x .taken) e) (deliver-few f op lent);
+  }
+
+  pub issued-pages : (out o : List ℕ) (s : ℕ) (q : Request) → issuedOf r b o after ≡ issuePage width f out s q lent
+      → PageFits (answerOf (r .answer)) (r .taken)
+  issued-pages out o s q e = record {
+    low = low-number (r .answer) (λ n z. issue-end f out s q lent n (sym (ap (λ (x : PageIssued). x .answer) e) ∙ z));
+    few = rw (ap (λ (x : PageIssued). x .taken) e) (issue-few f out s q lent);
+  }
+
+---- what is handed over
+
+module _ (a : Answer) (t : ℕ) (x : PageFits a t) where
+  pub answer-fits : fits a
+  unfolding fits number
+  answer-fits = go a (x .low)
+    where
+      go : (a : Answer) → number a < 65536 → fits a
+      go (refused n) h = tt
+      go hadIt h = tt
+      go waiting h = tt
+      go done h = tt
+      go (accepted n) h = omega arith
+
+  pub page-sum : (n : ℕ) → n ≡ number a → n + 65536 * t ≡ pageNumber a t
+  unfolding pageNumber
+  page-sum n is = rw is
+
+module _ (r : Paged) (n : ℕ) (is : n ≡ pageNumber (answerOf (r .answer)) (r .taken)) where
+  pub page-over : (b : List ℕ) (p : Page) (x : PageResult) → resultOf r b p ≡ x → (n, b, p) ≡ ofPage x
+  page-over b p x e = rw is (ap ofPage e)
+
+  pub page-issued-over : (b o : List ℕ) (p : Page) (x : PageIssued) → issuedOf r b o p ≡ x → (n, b, o, p) ≡ ofPageIssued x
+  page-issued-over b o p x e = rw is (ap ofPageIssued e)
+
+---- what the code of pages needs: search paging
+
+pub ruleset paging = (needs, delivered-pages, issued-pages, answer-fits, page-sum, page-over, page-issued-over)
