@@ -1,3 +1,4 @@
+use crate::pages;
 use crate::print::memory;
 use crate::print::memory_front;
 use crate::print::number;
@@ -28,7 +29,7 @@ fn accepted(n: usize) {
     number(n);
 }
 
-fn answered(answer: Answer) {
+pub fn answered(answer: Answer) {
     match answer {
         Answer::Refused(why) => refused(why),
         Answer::HadIt => text(b"h"),
@@ -335,7 +336,8 @@ fn dispatch(call: u8, line: &[u8], lent: &mut [u8]) {
         12 => open_bundle(lent, &line[1..]),
         13 => deliver_holdback(lent, line),
         14 => climb(lent, line),
-        0 | 10 | 15..=255 => loaded(lent),
+        15..=18 => pages::run(lent, line),
+        0 | 10 | 19..=255 => loaded(lent),
     }
 }
 

@@ -1,6 +1,7 @@
 // Runs the cases of model/ (its README has the grammar): one call a line on standard input, its
 // answer and the lent bytes after it on standard output.
 mod calls;
+mod pages;
 mod print;
 
 use calls::run;
