@@ -8,10 +8,12 @@ pub mod examples;
 mod holdback;
 mod issue;
 mod judge;
+mod page;
 mod view;
 pub mod world;
 
 use crate::script::{Case, Machine};
+use crate::Tables;
 
 /// Cases with the lines to print for them.
 #[derive(Default)]
@@ -75,6 +77,17 @@ impl Script {
         self.push(Case::Climb(parent, node))
     }
 
+    /// Delivers with such a page.
+    pub fn deliver_page(&mut self, op: &[u8], page: &Tables) -> &str {
+        self.push(Case::DeliverPage(op.to_vec(), page.clone()))
+    }
+
+    /// Delivers with the page as the last call with one left it.
+    pub fn deliver_on(&mut self, op: &[u8]) -> &str {
+        let page = self.page().clone();
+        self.push(Case::DeliverPage(op.to_vec(), page))
+    }
+
     pub fn buffer(&self) -> &[u8] {
         &self.machine.buffer
     }
@@ -82,6 +95,11 @@ impl Script {
     /// What the last delivery with a holdback left there.
     pub fn holdback(&self) -> &[u8] {
         &self.machine.holdback
+    }
+
+    /// What the last call with a page left in its tables.
+    pub fn page(&self) -> &Tables {
+        &self.machine.page
     }
 
     /// Adds the cases of a section; false if there is none of this name.
@@ -94,6 +112,7 @@ impl Script {
             "bundle" => bundle::write(self),
             "holdback" => holdback::write(self),
             "climb" => climb::write(self),
+            "page" => page::write(self),
             _ => return false,
         }
         true

@@ -11,6 +11,7 @@ pub mod cases;
 pub mod holdback;
 pub mod log;
 pub mod op;
+pub mod page;
 pub mod rng;
 pub mod script;
 pub mod tree;
@@ -23,6 +24,9 @@ pub use calls::{
 pub use holdback::{deliver_holdback, HOLDBACK_LEN, HOLDBACK_PLACES};
 pub use log::{Knowledge, Log, HEADER_LEN, MAX_FILE};
 pub use op::{Kind, Op, Vector, MAX_SEQUENCE, OP_LEN, REPLICAS};
+pub use page::{
+    deliver_page, issue_add_page, issue_move_page, issue_remove_page, Page, Tables, ORDER_LEN,
+};
 pub use tree::{slot_of, Climb, Tree, NO_PARENT, SLOTS};
 pub use view::{listing, listing_size, outline, path, View};
 

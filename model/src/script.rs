@@ -2,8 +2,9 @@
 //! The grammar is in README.md.
 
 use crate::{
-    deliver, deliver_holdback, issue_add, issue_move, issue_remove, judge, listing, make,
-    make_bundle, open_bundle, outline, path, refusal, Answer, Log, Tree, Vector, View,
+    deliver, deliver_holdback, deliver_page, issue_add, issue_add_page, issue_move,
+    issue_move_page, issue_remove, issue_remove_page, judge, listing, make, make_bundle,
+    open_bundle, outline, path, refusal, Answer, Log, Page, Tables, Tree, Vector, View,
 };
 
 /// Limits of the grammar.
@@ -41,6 +42,11 @@ pub enum Case {
     DeliverHoldback(Vec<u8>, Vec<u8>),
     /// From a parent to a node.
     Climb(u16, u16),
+    /// The plain call's arguments and a page.
+    DeliverPage(Vec<u8>, Tables),
+    AddPage(u8, u16, u8, Tables),
+    RemovePage(u8, u16, u8, Tables),
+    MovePage(u8, u16, u16, u8, Tables),
 }
 
 impl Case {
@@ -85,6 +91,30 @@ impl Case {
                 line.extend(holdback);
             }
             Case::Climb(parent, node) => numbers(&mut line, 0x0e, &[*parent, *node]),
+            Case::DeliverPage(op, page) => {
+                start(&mut line, 0x0f, &[op.len() as u8]);
+                line.extend(op);
+                tables(&mut line, page);
+            }
+            Case::AddPage(replica, parent, room, page) => {
+                start(&mut line, 0x10, &[*replica]);
+                line.extend(parent.to_be_bytes());
+                line.push(*room);
+                tables(&mut line, page);
+            }
+            Case::RemovePage(replica, node, room, page) => {
+                start(&mut line, 0x11, &[*replica]);
+                line.extend(node.to_be_bytes());
+                line.push(*room);
+                tables(&mut line, page);
+            }
+            Case::MovePage(replica, node, parent, room, page) => {
+                start(&mut line, 0x12, &[*replica]);
+                line.extend(node.to_be_bytes());
+                line.extend(parent.to_be_bytes());
+                line.push(*room);
+                tables(&mut line, page);
+            }
         }
         line
     }
@@ -108,9 +138,21 @@ impl Case {
                 Case::DeliverHoldback(op, holdback) => {
                     op.len() <= usize::from(MAX_RECORD) && holdback.len() <= MAX_HOLDBACK
                 }
+                Case::DeliverPage(op, page) => {
+                    op.len() <= usize::from(MAX_RECORD) && page_fits(page)
+                }
+                Case::AddPage(_, _, room, page)
+                | Case::RemovePage(_, _, room, page)
+                | Case::MovePage(_, _, _, room, page) => *room <= MAX_RECORD && page_fits(page),
                 _ => true,
             }
     }
+}
+
+fn page_fits(page: &Tables) -> bool {
+    [page.order.len(), page.parents.len(), page.outcomes.len()]
+        .iter()
+        .all(|&length| length <= usize::from(MAX_TABLE))
 }
 
 fn start(line: &mut Vec<u8>, call: u8, rest: &[u8]) {
@@ -123,12 +165,27 @@ fn numbers(line: &mut Vec<u8>, call: u8, numbers: &[u16]) {
     line.extend(numbers.iter().flat_map(|number| number.to_be_bytes()));
 }
 
+/// The tables of a page as runs of equal entries: most of a page is alike.
+fn tables(line: &mut Vec<u8>, page: &Tables) {
+    let outcomes: Vec<u16> = page.outcomes.iter().copied().map(u16::from).collect();
+    for table in [&page.order, &page.parents, &outcomes] {
+        let runs: Vec<&[u16]> = table.chunk_by(|a, b| a == b).collect();
+        line.extend((runs.len() as u16).to_be_bytes());
+        for run in runs {
+            line.extend((run.len() as u16).to_be_bytes());
+            line.extend(run[0].to_be_bytes());
+        }
+    }
+}
+
 /// Runs cases on one buffer, as the verified program does.
 #[derive(Clone, Default)]
 pub struct Machine {
     pub buffer: Vec<u8>,
     /// What the last delivery with a holdback left there.
     pub holdback: Vec<u8>,
+    /// What the last call with a page left in its tables.
+    pub page: Tables,
 }
 
 impl Machine {
@@ -197,8 +254,50 @@ impl Machine {
                 (text(answer), vec![self.holdback.clone()])
             }
             Case::Climb(parent, node) => (run_climb(buffer, *parent, *node), vec![]),
+            Case::DeliverPage(op, page) => {
+                self.page.clone_from(page);
+                run_page(&mut self.page, None, |_, page| {
+                    deliver_page(buffer, op, page)
+                })
+            }
+            Case::AddPage(replica, parent, room, page) => {
+                self.page.clone_from(page);
+                run_page(&mut self.page, Some(*room), |out, page| {
+                    issue_add_page(buffer, *replica, *parent, out, page)
+                })
+            }
+            Case::RemovePage(replica, node, room, page) => {
+                self.page.clone_from(page);
+                run_page(&mut self.page, Some(*room), |out, page| {
+                    issue_remove_page(buffer, *replica, *node, out, page)
+                })
+            }
+            Case::MovePage(replica, node, parent, room, page) => {
+                self.page.clone_from(page);
+                run_page(&mut self.page, Some(*room), |out, page| {
+                    issue_move_page(buffer, *replica, *node, *parent, out, page)
+                })
+            }
         }
     }
+}
+
+/// Makes a call that is lent a page and, if it issues, so many bytes for the
+/// record. How many ops it took back stands behind the answer.
+fn run_page(
+    page: &mut Tables,
+    room: Option<u8>,
+    call: impl FnOnce(&mut [u8], Page) -> (Answer, usize),
+) -> (String, Vec<Vec<u8>>) {
+    let mut out = vec![LENT; room.map_or(0, usize::from)];
+    let (answer, taken) = call(&mut out, page.lend());
+    let tables = [
+        entry_bytes(&page.order),
+        entry_bytes(&page.parents),
+        page.outcomes.clone(),
+    ];
+    let memories = room.map(|_| out).into_iter().chain(tables).collect();
+    (format!("{} {taken}", text(answer)), memories)
 }
 
 /// A climb in the tree that judging the buffer leads to.

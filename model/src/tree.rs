@@ -116,7 +116,8 @@ fn node_at(slot: usize) -> u16 {
     (256 * (index + 1) + sequence) as u16
 }
 
-fn op_slot(op: &Op) -> usize {
+/// Where the op itself stands in the tables.
+pub(crate) fn op_slot(op: &Op) -> usize {
     MAX_SEQUENCE * op.index() + op.sequence()
 }
 

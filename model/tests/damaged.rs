@@ -24,7 +24,13 @@ fn every_call(buffer: &[u8], op: &[u8], node: u16) {
     }
     for issue in [Issue::Add(node), Issue::Remove(node), Issue::Move(node, 0)] {
         agrees(issue_checked(&mut buffer.to_vec(), 1, issue).0);
+        let call = PageCall::Issue(1, issue, 14);
+        agrees(page_checked(&mut buffer.to_vec(), &call, &mut Tables::default()).answer);
     }
+    // The page of the log without ops is untrue for most.
+    let mut page = Tables::of(&Log::default());
+    let call = PageCall::Deliver(op.to_vec());
+    agrees(page_checked(&mut buffer.to_vec(), &call, &mut page).answer);
     let bundles = [
         vec![],
         vec![0],

@@ -14,6 +14,8 @@ struct Side {
     buffer: Vec<u8>,
     /// Lent with a delivery as the last one left it, or with any other content.
     holdback: Vec<u8>,
+    /// Lent as the last call with a page left it, or with any other content.
+    page: Tables,
     held: Vec<Vec<u8>>,
     /// The replicas that issue here and nowhere else.
     replicas: Vec<u8>,
@@ -38,6 +40,9 @@ struct Tally {
     freed: usize,
     /// Holdbacks that were refused.
     bad: usize,
+    /// Accepted calls with a page, and the ops that they took back.
+    paged: usize,
+    taken: usize,
 }
 
 impl Side {
@@ -45,6 +50,7 @@ impl Side {
         Side {
             buffer: empty(length),
             holdback: holdback_from(&[]),
+            page: Tables::of(&Log::default()),
             held: vec![],
             replicas,
             tally: Tally::default(),
@@ -111,6 +117,22 @@ impl Side {
         }
     }
 
+    /// A call with a page joins the list with what the plain call would add.
+    fn call_with_page(&mut self, call: &PageCall) -> Option<Vec<u8>> {
+        let paged = page_checked(&mut self.buffer, call, &mut self.page);
+        if !matches!(paged.answer, Accepted(_)) {
+            return None;
+        }
+        self.tally.paged += 1;
+        self.tally.taken += paged.taken;
+        let op = match call {
+            PageCall::Deliver(op) => op.clone(),
+            PageCall::Issue(..) => paged.out,
+        };
+        self.held.push(op.clone());
+        Some(op)
+    }
+
     fn counts(&self) -> Vector {
         std::array::from_fn(|index| self.count(index as u8 + 1) as u8)
     }
@@ -167,7 +189,7 @@ impl Meeting {
             sides,
             issued: vec![],
         };
-        for _ in 0..20 + rng.below(300) {
+        for _ in 0..20 + rng.below(400) {
             let at = rng.below(count);
             meeting.step(rng, at);
             meeting.sides[at].check();
@@ -176,7 +198,7 @@ impl Meeting {
     }
 
     fn step(&mut self, rng: &mut Rng, at: usize) {
-        match rng.below(80) {
+        match rng.below(100) {
             0 => self.sides[at].make(),
             1..=3 => self.refused(rng, at),
             4..=25 => self.issue(rng, at),
@@ -189,7 +211,13 @@ impl Meeting {
             }
             37..=59 => self.sides[at].deliver(&self.issued[rng.below(self.issued.len())]),
             60..=63 => self.lend_holdback(rng, at),
-            _ => self.deliver_holdback(rng, at),
+            64..=79 => self.deliver_holdback(rng, at),
+            80 | 81 => self.sides[at].page = damage::page(rng, &self.sides[at].page),
+            82 => self.sides[at].page = Tables::of(&Log::default()),
+            _ => {
+                let op = self.some_lacking(rng, at);
+                self.sides[at].call_with_page(&PageCall::Deliver(op));
+            }
         }
     }
 
@@ -210,8 +238,14 @@ impl Meeting {
         }
     }
 
-    /// Mostly one of the next that some other holds, so that some are early.
+    /// With what is lent there.
     fn deliver_holdback(&mut self, rng: &mut Rng, at: usize) {
+        let op = self.some_lacking(rng, at);
+        self.sides[at].deliver_holdback(&op);
+    }
+
+    /// Mostly one of the next that some other holds, so that some are early.
+    fn some_lacking(&self, rng: &mut Rng, at: usize) -> Vec<u8> {
         let from = rng.below(self.sides.len());
         let held = &self.sides[at].held;
         let lacking = |op: &&Vec<u8>| !held.contains(op);
@@ -229,7 +263,7 @@ impl Meeting {
         if rng.one_in(30) {
             op = damage::record(rng, &op);
         }
-        self.sides[at].deliver_holdback(&op);
+        op
     }
 
     fn refused(&mut self, rng: &mut Rng, at: usize) {
@@ -259,7 +293,13 @@ impl Meeting {
             3 => Issue::Remove(node),
             _ => Issue::Move(node, parent),
         };
-        self.issued.extend(self.sides[at].issue(replica, issue));
+        let side = &mut self.sides[at];
+        let issued = if rng.one_in(5) {
+            side.call_with_page(&PageCall::Issue(replica, issue, 14))
+        } else {
+            side.issue(replica, issue)
+        };
+        self.issued.extend(issued);
     }
 
     /// One side takes all that another holds.
@@ -402,6 +442,8 @@ fn random_lists_then_rounds() {
             all.waiting += tally.waiting;
             all.freed += tally.freed;
             all.bad += tally.bad;
+            all.paged += tally.paged;
+            all.taken += tally.taken;
         }
         for i in 0..meeting.sides.len() {
             for j in 0..i {
@@ -424,6 +466,7 @@ fn random_lists_then_rounds() {
     assert!(all.opened > 1000 && all.shut > 300, "{all:?}");
     assert!(all.waiting > 1000 && all.freed > 500, "{all:?}");
     assert!(all.bad > 50, "{all:?}");
+    assert!(all.paged > 1000 && all.taken > 1000, "{all:?}");
 }
 
 /// Parts of one large world, as two sides came to hold them.

@@ -3,10 +3,10 @@
 use outline_model::cases::examples::{file_of, p1};
 use outline_model::cases::Script;
 use outline_model::script::{Case, Machine};
-use outline_model::View;
+use outline_model::{Tables, View};
 
-const SECTIONS: [&str; 7] = [
-    "deliver", "judge", "issue", "view", "bundle", "holdback", "climb",
+const SECTIONS: [&str; 8] = [
+    "deliver", "judge", "issue", "view", "bundle", "holdback", "climb", "page",
 ];
 
 fn section(name: &str) -> Script {
@@ -38,8 +38,74 @@ fn lines_by_hand() {
     assert_eq!(answer, "r 1 66566 000102 259 0001");
     assert_eq!(run(Case::Climb(0, 0)), "r 1 66566 000102");
     assert_eq!(run(Case::Climb(257, 65535)), "r 1 66566 000102");
+    let page = Tables {
+        order: vec![1, 2],
+        parents: vec![],
+        outcomes: vec![3],
+    };
+    let delivered = run(Case::DeliverPage(vec![9], page.clone()));
+    assert_eq!(delivered, "r 1 0 66566 000102 17106951 00010002 0  4 03");
+    let issued = run(Case::AddPage(1, 0, 1, page.clone()));
+    assert_eq!(
+        issued,
+        "r 1 0 66566 000102 239 ee 17106951 00010002 0  4 03"
+    );
+    let issued = run(Case::RemovePage(1, 0, 0, page));
+    assert_eq!(issued, "r 1 0 66566 000102 0  17106951 00010002 0  4 03");
+    let issued = run(Case::MovePage(1, 0, 0, 0, Tables::default()));
+    assert_eq!(issued, "r 1 0 66566 000102 0  0  0  0 ");
     run(Case::Load(vec![]));
     assert_eq!(run(Case::Climb(0, 0)), "r 1 0 ");
+}
+
+/// The page of P1 lacks its last move, which sorts before the one that is held.
+#[test]
+fn a_page_by_hand() {
+    let mut machine = Machine::default();
+    let digest = |bytes: &[u8]| {
+        let step = |h: u64, &b: &u8| (h * 257 + u64::from(b) + 1) % 4_294_967_291;
+        bytes.iter().fold(0, step)
+    };
+    let high_first = |entries: &[u16]| -> Vec<u8> {
+        let bytes = entries.iter().flat_map(|entry| entry.to_be_bytes());
+        bytes.collect()
+    };
+    let ops = p1();
+    machine.run(&Case::Load([file_of(&ops[..3]), vec![0xa5; 20]].concat()));
+    let mut page = Tables {
+        order: vec![0; 2041],
+        parents: vec![65535; 2041],
+        outcomes: vec![0; 2041],
+    };
+    page.order[..3].copy_from_slice(&[1, 2, 3]);
+    page.order[2040] = 9;
+    page.parents[..3].copy_from_slice(&[0, 0, 257]);
+    page.outcomes[1..4].fill(1);
+    let case = Case::DeliverPage(ops[3].bytes().to_vec(), page.clone());
+    assert_eq!(
+        case.line(),
+        "0f0e0402010101020200000000000000\
+         0005000100010001000200010003 07f50000 00010009\
+         0003000200000001010107f6ffff\
+         000300010000000300010 7f50000"
+            .replace(' ', "")
+    );
+    let line = machine.run(&case);
+    page.order[..4].copy_from_slice(&[1, 2, 256, 3]);
+    page.parents[1..3].copy_from_slice(&[258, 0]);
+    page.outcomes[3] = 3;
+    page.outcomes[256] = 1;
+    assert_eq!(
+        line,
+        format!(
+            "a 88 1 {} {} {} {}",
+            digest(&[file_of(&ops), vec![0xa5; 6]].concat()),
+            digest(&high_first(&page.order)),
+            digest(&high_first(&page.parents)),
+            digest(&page.outcomes)
+        )
+    );
+    assert_eq!(machine.page, page);
 }
 
 /// P1: 257 lies under 258. The buffer stays as it is.
@@ -154,11 +220,67 @@ fn case_bytes() {
         (Case::DeliverHoldback(vec![1, 2], vec![3]), "0d02010203"),
         (Case::Climb(257, 2303), "0e010108ff"),
         (Case::Climb(0, 258), "0e00000102"),
+        (
+            Case::DeliverPage(vec![], Tables::default()),
+            "0f00000000000000",
+        ),
+        (
+            Case::DeliverPage(vec![7, 8], some_tables()),
+            "0f020708\
+             000200020101000102ff00010003000000020001000100020007",
+        ),
+        (
+            Case::AddPage(1, 257, 14, some_tables()),
+            "100101010e\
+             000200020101000102ff00010003000000020001000100020007",
+        ),
+        (
+            Case::RemovePage(1, 257, 14, Tables::default()),
+            "110101010e000000000000",
+        ),
+        (
+            Case::MovePage(1, 257, 258, 40, Tables::default()),
+            "12010101010228000000000000",
+        ),
     ];
     for (case, line) in cases {
         assert_eq!(case.line(), line);
         assert!(case.fits());
     }
+}
+
+/// Runs of equal entries, and entries alone.
+fn some_tables() -> Tables {
+    Tables {
+        order: vec![257, 257, 767],
+        parents: vec![0, 0, 0],
+        outcomes: vec![1, 7, 7],
+    }
+}
+
+/// A table of more than 2,100 entries, or a record of more than 40 bytes.
+#[test]
+fn pages_that_the_grammar_has_not() {
+    let long = |order, parents, outcomes| Tables {
+        order: vec![0; order],
+        parents: vec![0; parents],
+        outcomes: vec![0; outcomes],
+    };
+    assert!(Case::DeliverPage(vec![0; 40], long(2100, 2100, 2100)).fits());
+    for page in [
+        long(2101, 2041, 2041),
+        long(2040, 2101, 2041),
+        long(2040, 2041, 2101),
+    ] {
+        assert!(!Case::DeliverPage(vec![], page.clone()).fits());
+        assert!(!Case::AddPage(1, 0, 14, page.clone()).fits());
+        assert!(!Case::RemovePage(1, 0, 14, page.clone()).fits());
+        assert!(!Case::MovePage(1, 0, 0, 14, page).fits());
+    }
+    let page = Tables::default();
+    assert!(!Case::DeliverPage(vec![0; 41], page.clone()).fits());
+    assert!(!Case::AddPage(1, 0, 41, page.clone()).fits());
+    assert!(!Case::MovePage(1, 0, 0, 41, page).fits());
 }
 
 #[test]
@@ -169,7 +291,7 @@ fn sections_are_of_good_size_and_repeat() {
         assert_eq!(script.cases.len(), script.answers.len());
         let bytes: usize = script.cases.iter().map(|line| line.len() + 1).sum();
         let most = match name {
-            "deliver" | "holdback" => 1_500_000,
+            "deliver" | "holdback" | "page" => 1_500_000,
             "bundle" | "climb" => 400_000,
             _ => 1_000_000,
         };
@@ -222,6 +344,95 @@ fn sections_reach_every_answer() {
             "r 1 ", "r 10 ", "r 11 ", "y 0 ", "y 2040 ", "n 0 ", "n 2039 ",
         ],
     );
+}
+
+/// Each call with a page has enough of each of its answers; each number of ops
+/// taken back that is small, and the greatest that there can be.
+#[test]
+fn pages_reach_every_answer_often() {
+    let script = section("page");
+    let mut seen = std::collections::BTreeMap::new();
+    let mut taken = std::collections::BTreeMap::new();
+    for (case, line) in script.cases.iter().zip(&script.answers) {
+        if !["0f", "10", "11", "12"].contains(&&case[..2]) {
+            continue;
+        }
+        let words: Vec<&str> = line.split(' ').collect();
+        let (key, number) = match words[0] {
+            "r" => (words[1].to_string(), words[2]),
+            "a" => ("a".to_string(), words[2]),
+            other => (other.to_string(), words[1]),
+        };
+        // Only what accepts takes back.
+        assert!(key == "a" || number == "0");
+        if key == "a" {
+            let number: usize = number.parse().unwrap();
+            *taken.entry((case[..2].to_string(), number)).or_insert(0) += 1;
+        }
+        *seen.entry((case[..2].to_string(), key)).or_insert(0) += 1;
+    }
+    for (call, answers) in [
+        ("0f", "1 2 3 4 5 6 7 8 a h"),
+        ("10", "1 2 3 7 8 9 11 a"),
+        ("11", "1 2 3 7 8 9 a"),
+        ("12", "1 2 3 7 8 9 10 11 a"),
+    ] {
+        let mut expected: Vec<&str> = answers.split(' ').collect();
+        expected.sort();
+        let found = seen.keys().filter(|key| key.0 == call);
+        assert_eq!(found.map(|key| &key.1).collect::<Vec<_>>(), expected);
+        assert!(seen[&(call.into(), "a".into())] > 100, "{seen:?}");
+        assert!(seen[&(call.into(), "2".into())] > 50, "{seen:?}");
+    }
+    for number in (0..15).chain([1785, 2039]) {
+        assert!(taken.contains_key(&("0f".into(), number)), "{number}");
+    }
+    // Issues take back all or none.
+    assert!(taken[&("12".into(), 0)] > 30 && taken[&("12".into(), 7)] > 20);
+}
+
+/// In chains of calls each is lent the page that the last one left.
+#[test]
+fn pages_are_handed_on() {
+    let script = section("page");
+    let number = |hex: &str, at: usize| u64::from_str_radix(&hex[at..at + 4], 16).unwrap();
+    let digest = |bytes: Vec<u64>| {
+        let step = |h: u64, byte: &u64| (h * 257 + byte + 1) % 4_294_967_291;
+        bytes.iter().fold(0, step).to_string()
+    };
+    // The digests of the three tables, read from the runs of a line.
+    let lent = |case: &str| {
+        let record = usize::from_str_radix(&case[2..4], 16).unwrap();
+        let mut at = match &case[..2] {
+            "0f" => 4 + 2 * record,
+            "12" => 14,
+            _ => 10,
+        };
+        let tables = [2, 2, 1].map(|width| {
+            let mut bytes = vec![];
+            let runs = number(case, at);
+            at += 4;
+            for _ in 0..runs {
+                let (length, value) = (number(case, at), number(case, at + 4));
+                let entry = [value >> 8, value & 255];
+                bytes.extend(entry[2 - width..].repeat(length as usize));
+                at += 8;
+            }
+            digest(bytes)
+        });
+        assert_eq!(at, case.len());
+        tables.join(" ")
+    };
+    let mut left = String::new();
+    let mut handed_on = 0;
+    for (case, line) in script.cases.iter().zip(&script.answers) {
+        if ["0f", "10", "11", "12"].contains(&&case[..2]) {
+            handed_on += usize::from(lent(case) == left);
+            let words: Vec<&str> = line.split(' ').collect();
+            left = words[words.len() - 3..].join(" ");
+        }
+    }
+    assert!(handed_on > 1000, "{handed_on}");
 }
 
 /// Steps of a climb that met the node, and of one that did not: none, few, more

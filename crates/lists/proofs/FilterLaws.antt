@@ -69,6 +69,24 @@ any-passes p (x ∷ xs) e = go (p x) e (any-passes p xs)
     go true e ih = omega arith
     go false e ih = ih e
 
+-- the place of the first element that does not pass, or the end
+pub record FirstFails {A : Type 0} (p : A → Bool) (xs : List A) (d : A) (i : ℕ) : Type 0 where
+  pub inside : i ≤ length xs
+  pub front : (k : ℕ) → k < i → p (getD xs k d) ≡ true
+  pub here : i < length xs → p (getD xs i d) ≡ false
+
+pub first-fails : {A : Type 0} (p : A → Bool) (xs : List A) (d : A) → (i : ℕ) × FirstFails p xs d i
+first-fails p [] d = (0, record { inside = omega arith; front = λ k h. absurd (omega arith); here = λ h. absurd (omega arith) })
+first-fails p (x ∷ xs) d = go (p x) refl (first-fails p xs d)
+  where
+    front : (i : ℕ) → p x ≡ true → FirstFails p xs d i → (k : ℕ) → k < suc i → p (getD (x ∷ xs) k d) ≡ true
+    front i e h zero l = e
+    front i e h (suc k) l = h .front k (omega arith)
+
+    go : (b : Bool) → p x ≡ b → (i : ℕ) × FirstFails p xs d i → (i : ℕ) × FirstFails p (x ∷ xs) d i
+    go true e (i, h) = (suc i, record { inside = omega (arith, h .inside); front = front i e h; here = λ l. h .here (omega arith) })
+    go false e h = (0, record { inside = omega arith; front = λ k l. absurd (omega arith); here = λ _. e })
+
 pub filter-alike : {A : Type 0} (p q : A → Bool) (xs : List A) → Each (λ x. p x ≡ q x) xs → filter p xs ≡ filter q xs
 unfolding filter
 filter-alike p q [] h = refl

@@ -13,7 +13,7 @@ use Rattle.lists.proofs.EachLaws.{Each, each-both, each-left, each-map}
 use Rattle.lists.proofs.FilterLaws.{filter-alike, filter-append}
 use Rattle.rules.specs.File.{Log, opAt}
 use Rattle.rules.specs.Log.{covered}
-use Rattle.rules.specs.Op.{Vector, countIn, counted, replicaOf, seqOf}
+use Rattle.rules.specs.Op.{Vector, countIn, seqOf}
 use Rattle.rules.specs.Replay.{Stamped, orderOf, ordered, stamp}
 use Rattle.rules.proofs.CausalLaws.{Le}
 use Rattle.rules.proofs.StructureLaws.{GoodLog, good-ops, held-in}

@@ -1,7 +1,7 @@
 -- The part and the whole: the order of a cut is the order of any greater one without the ops that it does not count.
 use Prim.Native.Nat.{ℕ, suc, _+_, _-_, _≤_, _<_}
 use lib.Dec.{ltb}
-use lib.ListN.{take, getD, length}
+use lib.ListN.{take, getD}
 use mathlib.Core.Bool.{Bool, true}
 use mathlib.Core.List.{List, [], map}
 use mathlib.Core.Path.{_≡_, sym, ap, _∙_}

@@ -1,5 +1,5 @@
 -- Taking back is exact: what was judged last is taken back to the whole state before it.
-use Prim.Native.Nat.{ℕ, _≤_, _<_}
+use Prim.Native.Nat.{ℕ, _<_}
 use lib.Dec.{eqb}
 use lib.ListN.{getD, set, length, length-set, length-replicate, getD-replicate}
 use lib.Seq.{set-set, set-getD, getD-set-same, getD-set-other}

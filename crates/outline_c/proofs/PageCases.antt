@@ -1,7 +1,6 @@
 -- The numbers of calls with a page, as the code meets them.
 use Prim.Native.Nat.{ℕ, _+_, _*_, _≤_, _<_}
 use borrow.Author.Needs.{needs}
-use lib.ListN.{length}
 use mathlib.Core.List.{List}
 use mathlib.Core.Path.{_≡_, refl, ap, sym, _∙_}
 use native.Mathlib.Omega.{arith}
@@ -12,8 +11,7 @@ use Rattle.codec.specs.declared.answer.Refusal.the-variants.{Unsound, Length, M
 use Rattle.rules.specs.Answer.{Answer, accepted, refused, hadIt, waiting, done}
 use Rattle.rules.specs.File.{largest, width}
 use Rattle.rules.specs.Issue.{Request}
-use Rattle.rules.specs.Tree.{mostOps}
-use Rattle.page_rules.specs.Page.{Page, PageIssued, PageResult, deliverPage, issuePage, page}
+use Rattle.page_rules.specs.Page.{Page, PageIssued, PageResult, deliverPage, issuePage}
 use Rattle.page_rules.proofs.FewLaws.{deliver-end, deliver-few, issue-end, issue-few}
 use Rattle.page.specs.Answers.{issuedOf, resultOf}
 use Rattle.page.specs.declared.answer.Paged.{Paged}

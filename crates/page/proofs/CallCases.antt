@@ -1,20 +1,19 @@
 -- Delivering and issuing with a page, as the code has them.
-use mathlib.Core.Path.{_≡_, refl, sym, ap, _∙_}
-use mathlib.Core.Bool.{Bool, true, false, cond, _&&_, not}
+use mathlib.Core.Path.{_≡_, sym, ap, _∙_}
+use mathlib.Core.Bool.{true, false, _&&_}
 use mathlib.Core.List.{List, _++_}
-use Prim.Native.Nat.{ℕ, suc, _+_, _≤_}
+use Prim.Native.Nat.{ℕ, _+_, _≤_}
 use native.Mathlib.Omega.{arith}
 use lib.ListN.{drop, length}
 use borrow.Author.Needs.{needs}
 use borrow.Author.Tests.{leb-true}
 use lib.Dec.{leb}
-use Rattle.lists.specs.Lists.{sum}
 use Rattle.lists.proofs.BoolLaws.{and-left, and-right, tested}
-use Rattle.rules.specs.Answer.{Answer, accepted, ifAccepted, refused, require}
+use Rattle.rules.specs.Answer.{Answer, ifAccepted, refused, require}
 use Rattle.rules.specs.Deliver.{Result, deliver, deliverAnswer, deliverBuffer}
 use Rattle.rules.specs.File.{Log, append, appended, countsOf, headerCounts, logOf, width}
 use Rattle.rules.specs.Issue.{Issued, Request, issue, issueAnswer, issueBuffer, issueOut, issued}
-use Rattle.rules.specs.Log.{closed, soundHeader}
+use Rattle.rules.specs.Log.{soundHeader}
 use Rattle.rules.specs.Op.{Op, Vector}
 use Rattle.page_rules.specs.Page.{Page, PageIssued, PageResult, deliverPage, deliverPageAnswer, filled, issuePage, issuePageAnswer, longEnough, page, pageWith, pageOf, takenWith, tookBack, withPage}
 use Rattle.rules.specs.Sound.{sound}

@@ -1,41 +1,39 @@
 -- Bringing a page on to a log with one op more, as the code has it.
 use mathlib.Core.Path.{_≡_, refl, sym, ap, ap₂, _∙_}
-use mathlib.Core.Bool.{Bool, true, false, cond}
+use mathlib.Core.Bool.{Bool, true, false}
 use mathlib.Core.List.{List, [], _∷_, _++_, append-assoc, map, map-append, foldl}
 use Prim.Native.Nat.{ℕ, zero, suc, _+_, _-_, _≤_, _<_}
 use native.Mathlib.Omega.{arith}
-use lib.ListN.{drop, getD, length, length-append, length-drop, length-map, length-replicate, length-set, replicate, set, take}
+use lib.ListN.{drop, getD, length, length-append, length-drop, length-map, length-replicate, replicate, set, take}
 use lib.Seq.{drop-append-le, length-take-le, take-append-le}
 use borrow.Author.Needs.{needs}
 use Rattle.lists.specs.Lists.{filter, sum, upFrom}
 use Rattle.lists.proofs.ListLaws.{drop-replicate, map-drop, map-take}
 use Rattle.lists.proofs.RangeLaws.{map-getD, map-upFrom}
-use Rattle.rules.specs.Op.{Op, Vector, countIn, counted}
+use Rattle.rules.specs.Op.{Vector, countIn, counted}
 use Rattle.rules.specs.File.{Log, countsOf, headerCounts, logOf, width}
 use Rattle.rules.specs.Log.{covered, soundHeader, structural}
 use Rattle.page_rules.specs.Page.{Page, filled, padded, page, pageAt, pageOf, shows}
 use Rattle.rules.specs.Replay.{State, Stamped, orderOf, ordered, outcomeSlot, replay, start}
 use Rattle.rules.specs.Tree.{mostOps, noParent}
 use Rattle.rules.proofs.CausalLaws.{Le, le-within, total, total-sum, within-le, within-length}
-use Rattle.rules.proofs.FileLaws.{counts-logOf, vector-eta}
+use Rattle.rules.proofs.FileLaws.{counts-logOf}
 use Rattle.rules.proofs.IssueLaws.{counts-eight}
 use Rattle.rules.proofs.StructureLaws.{GoodLog, counts-covered, structural-good}
 use Rattle.oplog.specs.Places.{Held}
-use Rattle.oplog.proofs.FieldLaws.{counts-in}
 use Rattle.oplog.proofs.HeldLaws.{whole-closed, whole-held}
 use Rattle.order.specs.Undo.{FirstNew, Undoable, noOp, replayKeeping, stepKeeping, unjudged}
 use Rattle.order.proofs.LevelLaws.{Cut, whole-cut}
 use Rattle.order.proofs.OnceLaws.{ordered-length}
-use Rattle.page_rules.proofs.PageLaws.{counted-back, old-ordered, one-longer, place-within}
+use Rattle.page_rules.proofs.PageLaws.{counted-back, old-ordered, place-within}
 use Rattle.order.proofs.PartLaws.{inCut, ordered-part}
-use Rattle.order.proofs.UndoLaws.{opsOf, replay-keeping}
-use Rattle.tree.specs.Slots.{opIn}
+use Rattle.order.proofs.UndoLaws.{replay-keeping}
 use Rattle.replay.specs.Tables.{opAlong}
 use Rattle.replay.proofs.CutLaws.{whole-header, whole-sound}
-use Rattle.schedule.specs.Schedule.{Schedule, schedule, scheduled}
+use Rattle.schedule.specs.Schedule.{Schedule, scheduled}
 use Rattle.schedule.specs.Level.{SchedulableCut}
 use Rattle.schedule.proofs.OrderLaws.{Entered, count-is, entered, few-ops}
-use Rattle.undo.specs.Tables.{IsSlot, Kept, Named, TimedWalk, opsAlong, slotCounted, timedAlong, undoable}
+use Rattle.undo.specs.Tables.{Kept, Named, TimedWalk, opsAlong, slotCounted, timedAlong, undoable}
 use Rattle.undo.specs.Carried.{Carriable, FirstBeyond, Schedules, Slots}
 use Rattle.undo.proofs.CarryLaws.{ops-are, timed-are}
 use Rattle.undo.proofs.KeepLaws.{counted-slot, kept-replay, kept-unjudged, slot-asks}

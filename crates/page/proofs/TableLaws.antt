@@ -3,7 +3,6 @@ use mathlib.Core.Path.{_≡_, refl, sym, ap, _∙_}
 use mathlib.Core.Bool.{Bool, true, false, _&&_, not}
 use mathlib.Core.List.{List, [], _∷_, _++_}
 use Prim.Native.Nat.{ℕ, suc, _+_, _-_, _≤_, _<_}
-use native.Mathlib.Numerals.{add-one}
 use native.Mathlib.Omega.{arith}
 use lib.Dec.{eqb, leb}
 use lib.ListN.{drop, getD, length, length-append, length-drop, List·getD-append, take}
@@ -11,12 +10,12 @@ use lib.Seq.{getD-append-add, getD-drop, getD-take, length-take-le}
 use borrow.Author.Needs.{needs}
 use borrow.Author.Tests.{eq-eqb, le-leb, lt-leb, ne-eqb}
 use Rattle.lists.specs.Lists.{same}
-use Rattle.lists.proofs.BoolLaws.{and-false, and-true, not-so-by-not, so-by-not}
+use Rattle.lists.proofs.BoolLaws.{not-so-by-not, so-by-not}
 use Rattle.lists.proofs.ListLaws.{same-all, same-end, same-sym, same-turn, sameFrom}
 use Rattle.page_rules.specs.Page.{filled, longEnough, page, shows}
 use Rattle.rules.specs.Tree.{mostOps, slots}
 use Rattle.oplog.proofs.InsertLaws.{front-first, front-last, front-next}
-use Rattle.page.specs.Tables.{Comparable, Entry, Fillable, Judged, Lent, OrderLent, without}
+use Rattle.page.specs.Tables.{Comparable, Entry, Fillable, OrderLent, without}
 
 ---- room
 

@@ -1,6 +1,5 @@
 use codec::Answer;
 use codec::Refusal;
-ghost use mathlib.Core.Path.{_≡_};
 ghost use Rattle.codec.specs.Answers.{numberOf};
 ghost use Rattle.page.specs.Answers.{Refuses};
 

@@ -4,40 +4,43 @@ use mathlib.Core.Bool.{Bool, true, false, cond}
 use mathlib.Core.List.{List}
 use Prim.Native.Nat.{ℕ, suc, _≤_}
 use native.Mathlib.Omega.{arith}
-use lib.ListN.{drop, length, length-drop, length-map}
+use lib.ListN.{length, length-drop, length-map}
 use Rattle.lists.specs.Lists.{indexOf, sum}
-use Rattle.rules.specs.Answer.{Answer, accepted, done, hadIt, ifAccepted, refused, waiting}
+use Rattle.rules.specs.Answer.{Answer, accepted, done, hadIt, refused, waiting}
 use Rattle.rules.specs.Deliver.{deliverAnswer}
-use Rattle.rules.specs.File.{append, appended, countsOf, fileEnd, largest, logOf, width}
+use Rattle.rules.specs.File.{Log, append, appended, countsOf, largest, logOf, width}
 use Rattle.rules.specs.Issue.{Request, issueAnswer, issued}
 use Rattle.rules.specs.Op.{Op}
 use Rattle.page_rules.specs.Page.{Page, deliverPage, deliverPageAnswer, issuePage, issuePageAnswer, pageOf, shows, sortAfter, takenWith, tookBack, withPage}
-use Rattle.rules.specs.Replay.{Stamped, orderOf, ordered, outcomeSlot}
+use Rattle.rules.specs.Replay.{orderOf, outcomeSlot}
 use Rattle.rules.specs.Tree.{mostOps}
 use Rattle.rules.proofs.CausalLaws.{total-small, total-sum, within-length}
 use Rattle.rules.proofs.DeliverLaws.{Admitted, admitted, appended-end, appended-sound, required}
 use Rattle.rules.proofs.IssueLaws.{counts-eight, issue-admitted}
 use Rattle.rules.proofs.SoundLaws.{sound-end, sound-good}
-use Rattle.rules.proofs.StructureLaws.{counts-covered}
+use Rattle.rules.proofs.StructureLaws.{GoodLog, counts-covered}
 use Rattle.order.proofs.LevelLaws.{whole-cut}
 use Rattle.order.proofs.OnceLaws.{ordered-length}
 use Rattle.page_rules.proofs.PageLaws.{good-more}
 
+pub few-ordered : (log : Log) → GoodLog log → length (orderOf log (countsOf log)) ≤ mostOps
+unfolding orderOf
+few-ordered log good =
+    rw (length-map) (omega (
+      arith,
+      ordered-length log good (countsOf log) (whole-cut log good),
+      within-length log (countsOf log) (counts-covered log),
+      total-small (countsOf log) (good .counts),
+    ))
+
 module _ (f : List ℕ) (r : Op) (n : ℕ) (h : Admitted width f r n) where
   few-behind : sortAfter (logOf width f) r ≤ mostOps
-  unfolding sortAfter orderOf
+  unfolding sortAfter
   few-behind =
       let more = append (logOf width f) r in
+      let xs = orderOf more (countsOf more) in
       let good = good-more (logOf width f) (sound-good width f (h .is-sound)) r (h .admits) in
-      let slot-of : Stamped → ℕ = λ x. outcomeSlot (x .op) in
-      omega (
-        arith,
-        length-drop (suc (indexOf (outcomeSlot r) (orderOf more (countsOf more)))) (orderOf more (countsOf more)),
-        length-map (ordered more (countsOf more)) slot-of,
-        ordered-length more good (countsOf more) (whole-cut more good),
-        within-length more (countsOf more) (counts-covered more),
-        total-small (countsOf more) (good .counts),
-      )
+      omega (arith, length-drop (suc (indexOf (outcomeSlot r) xs)) xs, few-ordered more good)
 
   few-held : sum (countsOf (logOf width f)) ≤ mostOps
   few-held =

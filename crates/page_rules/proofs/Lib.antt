@@ -1,2 +1,3 @@
 pub mod PageLaws
 pub mod FewLaws
+pub mod PageTheorem

@@ -1,22 +1,22 @@
 -- A log with one op more: the old order is the new one without it, and how many ops stand behind it.
 use Prim.Native.Nat.{ℕ, suc, _+_, _*_, _-_, _≤_, _<_}
-use borrow.Author.Tests.{eq-eqb, le-leb, leb-true, leb-false}
+use borrow.Author.Tests.{eq-eqb, leb-true, leb-false}
 use lib.ListN.{take, drop, drop-of-length-le, getD, length, length-append, length-drop, length-map, take-append-drop}
-use lib.Seq.{drop-cons, getD-take, length-take-le}
-use mathlib.Core.Bool.{Bool, true, false, cond}
-use mathlib.Core.List.{List, [], _∷_, _++_, append-nil, map, map-append}
-use mathlib.Core.Path.{_≡_, refl, sym, ap, ap₂, _∙_}
+use lib.Seq.{drop-at, drop-cons, getD-take, length-take-le, take-at}
+use mathlib.Core.Bool.{true, false}
+use mathlib.Core.List.{List, [], _∷_, _++_, map, map-append}
+use mathlib.Core.Path.{_≡_, refl, sym, ap, _∙_}
 use native.Mathlib.Decide.{decLe, ℕ-discrete}
 use native.Mathlib.Omega.{arith}
-use Rattle.lists.specs.Lists.{filter, indexOf, isIn, sum}
-use Rattle.lists.proofs.BoolLaws.{fails, never}
+use Rattle.lists.specs.Lists.{filter, indexOf, isIn}
+use Rattle.lists.proofs.BoolLaws.{fails}
 use Rattle.lists.proofs.EachLaws.{Each, each-at, each-both, each-left, each-map, each-of, each-of-map}
-use Rattle.lists.proofs.FilterLaws.{filter-append, filter-each, filter-full, filter-length}
+use Rattle.lists.proofs.FilterLaws.{filter-append, filter-each, filter-full}
 use Rattle.lists.proofs.MemberLaws.{each-in, index-behind}
-use Rattle.rules.specs.File.{Log, append, countsOf, opAt, opsOf}
-use Rattle.rules.specs.Log.{covered}
+use Rattle.rules.specs.File.{Log, append, countsOf}
 use Rattle.rules.specs.Op.{Op, Vector, countIn, replicaOf, seqOf}
-use Rattle.page_rules.specs.Page.{Page, pageAt, pageOf, sortAfter}
+use Rattle.page_rules.specs.Claims.{SortsIn}
+use Rattle.page_rules.specs.Page.{pageAt, pageOf, sortAfter}
 use Rattle.rules.specs.Replay.{Stamped, orderOf, ordered, outcomeSlot, stamp}
 use Rattle.rules.specs.Tree.{slot}
 use Rattle.rules.proofs.AppendLaws.{Admits, closed-more, extends, good-append, in-range, ops-other, ops-same, own-next, sum-append}
@@ -39,14 +39,14 @@ module _ (log : Log) (good : GoodLog log) (old : Vector) (is : Cut log old) (one
   part : ordered log old ≡ filter (inCut old) xs
   part = ordered-part log good old (countsOf log) (counts-covered log) (held-in log old (is .is-covered))
 
-  pub one-longer : length xs ≡ suc (length (filter (inCut old) xs))
+  one-longer : length xs ≡ suc (length (filter (inCut old) xs))
   one-longer =
       ordered-length log good (countsOf log) (whole-cut log good) ∙ within-length log (countsOf log) (counts-covered log) ∙ one
       ∙ ap suc (sym (ap length (sym part) ∙ ordered-length log good old is ∙ within-length log old (is .is-covered)))
 
   -- it stands behind those that the cut counts, up to place i
   module _ (i : ℕ) (at : FirstNew log old i) where
-    pub front-each : Each (λ x. inCut old x ≡ true) (take i xs)
+    front-each : Each (λ x. inCut old x ≡ true) (take i xs)
     front-each = each-of (λ x. inCut old x ≡ true) (take i xs) noOp (λ k l.
         let u : k < i = omega (arith, length-take-le i xs (at .inside)) in
         rw (getD-take i xs k noOp u) (at .front k u))
@@ -120,16 +120,16 @@ module _ (log : Log) (good : GoodLog log) (r : Op) (h : Admits log r) where
     pub before : inCut old x ≡ true → outcomeSlot r ≡ outcomeSlot (x .op) → ⊥
     pub new : inCut old x ≡ false → outcomeSlot (x .op) ≡ outcomeSlot r
 
-  next : seqOf r ≡ suc (countIn old (replicaOf r))
+  pub next : seqOf r ≡ suc (countIn old (replicaOf r))
   unfolding seqOf
   next = omega (arith, own-next log r good h, count-held log (replicaOf r))
 
-  own-count : countIn (countsOf more) (replicaOf r) ≡ suc (countIn old (replicaOf r))
+  pub own-count : countIn (countsOf more) (replicaOf r) ≡ suc (countIn old (replicaOf r))
   own-count =
       let b = in-range log r good h in
       rw (count-held more (replicaOf r), count-held log (replicaOf r), ops-same log r (good .eight) (b .0) (b .1), length-append) (omega arith)
 
-  other-count : (s : ℕ) → 1 ≤ s → (s ≡ replicaOf r → ⊥) → countIn (countsOf more) s ≡ countIn old s
+  pub other-count : (s : ℕ) → 1 ≤ s → (s ≡ replicaOf r → ⊥) → countIn (countsOf more) s ≡ countIn old s
   other-count s l ne =
       let b = in-range log r good h in
       rw (count-held more s, count-held log s, ops-other log r (good .eight) (b .0) (b .1) s l ne)
@@ -176,21 +176,55 @@ module _ (log : Log) (good : GoodLog log) (r : Op) (h : Admits log r) where
     pub within : i < length ys
     within = place-within more good-more old old-cut one-more i at
 
+    abbrev it : Stamped
+    it = getD ys i noOp
+
+    parts : ys ≡ take i ys ++ (it ∷ drop (suc i) ys)
+    parts = sym (take-append-drop i ys) ∙ ap (λ zs. take i ys ++ zs) (drop-cons ys i noOp within)
+
+    own : outcomeSlot (it .op) ≡ outcomeSlot r
+    own = each-at Told ys noOp i told within .new (at .here within)
+
+    front-size : length (slots-of (take i ys)) ≡ i
+    front-size = length-map (take i ys) _ ∙ length-take-le i ys (at .inside)
+
     -- the place of the new op
-    pub place-is : indexOf (outcomeSlot r) order ≡ i
+    place-is : indexOf (outcomeSlot r) order ≡ i
     unfolding orderOf indexOf
     place-is =
         let rest : List Stamped = drop (suc i) ys in
-        let it : Stamped = getD ys i noOp in
-        let parts : ys ≡ take i ys ++ (it ∷ rest) = sym (take-append-drop i ys) ∙ ap (λ zs. take i ys ++ zs) (drop-cons ys i noOp within) in
-        let own : outcomeSlot (it .op) ≡ outcomeSlot r = each-at Told ys noOp i told within .new (at .here within) in
         let t : Each Told (take i ys) = each-left Told (take i ys) (drop i ys) (rw (take-append-drop i ys) told) in
+        let c = front-each more good-more old old-cut one-more i at in
         let first : indexOf (outcomeSlot r) (slots-of (it ∷ rest)) ≡ 0 = rw (eq-eqb (outcomeSlot r) (outcomeSlot (it .op)) (sym own)) in
-        let size : length (slots-of (take i ys)) ≡ i = length-map (take i ys) _ ∙ length-take-le i ys (at .inside) in
         ap (λ zs. indexOf (outcomeSlot r) (slots-of zs)) parts
-        ∙ rw (map-append, index-behind (outcomeSlot r) (slots-of (take i ys)) (slots-of (it ∷ rest)) (not-before (take i ys) t (front-each more good-more old old-cut one-more i at)), first, size)
-        (omega arith)
+        ∙ rw (
+          map-append,
+          index-behind (outcomeSlot r) (slots-of (take i ys)) (slots-of (it ∷ rest)) (not-before (take i ys) t c),
+          first,
+          front-size,
+        ) (omega arith)
 
     pub behind-is : sortAfter log r ≡ length (drop (suc i) order)
     unfolding sortAfter
     behind-is = rw place-is
+
+    -- the old order is the new one without it
+    old-slots : orderOf log old ≡ slots-of (take i ys) ++ slots-of (drop (suc i) ys)
+    unfolding orderOf
+    old-slots =
+        ap slots-of (sym (ordered-alike log more (good-ops good) old alike) ∙ old-ordered more good-more old old-cut one-more i at)
+        ∙ map-append _ (take i ys) (drop (suc i) ys)
+
+    pub sorts-in : SortsIn log r (sortAfter log r)
+    unfolding orderOf
+    sorts-in =
+        let front : List ℕ = slots-of (take i ys) in
+        let back : List ℕ = slots-of (drop (suc i) ys) in
+        let before : take i (orderOf log old) ≡ front = rw (old-slots) (take-at front back i front-size) in
+        let after : drop i (orderOf log old) ≡ back = rw (old-slots) (drop-at front back i front-size) in
+        record {
+          place = i;
+          order = ap slots-of parts ∙ map-append _ (take i ys) (it ∷ drop (suc i) ys)
+              ∙ rw (before, after) (ap (λ (k : ℕ). front ++ (k ∷ back)) own);
+          after = behind-is ∙ rw (after, length-drop, length-map, length-map, length-drop);
+        }

@@ -1,8 +1,7 @@
 -- Calls with a page worked out on P1, P11 and rival moves, as rows of one table that one theorem covers: ops that arrive late, pages that are
 -- not true, and calls that leave the page.
-use Prim.Native.Nat.{ℕ, suc}
-use lib.ListN.{drop, getD, length, replicate, set, take}
-use mathlib.Core.Bool.{true}
+use Prim.Native.Nat.{ℕ}
+use lib.ListN.{drop, getD, replicate, set}
 use mathlib.Core.List.{List, [], _∷_, _++_}
 use mathlib.Core.Path.{_≡_, refl}
 use Rattle.rules.specs.Answer.{Answer, refused, hadIt, accepted, require}
@@ -10,11 +9,11 @@ use Rattle.rules.specs.Bytes.{wordAt, word}
 use Rattle.lists.specs.Lists.{upFrom, downFrom, sum, greatest, same, concat, all, any, filter, isIn, indexOf}
 use Rattle.rules.specs.Deliver.{isHeld, heldAnswer, admitAnswer, deliverAnswer}
 use Rattle.rules.specs.Issue.{Request, add, move, opBytes, issued, requestKnown, requestUnmarked, requestClear, issueAnswer}
-use Rattle.rules.specs.Tree.{moveKind, mostOps, slots, slot, slotOf, parentIn, climb, path, depth, atOrBelow}
+use Rattle.rules.specs.Tree.{moveKind, mostOps, slot, slotOf, parentIn, climb, path, depth, atOrBelow}
 use Rattle.rules.specs.File.{Log, emptyLog, opsOf, opAt, countsOf, append, countAt, startAt, headerCounts, startOf, endOf, fileEnd, chunks, chunksOf, logOf, headerEntry, headerOf, fileOf, appended, within, width}
 use Rattle.rules.specs.Log.{covered, closedAt, closed, knownParent, namesKnown, soundOp, soundOps, soundLog, soundHeader, laid, structural}
 use Rattle.rules.specs.Marks.{isKnown, isMarked, marked, nodeWithin, knowledge}
-use Rattle.rules.specs.Op.{Op, Vector, replicas, isReplica, countIn, kindOf, replicaOf, nodeOf, parentOf, vectorOf, ownCount, seqOf, nodeNumber, isAdd, isRemove, isMove, wellFormed}
+use Rattle.rules.specs.Op.{Op, replicas, isReplica, countIn, kindOf, replicaOf, nodeOf, parentOf, vectorOf, ownCount, seqOf, nodeNumber, isAdd, isRemove, isMove, wellFormed}
 use Rattle.rules.specs.Replay.{opsWithin, addedIn, removedIn, timestampIn, timestamp, stamp, stamped, ofReplica, ofKind, ofTime, byTime, ordered, start, outcomeSlot, orderOf, outcomeOf, step, replay, parentsOf}
 use Rattle.rules.specs.Sound.{sound}
 use Rattle.rules.specs.Examples.{a₁, a₂, a₃, b₁, ofOps, p1, p1Adds, p11, p11One, p11Two, siblings, three, vector}

@@ -23,7 +23,7 @@ issued-origin log s (add p) = refl
 issued-origin log s (remove n) = refl
 issued-origin log s (move n p) = refl
 
-issued-vector : (log : Log) → GoodLog log → (s : ℕ) (q : Request) → vectorOf (issued log s q) ≡ countsOf log
+pub issued-vector : (log : Log) → GoodLog log → (s : ℕ) (q : Request) → vectorOf (issued log s q) ≡ countsOf log
 unfolding issued
 issued-vector log g s (add p) = bytes-vector _ s _ _ (countsOf log) (counts-eight log g)
 issued-vector log g s (remove n) = bytes-vector _ s _ _ (countsOf log) (counts-eight log g)

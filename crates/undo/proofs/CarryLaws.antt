@@ -1,10 +1,10 @@
 -- Carrying a replay along an order, as the code has it.
-use mathlib.Core.Path.{_≡_, refl, sym, ap, _∙_}
+use mathlib.Core.Path.{_≡_, sym, ap, _∙_}
 use mathlib.Core.Bool.{Bool, true, false, not}
-use mathlib.Core.List.{List, [], _∷_, map, foldl}
-use Prim.Native.Nat.{ℕ, zero, suc, _+_, _-_, _≤_, _<_}
+use mathlib.Core.List.{List, map, foldl}
+use Prim.Native.Nat.{ℕ, _+_, _-_, _≤_, _<_}
 use native.Mathlib.Omega.{arith}
-use native.Mathlib.Decide.{decLe, ℕ-discrete}
+use native.Mathlib.Decide.{ℕ-discrete}
 use lib.ListN.{length, getD, take, drop}
 use borrow.Author.Needs.{needs}
 use Rattle.lists.specs.Lists.{filter, upFrom}
@@ -14,17 +14,16 @@ use Rattle.lists.proofs.FilterLaws.{filter-map}
 use Rattle.lists.proofs.ListLaws.{map-map}
 use Rattle.lists.proofs.RangeLaws.{drop-places, take-places}
 use Rattle.rules.specs.Op.{Op, Vector, counted}
-use Rattle.rules.specs.File.{Log, countsOf, logOf, within}
+use Rattle.rules.specs.File.{Log, countsOf, logOf}
 use Rattle.rules.specs.Log.{covered, structural}
 use Rattle.rules.specs.Replay.{Stamped, ordered}
 use Rattle.rules.proofs.CausalLaws.{Le, le-within, within-le}
 use Rattle.rules.proofs.StructureLaws.{structural-good}
-use Rattle.order.specs.Undo.{Undoable, replayKeeping, stepKeeping, takeBack}
+use Rattle.order.specs.Undo.{replayKeeping, stepKeeping, takeBack}
 use Rattle.order.proofs.CarryLaws.{Agrees, carried}
 use Rattle.order.proofs.LevelLaws.{Cut}
 use Rattle.order.proofs.PartLaws.{inCut}
 use Rattle.order.proofs.UndoLaws.{opsOf}
-use Rattle.tree.specs.Slots.{opIn}
 use Rattle.replay.specs.Tables.{opAlong}
 use Rattle.undo.specs.Tables.{IsSlot, Named, TimedWalk, opsAlong, slotCounted, timedAlong, undoable}
 use Rattle.undo.proofs.KeepLaws.{counted-slot, kept-taken}

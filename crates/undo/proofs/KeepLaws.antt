@@ -1,20 +1,20 @@
 -- One op judged with what it overwrote kept, and taken back, as the code has it.
-use mathlib.Core.Path.{_≡_, refl, sym, ap, _∙_}
+use mathlib.Core.Path.{_≡_, sym, ap, _∙_}
 use mathlib.Core.Bool.{Bool, true, false, cond, not}
 use mathlib.Core.List.{List, [], _∷_, foldl}
-use Prim.Native.Nat.{ℕ, _+_, _*_, _-_, _/_, _%_, _≤_, _<_}
+use Prim.Native.Nat.{ℕ, _-_, _<_}
 use native.Mathlib.Omega.{arith}
 use lib.Dec.{leb}
 use lib.ListN.{length, drop, getD, set, length-replicate, length-set}
 use borrow.Author.Needs.{needs}
-use Rattle.lists.proofs.BoolLaws.{tested, so-by-not, not-so-by-not}
+use Rattle.lists.proofs.BoolLaws.{so-by-not, not-so-by-not}
 use Rattle.rules.specs.Op.{Op, Vector, countIn, counted, nodeOf}
 use Rattle.rules.specs.File.{Log, logOf}
 use Rattle.rules.specs.Tree.{slotOf, slots}
 use Rattle.rules.specs.Replay.{State, Stamped, ordered, outcomeSlot, step}
 use Rattle.rules.proofs.StepLaws.{Full, full-first, full-step}
 use Rattle.order.specs.Undo.{Undoable, replayKeeping, stepKeeping, takeBack, undo, unjudged}
-use Rattle.oplog.proofs.FieldLaws.{fields-at, small}
+use Rattle.oplog.proofs.FieldLaws.{fields-at}
 use Rattle.oplog.proofs.HeldLaws.{held-op}
 use Rattle.tree.specs.Slots.{opIn, replicaIn, sequenceIn, slotPlace}
 use Rattle.effect.specs.Effects.{Applicable, stampedAt, tables}

@@ -1,13 +1,13 @@
 -- Tables that keep what judging overwrote, ops along a table of slots, and what the functions ask.
 use Prim.Native.Nat.{ℕ, _-_, _≤_, _<_}
 use mathlib.Core.Path.{_≡_}
-use mathlib.Core.Bool.{Bool, true, false}
+use mathlib.Core.Bool.{Bool, true}
 use mathlib.Core.List.{List, map}
-use lib.ListN.{length, getD, take}
+use lib.ListN.{length, getD}
 use lib.Dec.{leb}
 use Rattle.lists.specs.Lists.{filter, upFrom}
 use Rattle.rules.specs.Op.{Op, Vector, countIn, counted}
-use Rattle.rules.specs.File.{Log, logOf}
+use Rattle.rules.specs.File.{Log}
 use Rattle.rules.specs.Log.{structural}
 use Rattle.rules.specs.Tree.{mostOps, slots}
 use Rattle.rules.specs.Replay.{Stamped}

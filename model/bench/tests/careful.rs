@@ -5,10 +5,12 @@ mod distance;
 
 use distance::{chain, Distance};
 use outline_bench::careful;
-use outline_model::cases::world::{self, full, part, Style, World};
+use outline_model::cases::world::{self, full, orders, part, Style, World};
 use outline_model::cases::{damage, examples};
 use outline_model::rng::Rng;
-use outline_model::{refusal, tree, Answer, Op, Tree, Vector, View, MAX_FILE, SLOTS};
+use outline_model::{
+    refusal, tree, Answer, Log, Op, Page, Tables, Tree, Vector, View, MAX_FILE, ORDER_LEN, SLOTS,
+};
 
 fn both<T: Clone + PartialEq + std::fmt::Debug, U: Clone + PartialEq + std::fmt::Debug>(
     one: &[T],
@@ -101,6 +103,16 @@ fn all_calls(rng: &mut Rng, buffer: &[u8], ops: &[Op]) {
     for holdback in [vec![], vec![0; 449], examples::holdback_of(&examples::p1())] {
         let op = ops.first().map_or(vec![1; 14], |op| op.bytes().to_vec());
         deliver_holdback(buffer, &op, &holdback);
+    }
+    let page = Log::open(buffer).map_or(Tables::default(), |log| Tables::of(&log));
+    for page in [
+        damage::page(rng, &Tables::of(&Log::default())),
+        page,
+        Tables::default(),
+    ] {
+        for _ in 0..4 {
+            some_page_call(rng, ops, &mut buffer.to_vec(), &mut page.clone());
+        }
     }
     make(
         buffer,
@@ -575,4 +587,188 @@ fn chains() {
             }
         }
     }
+}
+
+/// A call with a page at both, with bytes lent for an issued op.
+fn with_page(
+    buffer: &mut Vec<u8>,
+    page: &mut Tables,
+    room: usize,
+    careful: impl FnOnce(&mut [u8], &mut [u8], Page) -> (Answer, usize),
+    model: impl FnOnce(&mut [u8], &mut [u8], Page) -> (Answer, usize),
+) -> (Answer, usize) {
+    let (mut other, mut other_page) = (buffer.clone(), page.clone());
+    let (mut out, mut other_out) = (vec![7; room], vec![7; room]);
+    let answer = careful(buffer, &mut out, page.lend());
+    let expected = model(&mut other, &mut other_out, other_page.lend());
+    assert_eq!(answer, expected);
+    assert!(*buffer == other && out == other_out && *page == other_page);
+    answer
+}
+
+fn deliver_page(buffer: &mut Vec<u8>, op: &[u8], page: &mut Tables) -> (Answer, usize) {
+    with_page(
+        buffer,
+        page,
+        0,
+        |b, _, page| careful::deliver_page(b, op, page),
+        |b, _, page| outline_model::deliver_page(b, op, page),
+    )
+}
+
+/// A delivery of some op or an issue.
+fn some_page_call(
+    rng: &mut Rng,
+    ops: &[Op],
+    buffer: &mut Vec<u8>,
+    page: &mut Tables,
+) -> (Answer, usize) {
+    let some = |rng: &mut Rng| match ops {
+        [] => examples::add(1, 0, &[]),
+        _ => rng.pick(ops),
+    };
+    let op = some(rng);
+    let (node, parent) = match rng.below(5) {
+        0 => (op.node, 0),
+        1 => (0, op.node),
+        _ => (op.node, some(rng).node),
+    };
+    let replica = rng.below(10) as u8;
+    let room = rng.pick(&[14, 14, 14, 20, 13]);
+    match rng.below(10) {
+        0 => with_page(
+            buffer,
+            page,
+            room,
+            |b, o, page| careful::issue_add_page(b, replica, parent, o, page),
+            |b, o, page| outline_model::issue_add_page(b, replica, parent, o, page),
+        ),
+        1 => with_page(
+            buffer,
+            page,
+            room,
+            |b, o, page| careful::issue_remove_page(b, replica, node, o, page),
+            |b, o, page| outline_model::issue_remove_page(b, replica, node, o, page),
+        ),
+        2 | 3 => with_page(
+            buffer,
+            page,
+            room,
+            |b, o, page| careful::issue_move_page(b, replica, node, parent, o, page),
+            |b, o, page| outline_model::issue_move_page(b, replica, node, parent, o, page),
+        ),
+        4 => deliver_page(buffer, &damage::record(rng, &op.bytes()), page),
+        _ => deliver_page(buffer, &op.bytes(), page),
+    }
+}
+
+/// Parts of worlds with the rest of their ops in any order. Each call is lent the
+/// page that the last one left, now and then stained, longer or too short.
+#[test]
+fn pages() {
+    let mut rng = Rng::new(10);
+    let mut refused = [0; 12];
+    let [mut accepted, mut had_it, mut late, mut rebuilt] = [0; 4];
+    for round in 0..2500 {
+        let style = [Style::moves, Style::mixed][round % 2](1 + round % 8, 1 + rng.below(50));
+        let world = World::random(&mut rng, style).ops;
+        let share = rng.below(world.len() + 1);
+        let held = part(&mut rng, &world[..share], 10);
+        let mut buffer = examples::file_of(&held);
+        buffer.resize(buffer.len() + rng.pick(&[0, 13, 14, 90, 400, 400]), 9);
+        if rng.one_in(25) {
+            buffer = damage::random(&mut rng, &buffer);
+        }
+        let mut page = Tables::of(&examples::log_of(&held));
+        for _ in 0..8 {
+            let before = Log::open(&buffer).map_or(0, |log| log.ops().count());
+            let mut lent = page.clone();
+            match rng.below(16) {
+                0 | 1 => lent = damage::page(&mut rng, &page),
+                2 => lent.order.truncate(ORDER_LEN - 1),
+                3 => lent.parents.truncate(SLOTS - 1),
+                4 => lent.outcomes.truncate(rng.below(SLOTS)),
+                5 => lent.order.resize(ORDER_LEN + 9, 5),
+                6 => lent.parents.resize(SLOTS + 1, 5),
+                _ => {}
+            }
+            let (answer, taken) = some_page_call(&mut rng, &world, &mut buffer, &mut lent);
+            match answer {
+                Answer::Accepted(_) => {
+                    accepted += 1;
+                    page = lent;
+                }
+                Answer::HadIt => had_it += 1,
+                Answer::Refused(number) => refused[usize::from(number)] += 1,
+                other => panic!("{other:?}"),
+            }
+            late += usize::from(taken > 0 && taken < before);
+            rebuilt += usize::from(taken == before && before > 9);
+        }
+    }
+    for number in [1, 2, 3, 4, 5, 7, 8, 10, 11] {
+        assert!(refused[number] > 20, "{refused:?}");
+    }
+    assert!(accepted > 1000 && had_it > 500, "{accepted} {had_it}");
+    assert!(late > 100 && rebuilt > 50, "{late} {rebuilt}");
+}
+
+/// Small histories op by op in every order, on a true page and on ever new stains.
+#[test]
+fn pages_in_every_order() {
+    let mut rng = Rng::new(11);
+    let mut histories = examples::small_logs();
+    histories.extend([examples::rivals(), examples::all_kinds()]);
+    for late in examples::late_moves() {
+        histories.push([late.held, vec![late.late]].concat());
+    }
+    for ops in histories {
+        for order in orders(&ops, 40) {
+            for stained in [false, true] {
+                let mut buffer = examples::file_of(&[]);
+                buffer.resize(buffer.len() + 14 * ops.len(), 9);
+                let mut page = Tables::of(&Log::default());
+                for op in &order {
+                    if stained {
+                        page = damage::page(&mut rng, &page);
+                    }
+                    let (answer, _) = deliver_page(&mut buffer, &op.bytes(), &mut page);
+                    assert!(matches!(answer, Answer::Accepted(_)));
+                }
+                assert_eq!(page, Tables::of(&examples::log_of(&ops)));
+            }
+        }
+    }
+}
+
+/// The last of all that there can be, and an op that comes late by 1,785.
+#[test]
+fn large_pages() {
+    let mut rng = Rng::new(12);
+    for ops in [
+        full(&mut rng, Style::moves),
+        full(&mut rng, Style::mixed),
+        examples::longest_chain(),
+        examples::turns(2040),
+    ] {
+        let (last, held) = ops.split_last().expect("2,040 ops");
+        let mut buffer = examples::file_of(held);
+        buffer.resize(MAX_FILE, 9);
+        let mut page = Tables::of(&examples::log_of(held));
+        let untrue = damage::page(&mut rng, &page);
+        let taken = deliver_page(&mut buffer.clone(), &last.bytes(), &mut untrue.clone()).1;
+        assert_eq!(taken, held.len());
+        deliver_page(&mut buffer, &last.bytes(), &mut page);
+        assert_eq!(page, Tables::of(&examples::log_of(&ops)));
+        for _ in 0..20 {
+            some_page_call(&mut rng, &ops, &mut buffer, &mut page);
+        }
+    }
+    let held = &examples::longest_chain()[..1785];
+    let mut buffer = examples::file_of(held);
+    buffer.resize(MAX_FILE, 9);
+    let mut page = Tables::of(&examples::log_of(held));
+    let first = examples::add(8, 0, &[]).bytes();
+    let (_, taken) = deliver_page(&mut buffer, &first, &mut page);
+    assert_eq!(taken, 1785);
 }

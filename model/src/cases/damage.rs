@@ -1,7 +1,8 @@
 //! Damaged bytes: one changed, or the end cut off.
 
 use crate::rng::Rng;
-use crate::{HOLDBACK_LEN, HOLDBACK_PLACES, OP_LEN};
+use crate::tree::SLOTS;
+use crate::{Tables, HOLDBACK_LEN, HOLDBACK_PLACES, OP_LEN, ORDER_LEN};
 
 /// Values for a damaged byte, given the old one.
 pub fn values(old: u8) -> impl Iterator<Item = u8> {
@@ -77,4 +78,45 @@ pub fn holdback(rng: &mut Rng, good: &[u8]) -> Vec<u8> {
         _ => holdback[0] = rng.pick(&[HOLDBACK_PLACES as u8 + 1, 34, 64, 128, 255]),
     }
     holdback
+}
+
+/// An entry of a table of a page.
+#[derive(Clone, Copy, Debug)]
+pub enum Entry {
+    Order(usize),
+    Parent(usize),
+    Outcome(usize),
+}
+
+/// A copy of a page with another value in one entry, which these bits make.
+pub fn stained(page: &Tables, entry: Entry, bits: u16) -> Tables {
+    let mut page = page.clone();
+    match entry {
+        Entry::Order(at) => page.order[at] ^= bits,
+        Entry::Parent(at) => page.parents[at] ^= bits,
+        Entry::Outcome(at) => page.outcomes[at] ^= bits as u8,
+    }
+    page
+}
+
+/// An untrue page: one entry that counts is another, or two neighbours of the
+/// order are swapped, where these differ.
+pub fn page(rng: &mut Rng, page: &Tables) -> Tables {
+    let held = page.order.iter().filter(|&&slot| slot != 0).count();
+    let bits = 1 << rng.below(8);
+    let place = |rng: &mut Rng, length: usize| {
+        let any = rng.below(length);
+        rng.pick(&[0, held.min(length - 1), length - 1, any])
+    };
+    match rng.below(4) {
+        0 => stained(page, Entry::Order(place(rng, ORDER_LEN)), bits),
+        1 => stained(page, Entry::Parent(place(rng, SLOTS)), bits),
+        2 => stained(page, Entry::Outcome(place(rng, SLOTS)), bits),
+        _ => {
+            let mut page = page.clone();
+            let at = rng.below(held.max(1));
+            page.order.swap(at, at + 1);
+            page
+        }
+    }
 }

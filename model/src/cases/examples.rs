@@ -237,6 +237,87 @@ pub fn marked() -> Vec<Op> {
     ops
 }
 
+/// Four replicas move one node at one timestamp, two of them upward.
+pub fn rivals() -> Vec<Op> {
+    let mut ops = siblings(4);
+    ops.extend([
+        down(1, 1025, 1026, &[0, 0, 0, 3]),
+        up(2, 1025, 1027, &[0, 0, 0, 3]),
+        up(5, 1025, 1026, &[0, 0, 0, 3]),
+        down(8, 1025, 1027, &[0, 0, 0, 3]),
+    ]);
+    ops
+}
+
+/// Ops of every kind at one timestamp: at equal timestamps the kind settles the
+/// order, and then the replica.
+pub fn all_kinds() -> Vec<Op> {
+    let mut ops = siblings(4);
+    ops.extend([
+        add(1, 1025, &[0, 0, 0, 3]),
+        remove(2, 1025, &[0, 0, 0, 3]),
+        up(3, 1026, 1025, &[0, 0, 0, 3]),
+        down(5, 1027, 1026, &[0, 0, 0, 3]),
+        add(8, 1025, &[0, 0, 0, 3]),
+    ]);
+    ops
+}
+
+/// An op that comes late to a log, and makes the outcome of the only op of
+/// replica 1 there another one.
+pub struct Late {
+    pub held: Vec<Op>,
+    pub late: Op,
+    /// Before and after.
+    pub outcomes: [u8; 2],
+}
+
+/// Every outcome of a move becomes every other.
+pub fn late_moves() -> Vec<Late> {
+    let [a, b, c] = [1025, 1026, 1027];
+    let all = &[0, 0, 0, 3];
+    // In the second tree c lies below b.
+    let flat = siblings(4);
+    let mut nested = siblings(4);
+    nested[2].parent = b;
+    let late = |tree: &[Op], moves: &[Op], late, outcomes| Late {
+        held: [tree, moves].concat(),
+        late,
+        outcomes,
+    };
+    let one = down(1, a, b, all);
+    vec![
+        late(&flat, &[one], down(2, a, c, all), [1, 2]),
+        late(&flat, &[one], down(2, b, a, all), [1, 3]),
+        // The rival that came first is passed over now.
+        late(
+            &flat,
+            &[one, down(2, a, c, all)],
+            down(3, c, a, all),
+            [2, 1],
+        ),
+        late(
+            &nested,
+            &[down(1, a, c, all), down(2, a, b, all)],
+            down(3, b, a, all),
+            [2, 3],
+        ),
+        // What had closed the circle is a rival's now.
+        late(
+            &flat,
+            &[one, down(2, b, a, all)],
+            down(3, b, c, all),
+            [3, 1],
+        ),
+        late(
+            &flat,
+            &[one, down(2, b, a, all)],
+            down(3, a, c, all),
+            [3, 2],
+        ),
+    ]
+}
+
 /// Two ops that count each other: never sound, and a check must still end.
 pub fn mutual() -> Vec<Op> {
     vec![add(1, 0, &[0, 1]), add(2, 0, &[1, 0])]

@@ -129,7 +129,7 @@ fn bytes_past(script: &mut Script) {
 
 /// A record of each sort at the receiver: refused by each number, held, and
 /// accepted if there is room.
-fn each_sort() -> Vec<Vec<u8>> {
+pub(super) fn each_sort() -> Vec<Vec<u8>> {
     let mut records = vec![vec![], new()[..13].to_vec(), [new(), vec![0]].concat()];
     records.extend(refused().iter().map(|body| body.to_vec()));
     records.extend(receiver().iter().map(|op| op.bytes().to_vec()));

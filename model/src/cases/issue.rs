@@ -33,7 +33,7 @@ pub fn write(script: &mut Script) {
 }
 
 /// One call of each sort.
-fn each(replica: u8, node: u16, parent: u16, room: u8) -> [Case; 3] {
+pub(super) fn each(replica: u8, node: u16, parent: u16, room: u8) -> [Case; 3] {
     [
         Case::Add(replica, parent, room),
         Case::Remove(replica, node, room),
@@ -347,10 +347,16 @@ pub(super) fn empty() -> Vec<u8> {
 }
 
 pub(super) fn issue_here(script: &mut Script, rng: &mut Rng, replica: u8) {
-    let node = some_node(rng, script.buffer());
-    let parent = some_node(rng, script.buffer());
+    let case = some_issue(rng, script.buffer(), replica);
+    script.push(case);
+}
+
+/// Some issue of a replica; many are accepted at this buffer.
+pub(super) fn some_issue(rng: &mut Rng, buffer: &[u8], replica: u8) -> Case {
+    let node = some_node(rng, buffer);
+    let parent = some_node(rng, buffer);
     let case = pick_sort(rng);
-    script.push(each(replica, node, parent, ROOM)[case].clone());
+    each(replica, node, parent, ROOM)[case].clone()
 }
 
 pub(super) fn issue_there(rng: &mut Rng, buffer: &mut [u8], replica: u8) {

@@ -226,6 +226,27 @@ pub fn full(rng: &mut Rng, style: fn(usize, usize) -> Style) -> Vec<Op> {
     World::random(rng, style(REPLICAS, REPLICAS * MAX_SEQUENCE)).ops
 }
 
+/// Every order in which each of these ops comes after all it counts, but no more
+/// than so many.
+pub fn orders(ops: &[Op], most: usize) -> Vec<Vec<Op>> {
+    let mut whole = vec![];
+    let mut begun = vec![vec![]];
+    while let Some(order) = begun.pop().filter(|_| whole.len() < most) {
+        let held = log_of(&order).held();
+        let can_go =
+            |op: &&Op| at_most(&op.vector, &held) && op.sequence() > usize::from(held[op.index()]);
+        for &op in ops.iter().filter(can_go) {
+            let mut longer = order.clone();
+            longer.push(op);
+            begun.push(longer);
+        }
+        if order.len() == ops.len() {
+            whole.push(order);
+        }
+    }
+    whole
+}
+
 /// What a replica holds of these ops, given in an order in which each comes
 /// after all it counts: it lost one in so many, and so all that count that one.
 pub fn part(rng: &mut Rng, ops: &[Op], lost_one_in: usize) -> Vec<Op> {

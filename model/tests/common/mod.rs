@@ -236,6 +236,147 @@ pub fn issue_in(buffer: &mut [u8], replica: u8, issue: Issue, room: usize) -> (A
     (answer, out)
 }
 
+/// A call that a page goes with.
+#[derive(Clone, Debug)]
+pub enum PageCall {
+    Deliver(Vec<u8>),
+    /// Of a replica, with so many bytes lent for the op.
+    Issue(u8, Issue, usize),
+}
+
+impl PageCall {
+    /// The plain call, with what it put in the lent bytes.
+    fn plainly(&self, buffer: &mut [u8]) -> (Answer, Vec<u8>) {
+        match self {
+            PageCall::Deliver(op) => (deliver_checked(buffer, op), vec![]),
+            PageCall::Issue(replica, issue, room) => issue_in(buffer, *replica, *issue, *room),
+        }
+    }
+
+    fn with_page(&self, buffer: &mut [u8], page: Page) -> ((Answer, usize), Vec<u8>) {
+        let (replica, issue, room) = match self {
+            PageCall::Deliver(op) => return (deliver_page(buffer, op, page), vec![]),
+            PageCall::Issue(replica, issue, room) => (*replica, *issue, *room),
+        };
+        let mut out = vec![0xee; room];
+        let both = match issue {
+            Issue::Add(parent) => issue_add_page(buffer, replica, parent, &mut out, page),
+            Issue::Remove(node) => issue_remove_page(buffer, replica, node, &mut out, page),
+            Issue::Move(node, parent) => {
+                issue_move_page(buffer, replica, node, parent, &mut out, page)
+            }
+        };
+        (both, out)
+    }
+}
+
+/// What a call with a page came to.
+#[derive(Clone, Debug)]
+pub struct Paged {
+    pub answer: Answer,
+    pub taken: usize,
+    /// The bytes lent for an issued op.
+    pub out: Vec<u8>,
+}
+
+/// The call does to buffer and op what the plain one does, unless the page is
+/// short. The page is that of the new log if it accepts, and as before else.
+pub fn page_checked(buffer: &mut [u8], call: &PageCall, page: &mut Tables) -> Paged {
+    let (before, lent) = (buffer.to_vec(), page.clone());
+    let mut other = buffer.to_vec();
+    let (mut plain, mut written) = call.plainly(&mut other);
+    if is_short(page) && plain != Refused(1) {
+        (plain, other) = (Refused(2), before.clone());
+        written.fill(0xee);
+    }
+    let ((answer, taken), out) = call.with_page(buffer, page.lend());
+    assert_eq!(answer, plain);
+    assert_eq!(buffer, other);
+    assert_eq!(out, written);
+    if let Accepted(_) = answer {
+        let renewed = put_over(&lent, &fresh_page(buffer));
+        assert!(*page == renewed, "the page is not that of the log");
+        assert_eq!(taken, taken_by_definition(&before, buffer, &lent));
+    } else {
+        assert!(*page == lent, "a page changed without an acceptance");
+        assert_eq!(taken, 0);
+    }
+    Paged { answer, taken, out }
+}
+
+pub fn is_short(page: &Tables) -> bool {
+    page.order.len() < 2040 || page.parents.len() < 2041 || page.outcomes.len() < 2041
+}
+
+/// The tables with these at their front.
+fn put_over(lent: &Tables, front: &Tables) -> Tables {
+    let mut page = lent.clone();
+    page.order[..2040].copy_from_slice(&front.order);
+    page.parents[..2041].copy_from_slice(&front.parents);
+    page.outcomes[..2041].copy_from_slice(&front.outcomes);
+    page
+}
+
+/// All that were held if the page was not that of the log, else those of them
+/// that sort after the new one.
+fn taken_by_definition(before: &[u8], after: &[u8], page: &Tables) -> usize {
+    let (old, new) = (order_of(before), order_of(after));
+    if *page != put_over(page, &fresh_page(before)) {
+        return old.len();
+    }
+    let mut from_the_end = new.iter().rev();
+    let after_new = from_the_end.position(|slot| !old.contains(slot));
+    after_new.expect("an accepted op is new")
+}
+
+/// The page of a sound file.
+pub fn fresh_page(file: &[u8]) -> Tables {
+    let (parents, outcomes) = judged(file);
+    let mut order = order_of(file);
+    order.resize(2040, 0);
+    Tables {
+        order,
+        parents,
+        outcomes,
+    }
+}
+
+/// The slots of all ops in judging order, by the definitions.
+pub fn order_of(file: &[u8]) -> Vec<u16> {
+    let mut bodies = bodies(file);
+    let own = |body: &[u8]| {
+        (
+            usize::from(body[1]),
+            usize::from(body[5 + usize::from(body[1])]) + 1,
+        )
+    };
+    // Those that an op counts have lesser sums than it has.
+    bodies.sort_by_key(|body| body[6..].iter().copied().map(u32::from).sum::<u32>());
+    let mut timestamps: Vec<usize> = vec![];
+    for body in &bodies {
+        let within = |&at: &usize| {
+            let (replica, sequence) = own(&bodies[at]);
+            sequence <= usize::from(body[5 + replica])
+        };
+        let counted = (0..timestamps.len()).filter(within);
+        let greatest = counted.map(|at| timestamps[at]).max();
+        timestamps.push(1 + greatest.unwrap_or(0));
+    }
+    let mut ops: Vec<(usize, u8, usize, usize)> = vec![];
+    for (body, timestamp) in bodies.iter().zip(timestamps) {
+        let (replica, sequence) = own(body);
+        // The higher replica comes first.
+        ops.push((
+            timestamp,
+            body[0],
+            8 - replica,
+            255 * (replica - 1) + sequence,
+        ));
+    }
+    ops.sort_unstable();
+    ops.into_iter().map(|(_, _, _, slot)| slot as u16).collect()
+}
+
 /// The buffer is the old file with one op more, and nothing else changed.
 fn check_added(before: &[u8], after: &[u8], op: &[u8], end: usize) {
     let mut bodies = bodies(before);

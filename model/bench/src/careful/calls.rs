@@ -1,6 +1,6 @@
 //! Making, delivering, issuing and judging.
 
-use super::log::{Layout, Log, Op, ADD, DOWN, HEADER, OP, REMOVE, REPLICAS, UP};
+use super::log::{Layout, Log, Op, Vector, ADD, DOWN, HEADER, OP, REMOVE, UP};
 use super::replay::{climb_to, depth, marks, replay, slot_of, NO_PARENT, SLOTS};
 use outline_model::{refusal, Answer};
 
@@ -60,24 +60,14 @@ fn append(buffer: &mut [u8], layout: Layout, index: usize, op: &[u8; OP]) -> Res
 #[inline(never)]
 pub fn issue_add(buffer: &mut [u8], replica: u8, parent: u16, out: &mut [u8]) -> Answer {
     answer(issue(buffer, replica, out, |log, sequence| {
-        if !log.knows_parent(&log.layout.counts, parent) {
-            return Err(refusal::UNKNOWN);
-        }
-        // The root's slot is never marked.
-        if marks(log)[slot_of(parent)] == 1 {
-            return Err(refusal::MARKED);
-        }
-        Ok((ADD, u16::from_be_bytes([replica, sequence]), parent))
+        draft_add(log, replica, sequence, parent)
     }))
 }
 
 #[inline(never)]
 pub fn issue_remove(buffer: &mut [u8], replica: u8, node: u16, out: &mut [u8]) -> Answer {
     answer(issue(buffer, replica, out, |log, _| {
-        if !log.knows(&log.layout.counts, node) {
-            return Err(refusal::UNKNOWN);
-        }
-        Ok((REMOVE, node, 0))
+        draft_remove(log, node)
     }))
 }
 
@@ -90,58 +80,105 @@ pub fn issue_move(
     out: &mut [u8],
 ) -> Answer {
     answer(issue(buffer, replica, out, |log, _| {
-        let counts = &log.layout.counts;
-        if !log.knows(counts, node) || !log.knows_parent(counts, parent) || parent == node {
-            return Err(refusal::UNKNOWN);
-        }
-        let marks = marks(log);
-        if marks[slot_of(node)] == 1 || marks[slot_of(parent)] == 1 {
-            return Err(refusal::MARKED);
-        }
+        names_for_move(log, node, parent)?;
         let mut parents = [NO_PARENT; SLOTS];
         let mut outcomes = [0; SLOTS];
         replay(log, &mut parents, &mut outcomes);
-        let climb = climb_to(&parents, parent, node);
-        if climb.met {
-            return Err(refusal::BELOW_ITSELF);
-        }
-        // Not met, so that its steps are the parent's depth.
-        let upward = climb.steps < depth(&parents, node);
-        Ok((if upward { UP } else { DOWN }, node, parent))
+        draft_move(&parents, node, parent)
     }))
 }
 
-/// Tests 1, 2, 3 and 9; `draft` makes 7, 11 and 10, and gives kind, node and
-/// parent.
+/// Kind, node and parent of an op to be issued.
+pub type Draft = (u8, u16, u16);
+
+/// Tests 7 and 11.
+#[inline(always)]
+pub fn draft_add(log: &Log, replica: u8, sequence: u8, parent: u16) -> Result<Draft, u8> {
+    if !log.knows_parent(&log.layout.counts, parent) {
+        return Err(refusal::UNKNOWN);
+    }
+    // The root's slot is never marked.
+    if marks(log)[slot_of(parent)] == 1 {
+        return Err(refusal::MARKED);
+    }
+    Ok((ADD, u16::from_be_bytes([replica, sequence]), parent))
+}
+
+/// Test 7.
+#[inline(always)]
+pub fn draft_remove(log: &Log, node: u16) -> Result<Draft, u8> {
+    if !log.knows(&log.layout.counts, node) {
+        return Err(refusal::UNKNOWN);
+    }
+    Ok((REMOVE, node, 0))
+}
+
+/// Tests 7 and 11 of a move.
+#[inline(always)]
+pub fn names_for_move(log: &Log, node: u16, parent: u16) -> Result<(), u8> {
+    let counts = &log.layout.counts;
+    if !log.knows(counts, node) || !log.knows_parent(counts, parent) || parent == node {
+        return Err(refusal::UNKNOWN);
+    }
+    let marks = marks(log);
+    if marks[slot_of(node)] == 1 || marks[slot_of(parent)] == 1 {
+        return Err(refusal::MARKED);
+    }
+    Ok(())
+}
+
+/// Test 10; its names are tested.
+#[inline(always)]
+pub fn draft_move(parents: &[u16; SLOTS], node: u16, parent: u16) -> Result<Draft, u8> {
+    let climb = climb_to(parents, parent, node);
+    if climb.met {
+        return Err(refusal::BELOW_ITSELF);
+    }
+    // Not met, so that its steps are the parent's depth.
+    let upward = climb.steps < depth(parents, node);
+    Ok((if upward { UP } else { DOWN }, node, parent))
+}
+
+/// Tests 1, 2, 3 and 9; `draft` makes 7, 11 and 10.
 fn issue(
     buffer: &mut [u8],
     replica: u8,
     out: &mut [u8],
-    draft: impl FnOnce(&Log, u8) -> Result<(u8, u16, u16), u8>,
+    draft: impl FnOnce(&Log, u8) -> Result<Draft, u8>,
 ) -> Result<Answer, u8> {
     let log = Log::open(buffer).ok_or(refusal::UNSOUND)?;
-    let out: &mut [u8; OP] = out
-        .get_mut(..OP)
-        .and_then(|out| out.try_into().ok())
-        .ok_or(refusal::LENGTH)?;
-    let index = usize::from(replica).wrapping_sub(1);
-    if index >= REPLICAS {
-        return Err(refusal::FORM);
-    }
-    let sequence = log.layout.counts[index]
-        .checked_add(1)
-        .ok_or(refusal::REPLICA_FULL)?;
-    let (kind, node, parent) = draft(&log, sequence)?;
+    let out = record_space(out)?;
+    let (index, sequence) = next_of(&log, replica)?;
+    let op = write_op(replica, draft(&log, sequence)?, log.layout.counts);
     let layout = log.layout;
+    let accepted = append(buffer, layout, index, &op)?;
+    *out = op;
+    Ok(accepted)
+}
+
+/// Test 2 of the bytes lent for an op.
+pub fn record_space(out: &mut [u8]) -> Result<&mut [u8; OP], u8> {
+    let out = out.get_mut(..OP).and_then(|out| out.try_into().ok());
+    out.ok_or(refusal::LENGTH)
+}
+
+/// Tests 3 and 9 at issue: where the replica stands, and its next sequence.
+pub fn next_of(log: &Log, replica: u8) -> Result<(usize, u8), u8> {
+    let index = usize::from(replica).wrapping_sub(1);
+    let count = log.layout.counts.get(index).ok_or(refusal::FORM)?;
+    let sequence = count.checked_add(1).ok_or(refusal::REPLICA_FULL)?;
+    Ok((index, sequence))
+}
+
+/// The bytes of an issued op.
+pub fn write_op(replica: u8, (kind, node, parent): Draft, counts: Vector) -> [u8; OP] {
     let mut op = [0; OP];
     op[0] = kind;
     op[1] = replica;
     op[2..4].copy_from_slice(&node.to_be_bytes());
     op[4..6].copy_from_slice(&parent.to_be_bytes());
-    op[6..].copy_from_slice(&layout.counts);
-    let accepted = append(buffer, layout, index, &op)?;
-    *out = op;
-    Ok(accepted)
+    op[6..].copy_from_slice(&counts);
+    op
 }
 
 #[inline(never)]

@@ -1,7 +1,7 @@
 //! The calls in safe Rust, written for speed with equal care: no allocation,
 //! one pass for soundness that looks up changed counts alone, replay level by
 //! level, a linear listing, bundles opened in one scratch copy, holdbacks searched in
-//! place. These are the algorithms of the verified library, so that the two can
+//! place, pages checked by a replay that ops can be taken back from. These are the algorithms of the verified library, so that the two can
 //! be compared.
 
 mod bundle;
@@ -10,6 +10,7 @@ mod exchange;
 mod holdback;
 mod list;
 mod log;
+mod page;
 mod replay;
 
 pub use bundle::{make_bundle, open_bundle};
@@ -17,4 +18,5 @@ pub use calls::{deliver, issue_add, issue_move, issue_remove, judge, make};
 pub use exchange::exchange;
 pub use holdback::deliver_holdback;
 pub use list::{listing, path};
+pub use page::{deliver_page, issue_add_page, issue_move_page, issue_remove_page};
 pub use replay::climb_to;
