@@ -12,9 +12,12 @@
  * issues at most 255 ops. An op adds, removes or moves a node. The root is node
  * 0; the node that is added by op q of replica s is node 256 * s + q. A bundle
  * has all ops of a log that another lacks, in one piece. A holdback has places
- * for 32 ops that came before what they count and wait for it. A buffer of length
- * 0 holds no log, though the programs print a file of no bytes as one without
- * ops.
+ * for 32 ops that came before what they count and wait for it. A page is what
+ * judging a log says, kept beside it in three tables: the order in which the ops
+ * are judged, the nodes' parents and the ops' outcomes. An op that has been
+ * judged is taken back to be judged again after one that sorts before it. A
+ * buffer of length 0 holds no log, though the programs print a file of no bytes
+ * as one without ops.
  *
  * Memory. Lent memory is a pointer and a length, in elements (bytes, or
  * two-byte entries where the pointer is to uint16_t). The pointer must be valid
@@ -23,8 +26,8 @@
  * pieces of memory that are lent to one call must not overlap, but for two that
  * are both only read. Nothing is kept after a call, nothing is allocated, and
  * there is no global state, so any number of threads may call at once with
- * memory of their own; what waits in a holdback lies in the caller's memory too.
- * A call uses less than 64 KiB of stack.
+ * memory of their own; holdbacks and pages lie in the caller's memory too. A call
+ * uses less than 64 KiB of stack.
  *
  * No call asks anything else of its arguments: every content, every length and
  * every number is answered.
@@ -39,8 +42,11 @@
  *   256 ..    256 and a value: the end of the file, the entries of a path, the
  *             bytes of a listing or a bundle, how many counts; see
  *             outline_value()
- * No other number is answered. The numbers up to 127 are kept for refusals and
- * those up to 255 for answers without a value.
+ * These are all below 65536. The four calls with a page, outline_page_.., add
+ * 65536 to a value for each op that was taken back; outline_page_answer() and
+ * outline_page_taken() give the two parts. No other number is answered. The
+ * numbers up to 127 are kept for refusals and those up to 255 for answers without
+ * a value.
  */
 #ifndef OUTLINE_H
 #define OUTLINE_H
@@ -55,9 +61,9 @@ extern "C" {
 
 /* The version of this header; outline_version() answers that of the library. */
 #define OUTLINE_VERSION_MAJOR 0
-#define OUTLINE_VERSION_MINOR 4
+#define OUTLINE_VERSION_MINOR 5
 #define OUTLINE_VERSION_PATCH 0
-#define OUTLINE_VERSION_TEXT "0.4.0"
+#define OUTLINE_VERSION_TEXT "0.5.0"
 #define OUTLINE_VERSION \
     (10000 * OUTLINE_VERSION_MAJOR + 100 * OUTLINE_VERSION_MINOR + OUTLINE_VERSION_PATCH)
 
@@ -80,7 +86,8 @@ extern "C" {
 #define OUTLINE_HAD_IT 128
 #define OUTLINE_DONE 129
 #define OUTLINE_WAITING 130
-#define OUTLINE_VALUE 256 /* added to every value */
+#define OUTLINE_VALUE 256        /* added to every value */
+#define OUTLINE_TAKEN_BACK 65536 /* added by a call with a page for each op taken back */
 
 /* Sizes. What is lent in these sizes is never too short. */
 #define OUTLINE_REPLICAS 8
@@ -88,7 +95,8 @@ extern "C" {
 #define OUTLINE_OP 14                 /* bytes of an op */
 #define OUTLINE_MOST_OPS 2040         /* ops of the largest log */
 #define OUTLINE_LARGEST 28592         /* bytes of the largest log */
-#define OUTLINE_TABLE 2041            /* entries of a table of outline_judge */
+#define OUTLINE_TABLE 2041            /* entries of a table of parents or outcomes */
+#define OUTLINE_ORDER 2040            /* entries of the order of a page */
 #define OUTLINE_LONGEST_PATH 2041     /* entries of the longest path */
 #define OUTLINE_LONGEST_LISTING 24492 /* bytes that are enough for every listing */
 #define OUTLINE_LARGEST_BUNDLE 28569  /* bytes of the largest bundle */
@@ -101,7 +109,7 @@ extern "C" {
 #define OUTLINE_MOVE_UP 3   /* to a parent that was less deep than the node when it was issued */
 #define OUTLINE_MOVE_DOWN 4 /* any other move */
 
-/* In the tables of outline_judge. */
+/* In the tables of outline_judge and of a page. */
 #define OUTLINE_ROOT 0
 #define OUTLINE_NO_SLOT ((size_t)-1) /* the slot of a number that is no node's */
 #define OUTLINE_NO_PARENT 65535      /* parent entry of a slot without a node */
@@ -267,6 +275,76 @@ size_t outline_judge(const uint8_t *file, size_t file_len, uint16_t *parents, si
                      uint8_t *outcomes, size_t outcomes_len);
 
 /*
+ * Delivers an op as outline_deliver does, and keeps a page of the log, so that
+ * what judging says is at hand after every op. A page is three tables:
+ *   order        2,040 entries: the slots (outline_slot) of the held ops in the
+ *                order in which they are judged, then zeros
+ *   parents      2,041 entries, as outline_judge fills them
+ *   outcomes     2,041 entries, as outline_judge fills them
+ * To begin, lend tables of any content, such as zeros; then lend to each call
+ * with a page at this log what the last one left.
+ *   value end    accepted, and 65536 more for each op that was taken back: the
+ *                log has one op more and ends at `end`, and the page is what
+ *                judging it says
+ *   128          had it: the same op is there already
+ *   1, 2         unsound; not 14 bytes, or a page that is too short: an order of
+ *                less than 2,040 entries, parents or outcomes of less than 2,041
+ *   3 to 8       as outline_deliver
+ * in the order of outline_deliver.
+ * If accepted, the buffer is left as by outline_deliver. An op that is judged
+ * last is judged alone, and none is taken back. For any other, those that are
+ * judged after it are taken back, it is judged, and they are judged again. If the
+ * page was not what judging the log says before the call, it is built anew first;
+ * then all ops that were held count as taken back. The other calls know nothing
+ * of the page, and that does no harm: after outline_deliver,
+ * outline_holdback_deliver, outline_bundle_open, outline_make or an issue without
+ * it the page is old, and the next call with it that accepts sets it right.
+ * If refused, or had it, buffer and page are unchanged, also a page that is old.
+ * Entries past those of a page are not looked at and keep their content. The op
+ * is only read.
+ */
+size_t outline_page_deliver(uint8_t *buf, size_t buf_len, const uint8_t *op, size_t op_len,
+                            uint16_t *order, size_t order_len, uint16_t *parents,
+                            size_t parents_len, uint8_t *outcomes, size_t outcomes_len);
+
+/*
+ * Issues an add as outline_issue_add does, and keeps a page of the log as
+ * outline_page_deliver does.
+ *   value end    accepted, and 65536 more for each op that was taken back: the
+ *                log has one op more and ends at `end`, the first 14 bytes of
+ *                `out` are that op, and the page is what judging the log says
+ *   1, 2, 3      unsound; `out` shorter than 14 bytes, or a page that is too
+ *                short; no such replica
+ *   9, 7, 11, 8  as outline_issue_add
+ * in this order. A new op is judged last, so none is taken back, unless the page
+ * was not what judging the log said: then these are all that were held. If
+ * refused, the buffer, `out` and the page are unchanged.
+ */
+size_t outline_page_issue_add(uint8_t *buf, size_t buf_len, uint8_t replica, uint16_t parent,
+                              uint8_t *out, size_t out_len, uint16_t *order, size_t order_len,
+                              uint16_t *parents, size_t parents_len, uint8_t *outcomes,
+                              size_t outcomes_len);
+
+/*
+ * Issues a remove as outline_issue_remove does, and keeps a page of the log.
+ * Answers and leaves behind the same as outline_page_issue_add; there is no 11.
+ */
+size_t outline_page_issue_remove(uint8_t *buf, size_t buf_len, uint8_t replica, uint16_t node,
+                                 uint8_t *out, size_t out_len, uint16_t *order, size_t order_len,
+                                 uint16_t *parents, size_t parents_len, uint8_t *outcomes,
+                                 size_t outcomes_len);
+
+/*
+ * Issues a move as outline_issue_move does, and keeps a page of the log. Answers
+ * and leaves behind the same as outline_page_issue_add, and besides 7, 11 and 10
+ * as outline_issue_move.
+ */
+size_t outline_page_issue_move(uint8_t *buf, size_t buf_len, uint8_t replica, uint16_t node,
+                               uint16_t parent, uint8_t *out, size_t out_len, uint16_t *order,
+                               size_t order_len, uint16_t *parents, size_t parents_len,
+                               uint8_t *outcomes, size_t outcomes_len);
+
+/*
  * The path of a node: its number, its parent's, and so on to 0. The path of the
  * root is 0 alone.
  *   value n      the first n entries of `out` are the path
@@ -304,9 +382,16 @@ size_t outline_listing_size(const uint8_t *file, size_t file_len, bool skipping)
 /* Whether the answer is a refusal. */
 static inline bool outline_refused(size_t answer) { return answer < OUTLINE_HAD_IT; }
 
-/* The value of an answer, or 0 for one without a value. */
+/* The answer of a call with a page, as the call without it would have answered. */
+static inline size_t outline_page_answer(size_t answer) { return answer % OUTLINE_TAKEN_BACK; }
+
+/* How many ops a call with a page has taken back. */
+static inline size_t outline_page_taken(size_t answer) { return answer / OUTLINE_TAKEN_BACK; }
+
+/* The value of an answer, with a page or without; 0 for one without a value. */
 static inline size_t outline_value(size_t answer) {
-    return answer < OUTLINE_VALUE ? 0 : answer - OUTLINE_VALUE;
+    size_t plain = outline_page_answer(answer);
+    return plain < OUTLINE_VALUE ? 0 : plain - OUTLINE_VALUE;
 }
 
 /* An answer in words, for people; never NULL. */
@@ -342,8 +427,8 @@ static inline uint16_t outline_node(uint8_t replica, uint8_t sequence) {
 }
 
 /*
- * The slot of a node, or of the op that adds it, in the tables of
- * outline_judge; 0 is the root's. OUTLINE_NO_SLOT, which lies outside of every
+ * The slot of a node, or of the op that adds it, in the tables of outline_judge
+ * and of a page; 0 is the root's. OUTLINE_NO_SLOT, which lies outside of every
  * table, for every other number: no replica from 1 to 8, or no sequence from 1.
  */
 static inline size_t outline_slot(uint16_t node) {
@@ -351,6 +436,16 @@ static inline size_t outline_slot(uint16_t node) {
     if (node == OUTLINE_ROOT) return 0;
     if (replica < 1 || replica > OUTLINE_REPLICAS || sequence < 1) return OUTLINE_NO_SLOT;
     return 255 * (replica - 1) + sequence;
+}
+
+/*
+ * The number 256 * s + q of a slot, such as an entry of a page's order: op q of
+ * replica s stands there, and the node that it adds. 0 for slot 0, where no op
+ * stands, and for a slot past the tables.
+ */
+static inline uint16_t outline_slot_node(size_t slot) {
+    if (slot < 1 || slot >= OUTLINE_TABLE) return OUTLINE_ROOT;
+    return (uint16_t)(256 * ((slot - 1) / 255 + 1) + (slot - 1) % 255 + 1);
 }
 
 /* ---- inline functions: the 14 bytes of an op; any bytes may be read so */

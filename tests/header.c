@@ -21,6 +21,14 @@ static uint8_t outcomes[OUTLINE_TABLE], text[OUTLINE_LONGEST_LISTING], op[OUTLIN
 static uint8_t bundle[OUTLINE_LARGEST_BUNDLE + 1], holdback[OUTLINE_HOLDBACK];
 static const uint8_t nothing[OUTLINE_REPLICAS] = {0};
 
+/* A page with an entry more behind each table, which no call may look at or change. */
+struct page {
+    uint16_t order[OUTLINE_ORDER + 1], parents[OUTLINE_TABLE + 1];
+    uint8_t outcomes[OUTLINE_TABLE + 1];
+};
+static struct page page;
+static const size_t whole[3] = {OUTLINE_ORDER + 1, OUTLINE_TABLE + 1, OUTLINE_TABLE + 1};
+
 static size_t add(uint8_t *log, uint8_t replica, uint16_t parent) {
     return outline_issue_add(log, OUTLINE_LARGEST, replica, parent, op, sizeof op);
 }
@@ -36,6 +44,35 @@ static size_t deliver(uint8_t *log, const uint8_t *bytes) {
 static size_t deliver_held(uint8_t *log, const uint8_t *bytes) {
     return outline_holdback_deliver(log, OUTLINE_LARGEST, bytes, OUTLINE_OP, holdback,
                                     OUTLINE_HOLDBACK);
+}
+
+/* With the page, of whose tables so many entries are lent. */
+static size_t deliver_in(uint8_t *log, size_t log_len, const uint8_t *bytes, size_t length,
+                         const size_t lent[3]) {
+    return outline_page_deliver(log, log_len, bytes, length, page.order, lent[0], page.parents,
+                                lent[1], page.outcomes, lent[2]);
+}
+
+static size_t add_in(uint8_t *log, size_t log_len, uint8_t replica, uint16_t parent,
+                     size_t out_len, const size_t lent[3]) {
+    return outline_page_issue_add(log, log_len, replica, parent, op, out_len, page.order, lent[0],
+                                  page.parents, lent[1], page.outcomes, lent[2]);
+}
+
+static size_t remove_in(uint8_t *log, size_t log_len, uint8_t replica, uint16_t node,
+                        size_t out_len, const size_t lent[3]) {
+    return outline_page_issue_remove(log, log_len, replica, node, op, out_len, page.order, lent[0],
+                                     page.parents, lent[1], page.outcomes, lent[2]);
+}
+
+static size_t move_in(uint8_t *log, size_t log_len, uint8_t replica, uint16_t node,
+                      uint16_t parent, size_t out_len, const size_t lent[3]) {
+    return outline_page_issue_move(log, log_len, replica, node, parent, op, out_len, page.order,
+                                   lent[0], page.parents, lent[1], page.outcomes, lent[2]);
+}
+
+static size_t deliver_paged(uint8_t *log, const uint8_t *bytes) {
+    return deliver_in(log, OUTLINE_LARGEST, bytes, OUTLINE_OP, whole);
 }
 
 static size_t open_bundle(uint8_t *log, size_t length) {
@@ -62,6 +99,14 @@ static void numbers(void) {
     EXPECT(outline_value(OUTLINE_BAD_HOLDBACK) == 0 && outline_value(OUTLINE_DONE) == 0);
     EXPECT(outline_value(OUTLINE_WAITING) == 0);
     EXPECT(outline_value(VALUE(0)) == 0 && outline_value(VALUE(28592)) == 28592);
+    EXPECT(OUTLINE_TAKEN_BACK == 65536 && OUTLINE_ORDER == OUTLINE_MOST_OPS);
+    EXPECT(outline_page_answer(OUTLINE_LENGTH) == 2 && outline_page_taken(OUTLINE_LENGTH) == 0);
+    EXPECT(outline_page_answer(VALUE(28592)) == VALUE(28592));
+    EXPECT(outline_page_taken(VALUE(28592)) == 0);
+    size_t late = VALUE(28592) + (size_t)OUTLINE_TAKEN_BACK * 2039;
+    EXPECT(outline_page_answer(late) == VALUE(28592) && outline_page_taken(late) == 2039);
+    EXPECT(outline_value(late) == 28592 && !outline_refused(late));
+    EXPECT(strcmp(outline_text(late), outline_text(VALUE(0))) == 0);
     const char *none = outline_text(0);
     for (size_t a = 0; a < 300; a++) {
         bool named = (a >= 1 && a <= 14) || (a >= 128 && a <= 130) || a >= 256;
@@ -84,8 +129,10 @@ static void slots(void) {
         EXPECT(!taken[slot]);
         taken[slot] = true;
         found++;
+        EXPECT(outline_slot_node(slot) == n);
         if (n != OUTLINE_ROOT) EXPECT(outline_node((uint8_t)s, (uint8_t)q) == n);
     }
+    EXPECT(outline_slot_node(OUTLINE_TABLE) == 0 && outline_slot_node(OUTLINE_NO_SLOT) == 0);
     EXPECT(found == OUTLINE_TABLE && outline_slot(OUTLINE_ROOT) == 0);
     EXPECT(outline_slot(OUTLINE_NO_PARENT) == OUTLINE_NO_SLOT);
 }
@@ -434,6 +481,304 @@ static void searches(void) {
     EXPECT(deliver_held(log_b, ops[3]) == VALUE(102) && holdback[0] == 0);
 }
 
+/*
+ * The page of a log: the order as a bundle of all ops has it, parents and outcomes
+ * as judging fills them, and 9s behind.
+ */
+static void page_of(const uint8_t *log, struct page *fresh) {
+    size_t end = outline_value(outline_end(log, OUTLINE_LARGEST));
+    size_t count = (end - OUTLINE_HEADER) / OUTLINE_OP;
+    size_t length =
+        outline_value(outline_bundle_make(log, OUTLINE_LARGEST, nothing, bundle, sizeof bundle));
+    const uint8_t *next = bundle + length - OUTLINE_OP * count;
+    memset(fresh, 9, sizeof *fresh);
+    outline_judge(log, OUTLINE_LARGEST, fresh->parents, OUTLINE_TABLE, fresh->outcomes,
+                  OUTLINE_TABLE);
+    for (size_t i = 0; i < OUTLINE_ORDER; i++) {
+        fresh->order[i] = 0;
+        if (i >= count) continue;
+        uint16_t node = outline_node(outline_op_replica(next), outline_op_sequence(next));
+        fresh->order[i] = (uint16_t)outline_slot(node);
+        next += OUTLINE_OP;
+    }
+}
+
+static bool same_pages(const struct page *a, const struct page *b) {
+    return memcmp(a->order, b->order, sizeof a->order) == 0 &&
+           memcmp(a->parents, b->parents, sizeof a->parents) == 0 &&
+           memcmp(a->outcomes, b->outcomes, sizeof a->outcomes) == 0;
+}
+
+/* Whether the page is what judging the log says. */
+static bool is_true(const uint8_t *log) {
+    static struct page fresh;
+    page_of(log, &fresh);
+    return same_pages(&page, &fresh);
+}
+
+/* What calls that change nothing have to leave: log_b, op and page. */
+static uint8_t kept_log[OUTLINE_LARGEST], kept_op[OUTLINE_OP];
+static struct page kept_page;
+
+static void keep(void) {
+    memcpy(kept_log, log_b, sizeof kept_log);
+    memcpy(kept_op, op, sizeof kept_op);
+    memcpy(&kept_page, &page, sizeof kept_page);
+}
+
+static bool is_kept(void) {
+    return memcmp(kept_log, log_b, sizeof kept_log) == 0 &&
+           memcmp(kept_op, op, sizeof kept_op) == 0 && same_pages(&kept_page, &page);
+}
+
+/* Two nodes, and each moved below the other: the first of the two moves comes late. */
+static void late_ops(void) {
+    uint8_t ops[4][OUTLINE_OP];
+    outline_make(log_a, sizeof log_a);
+    for (int i = 0; i < 2; i++) {
+        add(log_a, 1, 0);
+        memcpy(ops[i], op, sizeof op);
+    }
+    memcpy(log_b, log_a, sizeof log_b);
+    move(log_a, 1, 258, 257);
+    memcpy(ops[2], op, sizeof op);
+    move(log_b, 2, 257, 258);
+    memcpy(ops[3], op, sizeof op);
+    memset(&page, 9, sizeof page);
+    memset(log_b, 9, sizeof log_b);
+    outline_make(log_b, sizeof log_b);
+    /* A page of 9s is built anew, from no op; then those that come last are judged alone. */
+    for (size_t i = 0; i < 3; i++) {
+        EXPECT(deliver_paged(log_b, ops[i]) == VALUE(46 + OUTLINE_OP * i) && is_true(log_b));
+    }
+    EXPECT(page.parents[outline_slot(258)] == 257 && page.outcomes[3] == OUTLINE_APPLIED);
+    /* 2:1 is judged before 1:3, which is taken back and then would close a circle. */
+    EXPECT(deliver_paged(log_b, ops[3]) == VALUE(88) + OUTLINE_TAKEN_BACK && is_true(log_b));
+    EXPECT(page.order[0] == 1 && page.order[1] == 2 && page.order[4] == 0);
+    EXPECT(page.order[2] == outline_slot(outline_node(2, 1)) && page.order[3] == 3);
+    EXPECT(page.parents[outline_slot(258)] == 0 && page.parents[outline_slot(257)] == 258);
+    EXPECT(page.outcomes[3] == OUTLINE_WOULD_CLOSE_CIRCLE);
+    EXPECT(log_b[88] == 9 && log_b[sizeof log_b - 1] == 9);
+    /* Had it, each: nothing is taken back. */
+    keep();
+    for (size_t i = 0; i < 4; i++) EXPECT(deliver_paged(log_b, ops[i]) == OUTLINE_HAD_IT);
+    EXPECT(is_kept());
+    /* Issues are judged last. */
+    EXPECT(add_in(log_b, 102, 3, 257, sizeof op, whole) == VALUE(102) && is_true(log_b));
+    EXPECT(outline_op_node(op) == outline_node(3, 1) && log_b[102] == 9);
+    EXPECT(move_in(log_b, sizeof log_b, 3, 769, 0, sizeof op, whole) == VALUE(116));
+    EXPECT(is_true(log_b) && outline_op_kind(op) == OUTLINE_MOVE_UP);
+    EXPECT(page.parents[outline_slot(769)] == 0);
+    EXPECT(remove_in(log_b, sizeof log_b, 1, 769, sizeof op, whole) == VALUE(130));
+    EXPECT(is_true(log_b) && outline_op_kind(op) == OUTLINE_REMOVE);
+    EXPECT(page.order[6] == outline_slot(outline_node(1, 4)) && page.order[7] == 0);
+}
+
+/* Eight replicas that never met, one after the other, to a full log. */
+static void late_replicas(void) {
+    static uint8_t apart[OUTLINE_LARGEST];
+    memset(&page, 9, sizeof page);
+    memset(page.order, 0, sizeof page.order[0] * OUTLINE_ORDER);
+    outline_make(log_a, sizeof log_a);
+    for (size_t s = 1; s <= OUTLINE_REPLICAS; s++) {
+        outline_make(apart, sizeof apart);
+        for (size_t q = 1; q <= 255; q++) {
+            outline_issue_add(apart, sizeof apart, (uint8_t)s, 0, op, sizeof op);
+            /* Of each replica before, op q and those behind it are judged later. */
+            size_t answer = deliver_paged(log_a, op);
+            EXPECT(outline_page_taken(answer) == (s - 1) * (256 - q));
+            EXPECT(outline_page_answer(answer) == outline_end(log_a, sizeof log_a));
+            if (q % 51 == 0) EXPECT(is_true(log_a));
+        }
+    }
+    EXPECT(page.order[OUTLINE_ORDER - 1] == 255 && page.order[OUTLINE_ORDER] == 9 * 257);
+    EXPECT(add_in(log_a, sizeof log_a, 1, 0, sizeof op, whole) == OUTLINE_EXHAUSTED);
+    EXPECT(is_true(log_a));
+}
+
+/*
+ * log_b with nodes 257, 258 below it and 513 below that, 259, which is removed,
+ * and all that replica 8 can add; and its page.
+ */
+static void start_paged(void) {
+    outline_make(log_b, sizeof log_b);
+    add(log_b, 1, 0);
+    add(log_b, 1, 257);
+    add(log_b, 2, 258);
+    add(log_b, 1, 0);
+    outline_issue_remove(log_b, sizeof log_b, 1, 259, op, sizeof op);
+    for (int i = 0; i < 255; i++) add(log_b, 8, 0);
+    page_of(log_b, &page);
+}
+
+static void refused_deliveries(void) {
+    const uint8_t good[OUTLINE_OP] = {OUTLINE_ADD, 3, 3, 1};
+    const uint8_t held[OUTLINE_OP] = {OUTLINE_ADD, 1, 1, 1};
+    const uint8_t other[OUTLINE_OP] = {OUTLINE_ADD, 1, 1, 1, 1, 2};
+    const uint8_t malformed[OUTLINE_OP] = {5, 3, 3, 1};
+    const uint8_t early[OUTLINE_OP] = {OUTLINE_ADD, 3, 3, 1, 0, 0, 5};
+    const uint8_t gap[OUTLINE_OP] = {OUTLINE_ADD, 3, 3, 1, 0, 0, 1, 1};
+    const uint8_t unknown[OUTLINE_OP] = {OUTLINE_ADD, 3, 3, 1, 1, 1};
+    size_t size = sizeof log_b, end = outline_value(outline_end(log_b, size));
+    const size_t none[3] = {0, 0, 0};
+    EXPECT(deliver_in(log_b, end - 1, malformed, 13, none) == OUTLINE_UNSOUND);
+    EXPECT(deliver_in(log_b, size, malformed, 14, none) == OUTLINE_LENGTH);
+    EXPECT(deliver_in(log_b, size, good, 13, whole) == OUTLINE_LENGTH);
+    EXPECT(deliver_in(log_b, size, good, 15, whole) == OUTLINE_LENGTH);
+    for (int table = 0; table < 3; table++) { /* each too short alone, by one and wholly */
+        size_t lent[3] = {OUTLINE_ORDER, OUTLINE_TABLE, OUTLINE_TABLE};
+        lent[table]--;
+        EXPECT(deliver_in(log_b, size, good, 14, lent) == OUTLINE_LENGTH);
+        EXPECT(deliver_in(log_b, size, held, 14, lent) == OUTLINE_LENGTH);
+        lent[table] = 0;
+        EXPECT(deliver_in(log_b, size, good, 14, lent) == OUTLINE_LENGTH);
+        EXPECT(deliver_in(log_b, size, malformed, 14, lent) == OUTLINE_LENGTH);
+    }
+    EXPECT(deliver_in(log_b, size, malformed, 14, whole) == OUTLINE_MALFORMED);
+    EXPECT(deliver_in(log_b, size, held, 14, whole) == OUTLINE_HAD_IT);
+    EXPECT(deliver_in(log_b, size, other, 14, whole) == OUTLINE_CONFLICT);
+    EXPECT(deliver_in(log_b, size, early, 14, whole) == OUTLINE_EARLY);
+    EXPECT(deliver_in(log_b, size, gap, 14, whole) == OUTLINE_NOT_CLOSED);
+    EXPECT(deliver_in(log_b, end, unknown, 14, whole) == OUTLINE_UNKNOWN);
+    EXPECT(deliver_in(log_b, end + 13, good, 14, whole) == OUTLINE_NO_ROOM);
+}
+
+static void refused_issues(void) {
+    size_t size = sizeof log_b, end = outline_value(outline_end(log_b, size));
+    const size_t none[3] = {0, 0, 0};
+    EXPECT(add_in(log_b, end - 1, 9, 1, 13, none) == OUTLINE_UNSOUND);
+    EXPECT(remove_in(log_b, end - 1, 9, 1, 13, none) == OUTLINE_UNSOUND);
+    EXPECT(move_in(log_b, end - 1, 9, 1, 1, 13, none) == OUTLINE_UNSOUND);
+    EXPECT(add_in(log_b, size, 9, 1, 13, whole) == OUTLINE_LENGTH);
+    EXPECT(remove_in(log_b, size, 9, 1, 13, whole) == OUTLINE_LENGTH);
+    EXPECT(move_in(log_b, size, 9, 1, 1, 13, whole) == OUTLINE_LENGTH);
+    for (int table = 0; table < 3; table++) {
+        size_t lent[3] = {OUTLINE_ORDER, OUTLINE_TABLE, OUTLINE_TABLE};
+        lent[table]--;
+        EXPECT(add_in(log_b, size, 9, 0, 14, lent) == OUTLINE_LENGTH);
+        EXPECT(remove_in(log_b, size, 9, 257, 14, lent) == OUTLINE_LENGTH);
+        EXPECT(move_in(log_b, size, 9, 258, 0, 14, lent) == OUTLINE_LENGTH);
+        lent[table] = 0;
+        EXPECT(add_in(log_b, size, 1, 0, 14, lent) == OUTLINE_LENGTH);
+        EXPECT(remove_in(log_b, size, 1, 257, 14, lent) == OUTLINE_LENGTH);
+        EXPECT(move_in(log_b, size, 1, 258, 0, 14, lent) == OUTLINE_LENGTH);
+    }
+    EXPECT(add_in(log_b, size, 9, 1, 14, whole) == OUTLINE_MALFORMED);
+    EXPECT(remove_in(log_b, size, 0, 1, 14, whole) == OUTLINE_MALFORMED);
+    EXPECT(move_in(log_b, size, 9, 1, 1, 14, whole) == OUTLINE_MALFORMED);
+    EXPECT(add_in(log_b, size, 8, 1, 14, whole) == OUTLINE_EXHAUSTED);
+    EXPECT(remove_in(log_b, size, 8, 1, 14, whole) == OUTLINE_EXHAUSTED);
+    EXPECT(move_in(log_b, size, 8, 1, 1, 14, whole) == OUTLINE_EXHAUSTED);
+    EXPECT(add_in(log_b, size, 1, 1, 14, whole) == OUTLINE_UNKNOWN);
+    EXPECT(remove_in(log_b, size, 1, 0, 14, whole) == OUTLINE_UNKNOWN);
+    EXPECT(move_in(log_b, size, 1, 257, 257, 14, whole) == OUTLINE_UNKNOWN);
+    EXPECT(add_in(log_b, end, 1, 259, 14, whole) == OUTLINE_MARKED);
+    EXPECT(move_in(log_b, end, 1, 258, 259, 14, whole) == OUTLINE_MARKED);
+    EXPECT(move_in(log_b, end, 1, 257, 513, 14, whole) == OUTLINE_CYCLE);
+    EXPECT(add_in(log_b, end + 13, 1, 0, 14, whole) == OUTLINE_NO_ROOM);
+    EXPECT(remove_in(log_b, end + 13, 1, 259, 14, whole) == OUTLINE_NO_ROOM);
+    EXPECT(move_in(log_b, end + 13, 1, 513, 0, 14, whole) == OUTLINE_NO_ROOM);
+}
+
+/* What is refused, or held, leaves all as it was, be the page true or not. */
+static void page_answers(void) {
+    start_paged();
+    for (int stains = 0; stains < 3; stains++) {
+        if (stains == 1) page.order[3] ^= 1;
+        if (stains == 2) memset(&page, 9, sizeof page);
+        keep();
+        refused_deliveries();
+        refused_issues();
+        EXPECT(is_kept());
+    }
+}
+
+/* Changes an entry of a table of the page, or changes it back. */
+static void stain(int table, size_t at) {
+    if (table == 0) page.order[at] ^= 1;
+    if (table == 1) page.parents[at] ^= 256;
+    if (table == 2) page.outcomes[at] ^= 2;
+}
+
+/* Adds an op with the page in one of four ways. */
+static size_t call_paged(int way, const uint8_t *bytes) {
+    size_t size = sizeof log_b;
+    switch (way) {
+    case 0: return deliver_paged(log_b, bytes);
+    case 1: return add_in(log_b, size, 3, 0, sizeof op, whole);
+    case 2: return remove_in(log_b, size, 3, 257, sizeof op, whole);
+    default: return move_in(log_b, size, 3, 258, 0, sizeof op, whole);
+    }
+}
+
+/* One wrong entry, wherever it is counted, and the page is built anew; behind it none counts. */
+static void page_stains(void) {
+    static const uint8_t late[OUTLINE_OP] = {OUTLINE_ADD, 3, 3, 1, 0, 0, 1};
+    static struct page good;
+    const size_t at[] = {0, 1, 259, 260, 261, 1020, 2038, 2039, 2040, 2041};
+    const size_t behind[] = {OUTLINE_ORDER, OUTLINE_TABLE, OUTLINE_TABLE};
+    start_paged(); /* 260 ops */
+    memcpy(kept_log, log_b, sizeof kept_log);
+    memcpy(&good, &page, sizeof good);
+    for (int table = 0; table < 3; table++)
+        for (size_t i = 0; i < sizeof at / sizeof at[0] && at[i] <= behind[table]; i++)
+            for (int way = 0; way < 4; way++) {
+                bool counts = at[i] < behind[table];
+                size_t later = way == 0 ? 259 : 0; /* the late one is judged after 1:1 alone */
+                memcpy(log_b, kept_log, sizeof log_b);
+                memcpy(&page, &good, sizeof page);
+                stain(table, at[i]);
+                size_t answer = call_paged(way, late);
+                EXPECT(outline_page_taken(answer) == (counts ? 260 : later));
+                EXPECT(outline_page_answer(answer) == VALUE(OUTLINE_HEADER + 261 * OUTLINE_OP));
+                if (!counts) stain(table, at[i]);
+                EXPECT(is_true(log_b));
+            }
+}
+
+/* A page that a call without it made old: the next with it tells all ops held before. */
+static void old_pages(void) {
+    const uint8_t *first = log_a + OUTLINE_HEADER;
+    const uint8_t *second = first + OUTLINE_OP, *third = second + OUTLINE_OP;
+    outline_make(log_a, sizeof log_a);
+    for (int i = 0; i < 3; i++) add(log_a, 1, 0);
+    memset(&page, 9, sizeof page);
+    outline_make(log_b, sizeof log_b);
+    EXPECT(deliver_paged(log_b, first) == VALUE(46));
+    EXPECT(deliver(log_b, second) == VALUE(60) && !is_true(log_b));
+    keep();
+    EXPECT(deliver_paged(log_b, second) == OUTLINE_HAD_IT && is_kept());
+    /* The op is judged last, and still the page was built anew. */
+    EXPECT(deliver_paged(log_b, third) == VALUE(74) + 2 * OUTLINE_TAKEN_BACK && is_true(log_b));
+    EXPECT(add(log_b, 1, 0) == VALUE(88));
+    EXPECT(add_in(log_b, sizeof log_b, 1, 0, 14, whole) == VALUE(102) + 4 * OUTLINE_TAKEN_BACK);
+    EXPECT(is_true(log_b));
+    outline_issue_remove(log_b, sizeof log_b, 1, 257, op, sizeof op);
+    EXPECT(remove_in(log_b, sizeof log_b, 1, 257, 14, whole) ==
+           VALUE(130) + 6 * OUTLINE_TAKEN_BACK);
+    EXPECT(is_true(log_b));
+    move(log_b, 1, 258, 259);
+    EXPECT(move_in(log_b, sizeof log_b, 1, 258, 0, 14, whole) ==
+           VALUE(158) + 8 * OUTLINE_TAKEN_BACK);
+    EXPECT(is_true(log_b));
+    /* A holdback, a bundle, and a log that was made anew. */
+    memset(holdback, 0, sizeof holdback);
+    outline_make(log_b, sizeof log_b);
+    EXPECT(!is_true(log_b));
+    EXPECT(deliver_paged(log_b, first) == VALUE(46) && is_true(log_b));
+    EXPECT(deliver_held(log_b, third) == OUTLINE_WAITING && is_true(log_b));
+    EXPECT(deliver_held(log_b, second) == VALUE(74) && !is_true(log_b));
+    EXPECT(add_in(log_b, sizeof log_b, 2, 0, 14, whole) == VALUE(88) + 3 * OUTLINE_TAKEN_BACK);
+    EXPECT(is_true(log_b));
+    outline_make(log_b, sizeof log_b);
+    EXPECT(deliver_paged(log_b, first) == VALUE(46));
+    size_t length =
+        outline_value(outline_bundle_make(log_a, sizeof log_a, nothing, bundle, sizeof bundle));
+    EXPECT(open_bundle(log_b, length) == VALUE(74) && !is_true(log_b));
+    EXPECT(add_in(log_b, sizeof log_b, 2, 0, 14, whole) == VALUE(88) + 3 * OUTLINE_TAKEN_BACK);
+    EXPECT(is_true(log_b));
+}
+
 /* Length 0 with NULL. */
 static void nulls(void) {
     uint8_t *none = NULL;
@@ -449,6 +794,14 @@ static void nulls(void) {
     EXPECT(outline_issue_remove(none, 0, 1, 257, none, 0) == OUTLINE_UNSOUND);
     EXPECT(outline_issue_move(none, 0, 1, 257, 0, none, 0) == OUTLINE_UNSOUND);
     EXPECT(outline_judge(none, 0, no_entries, 0, none, 0) == OUTLINE_UNSOUND);
+    EXPECT(outline_page_deliver(none, 0, none, 0, no_entries, 0, no_entries, 0, none, 0) ==
+           OUTLINE_UNSOUND);
+    EXPECT(outline_page_issue_add(none, 0, 1, 0, none, 0, no_entries, 0, no_entries, 0, none, 0) ==
+           OUTLINE_UNSOUND);
+    EXPECT(outline_page_issue_remove(none, 0, 1, 257, none, 0, no_entries, 0, no_entries, 0, none,
+                                     0) == OUTLINE_UNSOUND);
+    EXPECT(outline_page_issue_move(none, 0, 1, 257, 0, none, 0, no_entries, 0, no_entries, 0, none,
+                                   0) == OUTLINE_UNSOUND);
     EXPECT(outline_path(none, 0, 0, no_entries, 0) == OUTLINE_UNSOUND);
     EXPECT(outline_listing(none, 0, false, none, 0) == OUTLINE_UNSOUND);
     EXPECT(outline_listing_size(none, 0, true) == OUTLINE_UNSOUND);
@@ -461,6 +814,8 @@ static void nulls(void) {
     EXPECT(outline_issue_add(none, 0, 1, 0, op, sizeof op) == OUTLINE_UNSOUND);
     EXPECT(outline_bundle_make(none, 0, nothing, bundle, sizeof bundle) == OUTLINE_UNSOUND);
     EXPECT(outline_judge(none, 0, parents, entries, outcomes, entries) == OUTLINE_UNSOUND);
+    EXPECT(deliver_in(none, 0, op, sizeof op, whole) == OUTLINE_UNSOUND);
+    EXPECT(add_in(none, 0, 1, 0, sizeof op, whole) == OUTLINE_UNSOUND);
     EXPECT(outline_path(none, 0, 0, path, entries) == OUTLINE_UNSOUND);
     EXPECT(outline_listing(none, 0, false, text, sizeof text) == OUTLINE_UNSOUND);
     outline_make(log_a, sizeof log_a);
@@ -479,6 +834,17 @@ static void nulls(void) {
     EXPECT(outline_issue_move(log_a, sizeof log_a, 1, 257, 0, none, 0) == OUTLINE_LENGTH);
     EXPECT(outline_judge(log_a, sizeof log_a, no_entries, 0, none, 0) == OUTLINE_LENGTH);
     EXPECT(outline_judge(log_a, sizeof log_a, parents, OUTLINE_TABLE, none, 0) == OUTLINE_LENGTH);
+    EXPECT(deliver_in(log_a, sizeof log_a, none, 0, whole) == OUTLINE_LENGTH);
+    EXPECT(outline_page_deliver(log_a, sizeof log_a, op, sizeof op, no_entries, 0, no_entries, 0,
+                                none, 0) == OUTLINE_LENGTH);
+    EXPECT(outline_page_issue_add(log_a, sizeof log_a, 1, 0, op, sizeof op, page.order,
+                                  OUTLINE_ORDER, no_entries, 0, none, 0) == OUTLINE_LENGTH);
+    EXPECT(outline_page_issue_remove(log_a, sizeof log_a, 1, 257, op, sizeof op, page.order,
+                                     OUTLINE_ORDER, page.parents, OUTLINE_TABLE, none,
+                                     0) == OUTLINE_LENGTH);
+    EXPECT(outline_page_issue_move(log_a, sizeof log_a, 1, 257, 0, none, 0, page.order,
+                                   OUTLINE_ORDER, page.parents, OUTLINE_TABLE, page.outcomes,
+                                   OUTLINE_TABLE) == OUTLINE_LENGTH);
     EXPECT(outline_path(log_a, sizeof log_a, 0, no_entries, 0) == OUTLINE_NO_ROOM);
     EXPECT(outline_listing(log_a, sizeof log_a, false, none, 0) == OUTLINE_NO_ROOM);
     EXPECT(outline_causal_order(log_a, sizeof log_a, no_entries, 0) == OUTLINE_NO_ROOM);
@@ -534,6 +900,11 @@ int main(void) {
     holdback_answers();
     holdbacks();
     searches();
+    late_ops();
+    late_replicas();
+    page_answers();
+    page_stains();
+    old_pages();
     nulls();
     handing_over();
     if (failures == 0) puts("header: all as said");

@@ -2,8 +2,9 @@
  * Two machines, each with a log of its own. One makes two headings and the
  * other gets them; then, apart, each moves a heading below the other's. They
  * meet, hand each other a bundle, and hold the same file and the same tree.
- * Then one heading is removed, and takes no new work. At last a third machine
- * gets all ops by post, the last first: those that come early wait.
+ * Then one heading is removed, and takes no new work. A third machine gets all
+ * ops by post, the last first: those that come early wait. At last a fourth one,
+ * which keeps a page for its screen, gets them one by one, and one of them late.
  */
 #include "outline.h"
 
@@ -17,6 +18,17 @@ struct machine {
     uint8_t log[OUTLINE_LARGEST];
     size_t end;
 };
+
+/* What judging a log says, kept beside it. */
+struct page {
+    uint16_t order[OUTLINE_ORDER];
+    uint16_t parents[OUTLINE_TABLE];
+    uint8_t outcomes[OUTLINE_TABLE];
+};
+
+/* Outcomes in words. */
+static const char *const said[] = {"no op", "applied", "lost to another move of the node",
+                                   "would have closed a circle"};
 
 /* Ends the program where something is refused that cannot be. */
 static size_t value_of(size_t answer) {
@@ -86,6 +98,45 @@ static void post(const struct machine *from, struct machine *to) {
     }
 }
 
+/*
+ * Hands over all that one log has, op by op. The other keeps its page: only an op
+ * that is judged before some that are there makes it judge these again.
+ */
+static void follow(const struct machine *from, struct machine *to, struct page *page) {
+    static uint16_t places[OUTLINE_MOST_OPS];
+    size_t count = value_of(outline_causal_order(from->log, from->end, places, OUTLINE_MOST_OPS));
+    for (size_t i = 0; i < count; i++) {
+        const uint8_t *op = from->log + places[i];
+        size_t answer = outline_page_deliver(to->log, sizeof to->log, op, OUTLINE_OP, page->order,
+                                             OUTLINE_ORDER, page->parents, OUTLINE_TABLE,
+                                             page->outcomes, OUTLINE_TABLE);
+        to->end = value_of(answer);
+        printf("machine %d gets op %d of machine %d: %zu taken back\n", to->replica,
+               outline_op_sequence(op), outline_op_replica(op), outline_page_taken(answer));
+    }
+}
+
+/* Adds a node; the page goes along. */
+static uint16_t add_to_page(struct machine *m, uint16_t parent, struct page *page) {
+    uint8_t op[OUTLINE_OP];
+    size_t answer = outline_page_issue_add(m->log, sizeof m->log, m->replica, parent, op, sizeof op,
+                                           page->order, OUTLINE_ORDER, page->parents, OUTLINE_TABLE,
+                                           page->outcomes, OUTLINE_TABLE);
+    m->end = value_of(answer);
+    printf("machine %d adds node %d under %d: %zu taken back\n", m->replica, outline_op_node(op),
+           parent, outline_page_taken(answer));
+    return outline_op_node(op);
+}
+
+/* The ops as they were judged; op q of machine s has the slot of the node 256 * s + q. */
+static void show_page(const struct page *page) {
+    for (size_t i = 0; i < OUTLINE_ORDER && page->order[i] != 0; i++) {
+        size_t slot = page->order[i];
+        uint16_t op = outline_slot_node(slot);
+        printf("op %d of machine %d: %s\n", op % 256, op / 256, said[page->outcomes[slot]]);
+    }
+}
+
 static bool same_files(const struct machine *m, const struct machine *other) {
     bool same = m->end == other->end && memcmp(m->log, other->log, m->end) == 0;
     printf("the files are %s: %zu bytes\n", same ? "the same" : "different", m->end);
@@ -103,8 +154,6 @@ static void show(const struct machine *m) {
 static void judge(const struct machine *m) {
     static uint16_t parents[OUTLINE_TABLE];
     static uint8_t outcomes[OUTLINE_TABLE];
-    static const char *const said[] = {"no op", "applied", "lost to another move of the node",
-                                       "would have closed a circle"};
     value_of(outline_judge(m->log, m->end, parents, OUTLINE_TABLE, outcomes, OUTLINE_TABLE));
     for (uint8_t s = 1; s <= 8; s++)
         for (int q = 1; q <= 255; q++) {
@@ -123,10 +172,12 @@ static void show_path(const struct machine *m, uint16_t node) {
 }
 
 int main(void) {
-    static struct machine one, two, three;
+    static struct machine one, two, three, four;
+    static struct page page; /* any content would do at first */
     start(&one, 1);
     start(&two, 2);
     start(&three, 3);
+    start(&four, 4);
 
     uint16_t a = add(&one, OUTLINE_ROOT);
     uint16_t b = add(&one, OUTLINE_ROOT);
@@ -150,5 +201,11 @@ int main(void) {
 
     post(&one, &three);
     same = same_files(&one, &three) && same;
+
+    follow(&one, &four, &page);
+    same = same_files(&one, &four) && same;
+    uint16_t c = add_to_page(&four, a, &page);
+    show_page(&page);
+    printf("node %d is under %d\n", c, page.parents[outline_slot(c)]);
     return same ? 0 : 1;
 }

@@ -1,10 +1,11 @@
 //! Two machines, each with a log of its own. One makes two headings and the
 //! other gets them; then, apart, each moves a heading below the other's. They
 //! meet, hand each other a bundle, and hold the same file and the same tree.
-//! Then one heading is removed, and takes no new work. At last a third machine
-//! gets all ops by post, the last first: those that come early wait.
+//! Then one heading is removed, and takes no new work. A third machine gets all
+//! ops by post, the last first: those that come early wait. At last a fourth one,
+//! which keeps a page for its screen, gets them one by one, and one of them late.
 
-use outline::{Delivery, Holdback, Kind, Log, Node, Op, Outcome, Refusal, Replica, View};
+use outline::{Delivery, Holdback, Kind, Log, Node, Op, Outcome, Page, Refusal, Replica, View};
 
 struct Machine {
     replica: Replica,
@@ -69,6 +70,21 @@ impl Machine {
         Ok(())
     }
 
+    /// Gets ops one by one, and keeps its page: only an op that is judged before
+    /// some that are there makes it judge these again.
+    fn follow(&mut self, ops: impl Iterator<Item = Op>, page: &mut Page) -> Result<(), Refusal> {
+        for op in ops {
+            let (_, taken_back) = self.log.deliver_with_page(op, page)?;
+            println!(
+                "machine {} gets op {} of machine {}: {taken_back} taken back",
+                self.replica,
+                op.sequence(),
+                op.replica()
+            );
+        }
+        Ok(())
+    }
+
     fn show(&self) {
         println!("machine {} has", self.replica);
         for line in self.log.lines(View::Keeping) {
@@ -76,6 +92,15 @@ impl Machine {
             let indent = "  ".repeat(line.depth);
             println!("  {indent}{}{removed}", line.node);
         }
+    }
+}
+
+fn said(outcome: Option<Outcome>) -> &'static str {
+    match outcome {
+        Some(Outcome::Applied) => "applied",
+        Some(Outcome::PlacedAlready) => "lost to another move of the node",
+        Some(Outcome::WouldCloseCircle) => "would have closed a circle",
+        None => "not there",
     }
 }
 
@@ -100,12 +125,7 @@ fn main() -> Result<(), Refusal> {
 
     let tree = one.log.tree();
     for op in one.log.ops() {
-        let said = match tree.outcome(&op) {
-            Some(Outcome::Applied) => "applied",
-            Some(Outcome::PlacedAlready) => "lost to another move of the node",
-            Some(Outcome::WouldCloseCircle) => "would have closed a circle",
-            None => "not there",
-        };
+        let said = said(tree.outcome(&op));
         println!("op {} of machine {}: {said}", op.sequence(), op.replica());
     }
     let path: Vec<String> = tree.path(a).map(|node| node.to_string()).collect();
@@ -126,5 +146,19 @@ fn main() -> Result<(), Refusal> {
         "the files are the same: {} bytes",
         three.log.as_bytes().len()
     );
+
+    let (mut four, mut page) = (Machine::new(Replica::try_from(4)?), Page::new());
+    four.follow(one.log.ops(), &mut page)?;
+    let (op, taken_back) = four.log.add_with_page(four.replica, a, &mut page)?;
+    println!(
+        "machine {} adds node {} under {a}: {taken_back} taken back",
+        four.replica,
+        op.node()
+    );
+    for (replica, sequence) in page.order() {
+        let said = said(page.outcome_of(replica, sequence));
+        println!("op {sequence} of machine {replica}: {said}");
+    }
+    assert_eq!(page, four.log.page());
     Ok(())
 }

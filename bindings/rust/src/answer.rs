@@ -126,7 +126,8 @@ pub enum Delivery {
 }
 
 /// What a call answered: one number. Refusals have their own, a value has
-/// [`VALUE`] added, and [`Said`] has the others.
+/// [`VALUE`] added, and [`Said`] has the others. A call with a page adds
+/// [`TAKEN_BACK`] to a value for each op that was taken back.
 #[derive(Clone, Copy)]
 pub(crate) struct Answer(pub usize);
 
@@ -142,7 +143,24 @@ enum Said {
 
 const VALUE: usize = 256;
 
+/// Added by a call with a page for each op that was taken back.
+const TAKEN_BACK: usize = 65_536;
+
 impl Answer {
+    /// Of a call with a page: what the call without it answers, and how many ops
+    /// were taken back.
+    #[inline]
+    pub fn with_page(self) -> (Answer, usize) {
+        let (plain, taken_back) = (self.0 % TAKEN_BACK, self.0 / TAKEN_BACK);
+        // By the contracts nothing is taken back without a value.
+        assert!(
+            taken_back == 0 || plain >= VALUE,
+            "the library answered {}",
+            self.0
+        );
+        (Answer(plain), taken_back)
+    }
+
     /// Of a call that answers a value.
     #[inline]
     pub fn value(self) -> Result<usize, Refusal> {

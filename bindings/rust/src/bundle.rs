@@ -1,6 +1,7 @@
 //! What one log hands another in one piece.
 
 use crate::plain::LARGEST_BUNDLE;
+use crate::Op;
 use core::fmt;
 
 /// All ops of a log that another lacks, in one piece (the document's parcel).
@@ -25,6 +26,13 @@ impl Bundle {
     /// Its bytes: what is sent to the other machine.
     pub fn as_bytes(&self) -> &[u8] {
         &self.bytes[..self.length]
+    }
+
+    /// The bytes of its ops, in the order in which they stand: the head before them
+    /// has a byte, and one for each bit that is set there.
+    pub(crate) fn ops(&self) -> impl Iterator<Item = &[u8]> {
+        let head = 1 + self.bytes[0].count_ones() as usize;
+        self.as_bytes()[head..].chunks_exact(Op::LENGTH)
     }
 }
 

@@ -8,6 +8,7 @@
 #![allow(unsafe_code)]
 
 use crate::answer::Answer;
+use crate::plain::Tables;
 
 mod c {
     extern "C" {
@@ -71,6 +72,61 @@ mod c {
         pub fn outline_judge(
             file: *const u8,
             file_len: usize,
+            parents: *mut u16,
+            parents_len: usize,
+            outcomes: *mut u8,
+            outcomes_len: usize,
+        ) -> usize;
+        pub fn outline_page_deliver(
+            buf: *mut u8,
+            buf_len: usize,
+            op: *const u8,
+            op_len: usize,
+            order: *mut u16,
+            order_len: usize,
+            parents: *mut u16,
+            parents_len: usize,
+            outcomes: *mut u8,
+            outcomes_len: usize,
+        ) -> usize;
+        pub fn outline_page_issue_add(
+            buf: *mut u8,
+            buf_len: usize,
+            replica: u8,
+            parent: u16,
+            out: *mut u8,
+            out_len: usize,
+            order: *mut u16,
+            order_len: usize,
+            parents: *mut u16,
+            parents_len: usize,
+            outcomes: *mut u8,
+            outcomes_len: usize,
+        ) -> usize;
+        pub fn outline_page_issue_remove(
+            buf: *mut u8,
+            buf_len: usize,
+            replica: u8,
+            node: u16,
+            out: *mut u8,
+            out_len: usize,
+            order: *mut u16,
+            order_len: usize,
+            parents: *mut u16,
+            parents_len: usize,
+            outcomes: *mut u8,
+            outcomes_len: usize,
+        ) -> usize;
+        pub fn outline_page_issue_move(
+            buf: *mut u8,
+            buf_len: usize,
+            replica: u8,
+            node: u16,
+            parent: u16,
+            out: *mut u8,
+            out_len: usize,
+            order: *mut u16,
+            order_len: usize,
             parents: *mut u16,
             parents_len: usize,
             outcomes: *mut u8,
@@ -182,6 +238,112 @@ pub fn judge(file: &[u8], parents: &mut [u16], outcomes: &mut [u8]) -> Answer {
     // SAFETY: pointers and lengths are those of slices, which do not overlap.
     Answer(unsafe {
         c::outline_judge(file, file_len, parents, parents_len, outcomes, outcomes_len)
+    })
+}
+
+#[inline]
+pub fn page_deliver(buf: &mut [u8], op: &[u8], page: &mut Tables<'_>) -> Answer {
+    let (order, parents, outcomes) = (&mut *page.order, &mut *page.parents, &mut *page.outcomes);
+    // SAFETY: pointers and lengths are those of slices, which do not overlap.
+    Answer(unsafe {
+        c::outline_page_deliver(
+            buf.as_mut_ptr(),
+            buf.len(),
+            op.as_ptr(),
+            op.len(),
+            order.as_mut_ptr(),
+            order.len(),
+            parents.as_mut_ptr(),
+            parents.len(),
+            outcomes.as_mut_ptr(),
+            outcomes.len(),
+        )
+    })
+}
+
+#[inline]
+pub fn page_issue_add(
+    buf: &mut [u8],
+    replica: u8,
+    parent: u16,
+    out: &mut [u8],
+    page: &mut Tables<'_>,
+) -> Answer {
+    let (order, parents, outcomes) = (&mut *page.order, &mut *page.parents, &mut *page.outcomes);
+    // SAFETY: pointers and lengths are those of slices, which do not overlap.
+    Answer(unsafe {
+        c::outline_page_issue_add(
+            buf.as_mut_ptr(),
+            buf.len(),
+            replica,
+            parent,
+            out.as_mut_ptr(),
+            out.len(),
+            order.as_mut_ptr(),
+            order.len(),
+            parents.as_mut_ptr(),
+            parents.len(),
+            outcomes.as_mut_ptr(),
+            outcomes.len(),
+        )
+    })
+}
+
+#[inline]
+pub fn page_issue_remove(
+    buf: &mut [u8],
+    replica: u8,
+    node: u16,
+    out: &mut [u8],
+    page: &mut Tables<'_>,
+) -> Answer {
+    let (order, parents, outcomes) = (&mut *page.order, &mut *page.parents, &mut *page.outcomes);
+    // SAFETY: pointers and lengths are those of slices, which do not overlap.
+    Answer(unsafe {
+        c::outline_page_issue_remove(
+            buf.as_mut_ptr(),
+            buf.len(),
+            replica,
+            node,
+            out.as_mut_ptr(),
+            out.len(),
+            order.as_mut_ptr(),
+            order.len(),
+            parents.as_mut_ptr(),
+            parents.len(),
+            outcomes.as_mut_ptr(),
+            outcomes.len(),
+        )
+    })
+}
+
+#[inline]
+pub fn page_issue_move(
+    buf: &mut [u8],
+    replica: u8,
+    node: u16,
+    parent: u16,
+    out: &mut [u8],
+    page: &mut Tables<'_>,
+) -> Answer {
+    let (order, parents, outcomes) = (&mut *page.order, &mut *page.parents, &mut *page.outcomes);
+    // SAFETY: pointers and lengths are those of slices, which do not overlap.
+    Answer(unsafe {
+        c::outline_page_issue_move(
+            buf.as_mut_ptr(),
+            buf.len(),
+            replica,
+            node,
+            parent,
+            out.as_mut_ptr(),
+            out.len(),
+            order.as_mut_ptr(),
+            order.len(),
+            parents.as_mut_ptr(),
+            parents.len(),
+            outcomes.as_mut_ptr(),
+            outcomes.len(),
+        )
     })
 }
 

@@ -72,6 +72,27 @@
 //! # Ok::<(), Refusal>(())
 //! ```
 //!
+//! # A screen that follows
+//!
+//! A screen that is drawn after every op keeps a [`Page`] beside the log, and has it
+//! brought up to date with each op that is [delivered](Log::deliver_with_page) or
+//! [issued](Log::add_with_page). The ops that sort after the new one are taken back
+//! and judged again, and the call says how many these were.
+//!
+//! ```
+//! use outline::{Log, Node, Page, Refusal, Replica};
+//!
+//! let (me, you) = (Replica::try_from(1)?, Replica::try_from(2)?);
+//! let (mut log, mut page) = (Log::new(), Page::new());
+//! let (mine, _) = log.add_with_page(me, Node::ROOT, &mut page)?;
+//! let yours = Log::new().add(you, Node::ROOT)?;
+//! let (_, taken_back) = log.deliver_with_page(yours, &mut page)?;
+//! assert_eq!(taken_back, 1);
+//! assert!(page.children(Node::ROOT).eq([mine.node(), yours.node()]));
+//! assert_eq!(page, log.page());
+//! # Ok::<(), Refusal>(())
+//! ```
+//!
 //! # For those who know other replicated documents
 //!
 //! | Here | In Automerge or Loro |
@@ -86,6 +107,7 @@
 //! | [`Log::ops_beyond`] | the changes since some heads |
 //! | [`Log::deliver`] | applying a change; an early op is refused and not kept |
 //! | [`Log::deliver_with_holdback`] | applying a change; an early op is kept in a [`Holdback`] until what it counts has come |
+//! | [`Log::deliver_with_page`], [`Log::add_with_page`] | applying or making a change, and the patch that brings a view up to date: here the view is a [`Page`] |
 //! | [`Log::merge`] | merging |
 //!
 //! # What is refused
@@ -117,6 +139,7 @@ mod holdback;
 mod log;
 mod node;
 mod op;
+mod page;
 pub mod plain;
 mod replica;
 mod tree;
@@ -128,6 +151,7 @@ pub use holdback::Holdback;
 pub use log::{Log, Ops};
 pub use node::Node;
 pub use op::{Kind, Op};
+pub use page::Page;
 pub use replica::{Replica, Vector};
 pub use tree::{Children, Descendants, Outcome, Path, Tree};
 pub use view::{Line, Lines, Listing, View};

@@ -2,7 +2,7 @@
 
 use crate::plain::{self, HEADER, LARGEST, TABLE};
 use crate::{Bundle, Children, Delivery, Descendants, Holdback, Lines, Listing, Node, Op};
-use crate::{Path, Refusal, Replica, Tree, Vector, View};
+use crate::{Page, Path, Refusal, Replica, Tree, Vector, View};
 use core::fmt;
 use core::iter::FusedIterator;
 
@@ -14,7 +14,8 @@ use core::iter::FusedIterator;
 /// allocates nothing; `Box::new(Log::new())` puts it on the heap.
 ///
 /// A question about the tree judges all ops anew. For many questions make a
-/// [`tree`](Log::tree) once, and ask that.
+/// [`tree`](Log::tree) once, and ask that. For a screen that follows every op keep
+/// a [`Page`], which is brought up to date with each.
 ///
 /// ```
 /// use outline::{Log, Node, Refusal, Replica, View};
@@ -128,6 +129,79 @@ impl Log {
         self.issue(|buf, out| plain::issue_move(buf, replica, node, parent, out))
     }
 
+    /// The same as [`add`](Log::add), with a page of this log, which has the new op
+    /// then. Says besides how many ops were taken back: none, unless the page was
+    /// not true.
+    ///
+    /// # Errors
+    ///
+    /// Those of [`add`](Log::add). The page has not changed then.
+    ///
+    /// ```
+    /// use outline::{Log, Node, Page, Refusal, Replica};
+    /// let (me, mut log, mut page) = (Replica::try_from(1)?, Log::new(), Page::new());
+    /// let (a, taken_back) = log.add_with_page(me, Node::ROOT, &mut page)?;
+    /// let (b, _) = log.add_with_page(me, a.node(), &mut page)?;
+    /// assert_eq!(page.parent(b.node()), Some(a.node()));
+    /// assert_eq!(taken_back, 0);
+    ///
+    /// // The page has missed an op, so it is built anew.
+    /// log.add(me, Node::ROOT)?;
+    /// let (_, taken_back) = log.remove_with_page(me, a.node(), &mut page)?;
+    /// assert_eq!(taken_back, 3);
+    /// assert_eq!(page, log.page());
+    /// # Ok::<(), Refusal>(())
+    /// ```
+    pub fn add_with_page(
+        &mut self,
+        replica: Replica,
+        parent: Node,
+        page: &mut Page,
+    ) -> Result<(Op, usize), Refusal> {
+        let (replica, parent) = (replica.number(), parent.number());
+        let mut page = page.tables();
+        self.issue_with_page(|buf, out| plain::page_issue_add(buf, replica, parent, out, &mut page))
+    }
+
+    /// The same as [`remove`](Log::remove), with a page of this log, as
+    /// [`add_with_page`](Log::add_with_page).
+    ///
+    /// # Errors
+    ///
+    /// Those of [`remove`](Log::remove). The page has not changed then.
+    pub fn remove_with_page(
+        &mut self,
+        replica: Replica,
+        node: Node,
+        page: &mut Page,
+    ) -> Result<(Op, usize), Refusal> {
+        let (replica, node) = (replica.number(), node.number());
+        let mut page = page.tables();
+        self.issue_with_page(|buf, out| {
+            plain::page_issue_remove(buf, replica, node, out, &mut page)
+        })
+    }
+
+    /// The same as [`move_to`](Log::move_to), with a page of this log, as
+    /// [`add_with_page`](Log::add_with_page).
+    ///
+    /// # Errors
+    ///
+    /// Those of [`move_to`](Log::move_to). The page has not changed then.
+    pub fn move_to_with_page(
+        &mut self,
+        replica: Replica,
+        node: Node,
+        parent: Node,
+        page: &mut Page,
+    ) -> Result<(Op, usize), Refusal> {
+        let (replica, node, parent) = (replica.number(), node.number(), parent.number());
+        let mut page = page.tables();
+        self.issue_with_page(|buf, out| {
+            plain::page_issue_move(buf, replica, node, parent, out, &mut page)
+        })
+    }
+
     /// Has a call issue an op.
     fn issue(
         &mut self,
@@ -136,6 +210,20 @@ impl Log {
         let mut op = [0; Op::LENGTH];
         call(&mut self.bytes, &mut op)?;
         Ok(Op::from_bytes(&op).expect("an issued op reads back"))
+    }
+
+    /// The same for a call that says besides how many ops were taken back.
+    fn issue_with_page(
+        &mut self,
+        call: impl FnOnce(&mut [u8], &mut [u8]) -> Result<(usize, usize), Refusal>,
+    ) -> Result<(Op, usize), Refusal> {
+        let mut taken_back = 0;
+        let op = self.issue(|buf, out| {
+            let end;
+            (end, taken_back) = call(buf, out)?;
+            Ok(end)
+        })?;
+        Ok((op, taken_back))
     }
 
     /// Takes an op of another machine: an [`Op`], or bytes as they came. An early
@@ -223,6 +311,49 @@ impl Log {
         holdback: &mut Holdback,
     ) -> Result<Delivery, Refusal> {
         plain::holdback_deliver(&mut self.bytes, op.as_ref(), holdback.as_mut_bytes())
+    }
+
+    /// Takes an op of another machine as [`deliver`](Log::deliver) does, with a page
+    /// of this log. If it is accepted, the page has it then. Says besides how many
+    /// ops were taken back.
+    ///
+    /// These are the ops that are judged after the new one, and are judged again;
+    /// for one that is judged last there are none. If the page was not true
+    /// before, they are all ops that were held.
+    ///
+    /// # Errors
+    ///
+    /// Those of [`deliver`](Log::deliver). The page has not changed then, nor where
+    /// the log had the op already.
+    ///
+    /// ```
+    /// use outline::{Delivery, Log, Node, Outcome, Page, Refusal, Replica};
+    /// let (one, two) = (Replica::try_from(1)?, Replica::try_from(2)?);
+    /// let (mut log, mut page) = (Log::new(), Page::new());
+    /// let (a, _) = log.add_with_page(one, Node::ROOT, &mut page)?;
+    /// let (b, _) = log.add_with_page(one, Node::ROOT, &mut page)?;
+    /// let mut other = log.clone();
+    /// let (mine, _) = log.move_to_with_page(one, b.node(), a.node(), &mut page)?;
+    /// assert_eq!(page.parent(b.node()), Some(a.node()));
+    ///
+    /// // Another move is judged before it, and comes late: together they would be
+    /// // a circle.
+    /// let late = other.move_to(two, a.node(), b.node())?;
+    /// let answer = log.deliver_with_page(late, &mut page);
+    /// assert_eq!(answer, Ok((Delivery::Accepted(88), 1)));
+    /// assert_eq!(page.parent(b.node()), Some(Node::ROOT));
+    /// assert_eq!(page.outcome(&mine), Some(Outcome::WouldCloseCircle));
+    ///
+    /// let answer = log.deliver_with_page(late, &mut page);
+    /// assert_eq!(answer, Ok((Delivery::HadIt, 0)));
+    /// # Ok::<(), Refusal>(())
+    /// ```
+    pub fn deliver_with_page(
+        &mut self,
+        op: impl AsRef<[u8]>,
+        page: &mut Page,
+    ) -> Result<(Delivery, usize), Refusal> {
+        plain::page_deliver(&mut self.bytes, op.as_ref(), &mut page.tables())
     }
 
     /// Makes a bundle of all ops that a log of this vector lacks, to be sent in
@@ -400,6 +531,29 @@ impl Log {
         let mut outcomes = [0; TABLE];
         plain::judge(self.as_bytes(), &mut parents, &mut outcomes).expect(SOUND);
         Tree::new(parents, outcomes, self.lines(View::Keeping))
+    }
+
+    /// Judges the ops, for a page that is kept from here on. A page equals this if
+    /// it is true.
+    ///
+    /// ```
+    /// use outline::{Log, Node, Page, Refusal, Replica};
+    /// let (me, mut log) = (Replica::try_from(1)?, Log::new());
+    /// log.add(me, Node::ROOT)?;
+    ///
+    /// let mut page = log.page();
+    /// let (_, taken_back) = log.add_with_page(me, Node::ROOT, &mut page)?;
+    /// assert_eq!(taken_back, 0);
+    /// assert_eq!(page, log.page());
+    /// # Ok::<(), Refusal>(())
+    /// ```
+    pub fn page(&self) -> Page {
+        // The ops of a bundle stand in judging order.
+        let all = self.bundle_for(&Vector::default());
+        let ops = all.ops().filter_map(|bytes| Op::from_bytes(bytes).ok());
+        Page::new_with(ops, |parents, outcomes| {
+            plain::judge(self.as_bytes(), parents, outcomes).expect(SOUND);
+        })
     }
 
     /// The parent of a node; none for the root, and for a node that is not

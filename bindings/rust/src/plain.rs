@@ -34,14 +34,17 @@
 //! # Ok::<(), Refusal>(())
 //! ```
 
+use crate::answer::Answer;
 use crate::{ffi, Delivery, Node, Op, Refusal, Replica, View};
 
 /// Bytes of an empty log.
 pub const HEADER: usize = 32;
 /// Bytes of an op.
 pub const OP: usize = Op::LENGTH;
-/// Entries of a table of [`judge`].
+/// Entries of a table of parents or outcomes.
 pub const TABLE: usize = 2041;
+/// Entries of the order of a page.
+pub const ORDER: usize = 2040;
 /// Bytes of the largest log: a buffer of this size never lacks room.
 pub const LARGEST: usize = 28_592;
 /// Entries of the longest path.
@@ -54,7 +57,7 @@ pub const LARGEST_BUNDLE: usize = 28_569;
 pub const HOLDBACK: usize = 449;
 /// The root of the tree.
 pub const ROOT: u16 = 0;
-/// The parent entry of a slot without a node, in a table of [`judge`].
+/// The parent entry of a slot without a node, in a table of [`judge`] or a page.
 pub const NO_PARENT: u16 = 65_535;
 
 /// The node that a replica's op of this sequence adds; none for a replica that
@@ -70,8 +73,8 @@ pub fn node(replica: u8, sequence: u8) -> Option<u16> {
     Node::new(Replica::new(replica)?, sequence).map(Node::number)
 }
 
-/// Where a node stands in the tables of [`judge`]; the op that adds it stands
-/// in the same place. None for a number that is neither 0 nor a node's.
+/// Where a node stands in the tables of [`judge`] and of a page; the op that adds
+/// it stands in the same place. None for a number that is neither 0 nor a node's.
 ///
 /// ```
 /// use outline::plain;
@@ -432,6 +435,203 @@ pub fn issue_move(
 #[inline]
 pub fn judge(file: &[u8], parents: &mut [u16], outcomes: &mut [u8]) -> Result<(), Refusal> {
     ffi::judge(file, parents, outcomes).done()
+}
+
+/// The tables of a page: what judging a log says, kept beside it. They are lent to
+/// [`page_deliver`] and the issues with a page, which bring them up to date.
+///
+/// At first they may hold anything, such as zeros. Then lend to each call with a
+/// page at this log what the last one left. A page that is not true, since
+/// another call has changed the log, is built anew by the next one that accepts.
+/// Entries past those of a page are not looked at and keep their content.
+pub struct Tables<'a> {
+    /// The slots of the held ops in the order in which they are judged, then
+    /// zeros: [`ORDER`] entries.
+    pub order: &'a mut [u16],
+    /// As [`judge`] fills them: [`TABLE`] entries.
+    pub parents: &'a mut [u16],
+    /// As [`judge`] fills them: [`TABLE`] entries.
+    pub outcomes: &'a mut [u8],
+}
+
+/// Delivers an op as [`deliver`] does, and keeps a page of the log. Answers how
+/// many ops were taken back besides.
+///
+/// An op that is judged last is judged alone, and none is taken back. For any
+/// other, those that are judged after it are taken back, it is judged, and they
+/// are judged again. If the page was not what judging the log says before the
+/// call, it is built anew first, and all ops that were held count as taken back.
+/// With [`Delivery::HadIt`] the page is unchanged, and none is taken back.
+///
+/// # Errors
+///
+/// The same as [`deliver`]; [`Length`](Refusal::Length) also if a table of the page
+/// is too short. Neither buffer nor page has changed then, also not a page that is
+/// not true.
+///
+/// ```
+/// use outline::{plain, Delivery, Refusal};
+/// let (mut order, mut parents) = ([0; plain::ORDER], [0; plain::TABLE]);
+/// let mut outcomes = [0; plain::TABLE];
+/// let mut page = plain::Tables {
+///     order: &mut order,
+///     parents: &mut parents,
+///     outcomes: &mut outcomes,
+/// };
+/// let mut buf = [0; 100];
+/// plain::make(&mut buf)?;
+///
+/// // Replicas 1 and 2 add a node each, without having met. That of replica 2 is
+/// // judged first, but comes late.
+/// let one = [1, 1, 1, 1, 0, 0, 0, 0, 0, 0, 0, 0, 0, 0];
+/// let two = [1, 2, 2, 1, 0, 0, 0, 0, 0, 0, 0, 0, 0, 0];
+/// let answer = plain::page_deliver(&mut buf, &one, &mut page);
+/// assert_eq!(answer, Ok((Delivery::Accepted(46), 0)));
+/// let answer = plain::page_deliver(&mut buf, &two, &mut page);
+/// assert_eq!(answer, Ok((Delivery::Accepted(60), 1)));
+/// let answer = plain::page_deliver(&mut buf, &two, &mut page);
+/// assert_eq!(answer, Ok((Delivery::HadIt, 0)));
+///
+/// let slots = [513, 257].map(|node| plain::slot(node).unwrap() as u16);
+/// assert_eq!(page.order[..3], [slots[0], slots[1], 0]);
+///
+/// page.order = &mut [];
+/// let answer = plain::page_deliver(&mut buf, &two, &mut page);
+/// assert_eq!(answer, Err(Refusal::Length));
+/// # Ok::<(), Refusal>(())
+/// ```
+#[inline]
+pub fn page_deliver(
+    buf: &mut [u8],
+    op: &[u8],
+    page: &mut Tables<'_>,
+) -> Result<(Delivery, usize), Refusal> {
+    let (answer, taken_back) = ffi::page_deliver(buf, op, page).with_page();
+    Ok((answer.delivery()?, taken_back))
+}
+
+/// Issues an add as [`issue_add`] does, and keeps a page of the log. Answers where
+/// the log ends, and how many ops were taken back.
+///
+/// A new op is judged last, so these are none, unless the page was not what
+/// judging the log says: then they are all ops that were held.
+///
+/// # Errors
+///
+/// The same as [`issue_add`]; [`Length`](Refusal::Length) also if a table of the
+/// page is too short. Buffer, `out` and page have not changed then.
+///
+/// ```
+/// use outline::{plain, Refusal};
+/// let (mut order, mut parents) = ([0; plain::ORDER], [0; plain::TABLE]);
+/// let mut outcomes = [0; plain::TABLE];
+/// let mut page = plain::Tables {
+///     order: &mut order,
+///     parents: &mut parents,
+///     outcomes: &mut outcomes,
+/// };
+/// let mut buf = [0; 100];
+/// let mut op = [0; plain::OP];
+/// plain::make(&mut buf)?;
+/// plain::issue_add(&mut buf, 1, plain::ROOT, &mut op)?;
+///
+/// // The page does not have the first node, so it is built anew.
+/// let answer = plain::page_issue_add(&mut buf, 1, 257, &mut op, &mut page);
+/// assert_eq!(answer, Ok((60, 1)));
+/// let answer = plain::page_issue_add(&mut buf, 1, 258, &mut op, &mut page);
+/// assert_eq!(answer, Ok((74, 0)));
+/// assert_eq!(page.order[..4], [1, 2, 3, 0]);
+/// assert_eq!(page.parents[1..4], [plain::ROOT, 257, 258]);
+/// # Ok::<(), Refusal>(())
+/// ```
+#[inline]
+pub fn page_issue_add(
+    buf: &mut [u8],
+    replica: u8,
+    parent: u16,
+    out: &mut [u8],
+    page: &mut Tables<'_>,
+) -> Result<(usize, usize), Refusal> {
+    end_and_taken(ffi::page_issue_add(buf, replica, parent, out, page))
+}
+
+/// Issues a remove as [`issue_remove`] does, and keeps a page of the log. Answers
+/// and leaves behind the same as [`page_issue_add`].
+///
+/// # Errors
+///
+/// The same as [`page_issue_add`] but for [`Marked`](Refusal::Marked).
+///
+/// ```
+/// use outline::{plain, Outcome, Refusal};
+/// let mut buf = [0; 60];
+/// let mut op = [0; plain::OP];
+/// plain::make(&mut buf)?;
+/// plain::issue_add(&mut buf, 1, plain::ROOT, &mut op)?;
+/// let mut page = plain::Tables {
+///     order: &mut [0; plain::ORDER],
+///     parents: &mut [0; plain::TABLE],
+///     outcomes: &mut [0; plain::TABLE],
+/// };
+/// let answer = plain::page_issue_remove(&mut buf, 1, 257, &mut op, &mut page);
+/// assert_eq!(answer, Ok((60, 1)));
+/// assert_eq!(Outcome::from_number(page.outcomes[2]), Some(Outcome::Applied));
+/// # Ok::<(), Refusal>(())
+/// ```
+#[inline]
+pub fn page_issue_remove(
+    buf: &mut [u8],
+    replica: u8,
+    node: u16,
+    out: &mut [u8],
+    page: &mut Tables<'_>,
+) -> Result<(usize, usize), Refusal> {
+    end_and_taken(ffi::page_issue_remove(buf, replica, node, out, page))
+}
+
+/// Issues a move as [`issue_move`] does, and keeps a page of the log. Answers and
+/// leaves behind the same as [`page_issue_add`].
+///
+/// # Errors
+///
+/// The same as [`issue_move`]; [`Length`](Refusal::Length) also if a table of the
+/// page is too short. Buffer, `out` and page have not changed then.
+///
+/// ```
+/// use outline::{plain, Refusal};
+/// let mut buf = [0; 100];
+/// let mut op = [0; plain::OP];
+/// plain::make(&mut buf)?;
+/// plain::issue_add(&mut buf, 1, plain::ROOT, &mut op)?;
+/// plain::issue_add(&mut buf, 1, 257, &mut op)?;
+/// let mut page = plain::Tables {
+///     order: &mut [0; plain::ORDER],
+///     parents: &mut [0; plain::TABLE],
+///     outcomes: &mut [0; plain::TABLE],
+/// };
+/// let answer = plain::page_issue_move(&mut buf, 1, 257, 258, &mut op, &mut page);
+/// assert_eq!(answer, Err(Refusal::Cycle));
+/// let answer = plain::page_issue_move(&mut buf, 1, 258, plain::ROOT, &mut op, &mut page);
+/// assert_eq!(answer, Ok((74, 2)));
+/// assert_eq!(page.parents[2], plain::ROOT);
+/// # Ok::<(), Refusal>(())
+/// ```
+#[inline]
+pub fn page_issue_move(
+    buf: &mut [u8],
+    replica: u8,
+    node: u16,
+    parent: u16,
+    out: &mut [u8],
+    page: &mut Tables<'_>,
+) -> Result<(usize, usize), Refusal> {
+    end_and_taken(ffi::page_issue_move(buf, replica, node, parent, out, page))
+}
+
+/// Of an issue with a page.
+fn end_and_taken(answer: Answer) -> Result<(usize, usize), Refusal> {
+    let (answer, taken_back) = answer.with_page();
+    Ok((answer.value()?, taken_back))
 }
 
 /// Puts the path of a node into `out`: its number, its parent's, and so on to

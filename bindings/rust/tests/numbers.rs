@@ -3,7 +3,7 @@
 mod common;
 
 use common::{node, replica};
-use outline::{plain, Kind, Node, Outcome, Refusal, Replica};
+use outline::{plain, Kind, Log, Node, Outcome, Refusal, Replica};
 
 #[test]
 fn replicas() {
@@ -65,6 +65,22 @@ fn nodes_of_ops() {
     assert_eq!((Node::ROOT.replica(), Node::ROOT.sequence()), (None, None));
     assert!(Node::ROOT.is_root());
     assert_eq!(format!("{0} {0:?}", node(258)), "258 Node(258)");
+}
+
+/// The order of a page has a slot for each op there can be.
+#[test]
+fn all_ops_of_a_page() {
+    let mut log = Log::new();
+    for me in Replica::all() {
+        for _ in 1..=255 {
+            log.add(me, Node::ROOT).unwrap();
+        }
+    }
+    let page = log.page();
+    // Each counts all before it, so they are judged as they were issued.
+    let all = Replica::all().flat_map(|me| (1..=255).map(move |sequence| (me, sequence)));
+    assert!(page.order().eq(all));
+    assert_eq!((page.len(), plain::ORDER), (2040, plain::TABLE - 1));
 }
 
 #[test]

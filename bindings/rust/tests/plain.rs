@@ -249,6 +249,180 @@ fn judging() {
     assert_eq!(outcomes[2041..], [7; 9]);
 }
 
+/// The tables of a page, and entries behind them.
+#[derive(Clone, PartialEq, Debug)]
+struct Page {
+    order: Vec<u16>,
+    parents: Vec<u16>,
+    outcomes: Vec<u8>,
+}
+
+impl Page {
+    /// With this in every entry.
+    fn of(entry: u8) -> Page {
+        Page {
+            order: vec![entry.into(); 2045],
+            parents: vec![entry.into(); 2045],
+            outcomes: vec![entry; 2045],
+        }
+    }
+
+    /// The true one of a log, whose ops are judged in this order.
+    fn fresh(buf: &[u8], order: &[u16]) -> Page {
+        let mut page = Page::of(7);
+        page.order[..2040].fill(0);
+        page.order[..order.len()].copy_from_slice(order);
+        plain::judge(buf, &mut page.parents, &mut page.outcomes).unwrap();
+        page
+    }
+
+    fn tables(&mut self) -> plain::Tables<'_> {
+        self.lend([2045; 3])
+    }
+
+    /// So many entries of each.
+    fn lend(&mut self, lengths: [usize; 3]) -> plain::Tables<'_> {
+        plain::Tables {
+            order: &mut self.order[..lengths[0]],
+            parents: &mut self.parents[..lengths[1]],
+            outcomes: &mut self.outcomes[..lengths[2]],
+        }
+    }
+}
+
+#[test]
+fn delivery_with_a_page() {
+    let with = |changes: &[(usize, u8)]| {
+        let mut op = ADD;
+        changes.iter().for_each(|&(at, byte)| op[at] = byte);
+        op
+    };
+    // 513 under 258, and 769, which is judged first and comes late.
+    let (mut buf, mut page) = (two_nodes(), Page::of(7));
+    let third = with(&[(1, 2), (2, 2), (4, 1), (5, 2), (6, 2)]);
+    let late = with(&[(1, 3), (2, 3)]);
+    let answer = plain::page_deliver(&mut buf, &third, &mut page.tables());
+    assert_eq!(answer, Ok((Delivery::Accepted(74), 2)));
+    assert_eq!(page, Page::fresh(&buf, &[1, 2, 256]));
+
+    // What leaves all as it was: in the order of the tests, at a true page and
+    // at one that is not.
+    let gap = with(&[(1, 4), (2, 4), (7, 1)]);
+    for stain in [0, 1] {
+        page.order[9] ^= stain;
+        let before = (buf.clone(), page.clone());
+        let mut unchanged = |end: usize, op: &[u8], lengths: [usize; 3]| {
+            let answer = plain::page_deliver(&mut buf[..end], op, &mut page.lend(lengths));
+            assert_eq!((&buf, &page), (&before.0, &before.1));
+            answer
+        };
+        let all = [2040, 2041, 2041];
+        assert_eq!(unchanged(73, &[], [0; 3]), Err(Refusal::Unsound));
+        assert_eq!(unchanged(100, &late[1..], all), Err(Refusal::Length));
+        for short in [[2039, 2041, 2041], [2040, 2040, 2041], [2040, 2041, 2040]] {
+            let malformed = [0; 14];
+            assert_eq!(unchanged(100, &malformed, short), Err(Refusal::Length));
+            assert_eq!(unchanged(100, &late, short), Err(Refusal::Length));
+            assert_eq!(unchanged(100, &ADD, short), Err(Refusal::Length));
+        }
+        assert_eq!(unchanged(100, &[0; 14], all), Err(Refusal::Malformed));
+        assert_eq!(unchanged(100, &ADD, all), Ok((Delivery::HadIt, 0)));
+        let other = with(&[(4, 1)]);
+        assert_eq!(unchanged(100, &other, all), Err(Refusal::Conflict));
+        let early = with(&[(1, 3), (2, 3), (6, 3)]);
+        assert_eq!(unchanged(100, &early, all), Err(Refusal::Early));
+        assert_eq!(unchanged(100, &gap, all), Err(Refusal::NotClosed));
+        let unknown = with(&[(1, 3), (2, 3), (4, 1), (5, 1)]);
+        assert_eq!(unchanged(87, &unknown, all), Err(Refusal::Unknown));
+        assert_eq!(unchanged(87, &late, all), Err(Refusal::NoRoom));
+    }
+    page.order[9] = 0;
+
+    let answer = plain::page_deliver(&mut buf, &late, &mut page.tables());
+    assert_eq!(answer, Ok((Delivery::Accepted(88), 3)));
+    assert_eq!(page, Page::fresh(&buf, &[511, 1, 2, 256]));
+    assert_eq!(buf[88..], [0xa5; 12]);
+}
+
+#[test]
+fn issuing_with_a_page() {
+    let (mut buf, mut page) = (two_nodes(), Page::of(0));
+    let before = buf.clone();
+    let mut out = [7; 20];
+    let all = [2040, 2041, 2041];
+    let short = [[2039, 2041, 2041], [2040, 2040, 2041], [2040, 2041, 2040]];
+    for lengths in short.into_iter().chain([all]) {
+        let mut page = page.lend(lengths);
+        // With the whole page the next test is met.
+        let next = |why| if lengths == all { why } else { Refusal::Length };
+        let answer = plain::page_issue_add(&mut buf, 9, 0, &mut out, &mut page);
+        assert_eq!(answer, Err(next(Refusal::Malformed)));
+        let answer = plain::page_issue_remove(&mut buf, 1, 259, &mut out, &mut page);
+        assert_eq!(answer, Err(next(Refusal::Unknown)));
+        let answer = plain::page_issue_move(&mut buf, 1, 257, 258, &mut out, &mut page);
+        assert_eq!(answer, Err(next(Refusal::Cycle)));
+        let answer = plain::page_issue_add(&mut buf[..73], 1, 0, &mut out, &mut page);
+        assert_eq!(answer, Err(next(Refusal::NoRoom)));
+        let answer = plain::page_issue_remove(&mut buf[..59], 1, 257, &mut out, &mut page);
+        assert_eq!(answer, Err(Refusal::Unsound));
+        let answer = plain::page_issue_move(&mut buf, 1, 258, 0, &mut out[..13], &mut page);
+        assert_eq!(answer, Err(Refusal::Length));
+    }
+    assert_eq!((&buf, out, &page), (&before, [7; 20], &Page::of(0)));
+
+    let mut plainly = buf.clone();
+    let mut op = [7; 20];
+    // The first finds a page that is not true, and the others what it left.
+    page = Page::of(7);
+    let answer = plain::page_issue_move(&mut buf, 8, 258, 0, &mut out, &mut page.tables());
+    assert_eq!(answer, Ok((74, 2)));
+    assert_eq!(plain::issue_move(&mut plainly, 8, 258, 0, &mut op), Ok(74));
+    assert_eq!((&buf, out), (&plainly, op));
+    assert_eq!(page, Page::fresh(&buf, &[1, 2, 1786]));
+    let answer = plain::page_issue_remove(&mut buf, 1, 257, &mut out, &mut page.tables());
+    assert_eq!(answer, Ok((88, 0)));
+    assert_eq!(plain::issue_remove(&mut plainly, 1, 257, &mut op), Ok(88));
+    assert_eq!((&buf, out), (&plainly, op));
+    assert_eq!(page, Page::fresh(&buf, &[1, 2, 1786, 3]));
+    let answer = plain::page_issue_add(&mut buf, 1, 257, &mut out, &mut page.tables());
+    assert_eq!(answer, Err(Refusal::Marked));
+    buf.resize(102, 0xa5);
+    plainly.resize(102, 0xa5);
+    let answer = plain::page_issue_add(&mut buf, 3, 258, &mut out, &mut page.tables());
+    assert_eq!(answer, Ok((102, 0)));
+    assert_eq!(plain::issue_add(&mut plainly, 3, 258, &mut op), Ok(102));
+    assert_eq!((&buf, out), (&plainly, op));
+    assert_eq!(page, Page::fresh(&buf, &[1, 2, 1786, 3, 511]));
+}
+
+/// One wrong entry that is counted, and the page is built anew.
+#[test]
+fn stained_pages() {
+    let start = two_nodes();
+    let good = Page::fresh(&start, &[1, 2]);
+    let late = [1, 3, 3, 1, 0, 0, 1, 0, 0, 0, 0, 0, 0, 0];
+    for table in 0..3 {
+        for at in [0, 1, 2, 3, 1000, 2039, 2040, 2041, 2044] {
+            let (mut buf, mut page) = (start.clone(), good.clone());
+            let stain = |page: &mut Page| match table {
+                0 => page.order[at] ^= 1,
+                1 => page.parents[at] ^= 1,
+                _ => page.outcomes[at] ^= 1,
+            };
+            let is_counted = at < if table == 0 { 2040 } else { 2041 };
+            stain(&mut page);
+            let answer = plain::page_deliver(&mut buf, &late, &mut page.tables());
+            let taken_back = if is_counted { 2 } else { 1 };
+            assert_eq!(answer, Ok((Delivery::Accepted(74), taken_back)));
+            let mut expected = Page::fresh(&buf, &[1, 511, 2]);
+            if !is_counted {
+                stain(&mut expected);
+            }
+            assert_eq!(page, expected);
+        }
+    }
+}
+
 #[test]
 fn paths() {
     let buf = two_nodes();

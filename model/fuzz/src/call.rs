@@ -1,8 +1,10 @@
 //! The calls, and the two sides that answer them.
 
 use crate::lent::{Guards, Lent};
+use crate::page::Page;
 use crate::raw;
-use outline::{plain, Delivery, Refusal};
+use outline::plain::{self, Tables};
+use outline::{Delivery, Refusal};
 use outline_model::{Answer, Vector, View};
 
 #[derive(Clone, Debug)]
@@ -54,9 +56,32 @@ pub enum Call {
         op: Vec<u8>,
         holdback: Vec<u8>,
     },
+    PageDeliver {
+        op: Vec<u8>,
+        page: Page,
+    },
+    PageAdd {
+        replica: u8,
+        parent: u16,
+        room: usize,
+        page: Page,
+    },
+    PageRemove {
+        replica: u8,
+        node: u16,
+        room: usize,
+        page: Page,
+    },
+    PageMove {
+        replica: u8,
+        node: u16,
+        parent: u16,
+        room: usize,
+        page: Page,
+    },
 }
 
-pub const NAMES: [&str; 15] = [
+pub const NAMES: [&str; 19] = [
     "make",
     "deliver",
     "issue_add",
@@ -72,6 +97,10 @@ pub const NAMES: [&str; 15] = [
     "bundle_make",
     "bundle_open",
     "holdback_deliver",
+    "page_deliver",
+    "page_issue_add",
+    "page_issue_remove",
+    "page_issue_move",
 ];
 
 impl Call {
@@ -93,19 +122,35 @@ impl Call {
             Call::BundleMake { .. } => 12,
             Call::BundleOpen(_) => 13,
             Call::HoldbackDeliver { .. } => 14,
+            Call::PageDeliver { .. } => 15,
+            Call::PageAdd { .. } => 16,
+            Call::PageRemove { .. } => 17,
+            Call::PageMove { .. } => 18,
         }
+    }
+
+    /// Whether it goes with a page.
+    pub fn has_page(&self) -> bool {
+        matches!(
+            self,
+            Call::PageDeliver { .. }
+                | Call::PageAdd { .. }
+                | Call::PageRemove { .. }
+                | Call::PageMove { .. }
+        )
     }
 
     /// Whether it issues or delivers one op, or judges.
     pub fn is_single(&self) -> bool {
-        matches!(
+        let plainly = matches!(
             self,
             Call::Deliver(_)
                 | Call::Add { .. }
                 | Call::Remove { .. }
                 | Call::Move { .. }
                 | Call::Judge { .. }
-        )
+        );
+        plainly || self.has_page()
     }
 }
 
@@ -128,8 +173,24 @@ fn truth(holds: bool) -> Outcome {
 #[derive(PartialEq, Eq, Debug)]
 pub struct After {
     pub outcome: Outcome,
+    /// How many ops a call with a page took back.
+    pub taken_back: usize,
     pub bytes: Vec<Lent<u8>>,
     pub words: Vec<Lent<u16>>,
+}
+
+impl After {
+    /// The page that a call with one left.
+    pub fn page(&self, call: &Call) -> Option<Page> {
+        match (&self.words[..], &self.bytes[..]) {
+            ([order, parents], [_, outcomes]) if call.has_page() => Some(Page {
+                order: order.get().to_vec(),
+                parents: parents.get().to_vec(),
+                outcomes: outcomes.get().to_vec(),
+            }),
+            _ => None,
+        }
+    }
 }
 
 /// One implementation of the calls.
@@ -149,7 +210,33 @@ pub trait Side {
     fn bundle_make(file: &[u8], counts: &Vector, out: &mut [u8]) -> Outcome;
     fn bundle_open(buf: &mut [u8], bundle: &[u8]) -> Outcome;
     fn holdback_deliver(buf: &mut [u8], op: &[u8], holdback: &mut [u8]) -> Outcome;
+    fn page_deliver(buf: &mut [u8], op: &[u8], page: &mut Tables) -> Paged;
+    fn page_add(
+        buf: &mut [u8],
+        replica: u8,
+        parent: u16,
+        out: &mut [u8],
+        page: &mut Tables,
+    ) -> Paged;
+    fn page_remove(
+        buf: &mut [u8],
+        replica: u8,
+        node: u16,
+        out: &mut [u8],
+        page: &mut Tables,
+    ) -> Paged;
+    fn page_move(
+        buf: &mut [u8],
+        replica: u8,
+        node: u16,
+        parent: u16,
+        out: &mut [u8],
+        page: &mut Tables,
+    ) -> Paged;
 }
+
+/// The answer of a call with a page, and how many ops were taken back.
+type Paged = (Outcome, usize);
 
 pub struct Library;
 pub struct Model;
@@ -165,6 +252,18 @@ fn delivered(answer: Result<Delivery, Refusal>) -> Outcome {
         Ok(Delivery::HadIt) => Outcome::HadIt,
         Ok(other) => unreachable!("a plain delivery answers {other:?}"),
         Err(why) => Outcome::Refused(why.number()),
+    }
+}
+
+/// An answer with a page, by what is said of the one without it. A refusal comes
+/// with nothing taken back, or the crate would not have handed it on.
+fn paged<T>(
+    answer: Result<(T, usize), Refusal>,
+    plain: impl FnOnce(Result<T, Refusal>) -> Outcome,
+) -> Paged {
+    match answer {
+        Ok((answer, taken_back)) => (plain(Ok(answer)), taken_back),
+        Err(why) => (plain(Err(why)), 0),
     }
 }
 
@@ -249,6 +348,44 @@ impl Side for Library {
             other => delivered(other),
         }
     }
+
+    fn page_deliver(buf: &mut [u8], op: &[u8], page: &mut Tables) -> Paged {
+        paged(plain::page_deliver(buf, op, page), delivered)
+    }
+
+    fn page_add(
+        buf: &mut [u8],
+        replica: u8,
+        parent: u16,
+        out: &mut [u8],
+        page: &mut Tables,
+    ) -> Paged {
+        let answer = plain::page_issue_add(buf, replica, parent, out, page);
+        paged(answer, value)
+    }
+
+    fn page_remove(
+        buf: &mut [u8],
+        replica: u8,
+        node: u16,
+        out: &mut [u8],
+        page: &mut Tables,
+    ) -> Paged {
+        let answer = plain::page_issue_remove(buf, replica, node, out, page);
+        paged(answer, value)
+    }
+
+    fn page_move(
+        buf: &mut [u8],
+        replica: u8,
+        node: u16,
+        parent: u16,
+        out: &mut [u8],
+        page: &mut Tables,
+    ) -> Paged {
+        let answer = plain::page_issue_move(buf, replica, node, parent, out, page);
+        paged(answer, value)
+    }
 }
 
 impl From<Answer> for Outcome {
@@ -323,6 +460,73 @@ impl Side for Model {
     fn holdback_deliver(buf: &mut [u8], op: &[u8], holdback: &mut [u8]) -> Outcome {
         outline_model::deliver_holdback(buf, op, holdback).into()
     }
+
+    fn page_deliver(buf: &mut [u8], op: &[u8], page: &mut Tables) -> Paged {
+        told(outline_model::deliver_page(buf, op, lent(page)))
+    }
+
+    fn page_add(
+        buf: &mut [u8],
+        replica: u8,
+        parent: u16,
+        out: &mut [u8],
+        page: &mut Tables,
+    ) -> Paged {
+        told(outline_model::issue_add_page(
+            buf,
+            replica,
+            parent,
+            out,
+            lent(page),
+        ))
+    }
+
+    fn page_remove(
+        buf: &mut [u8],
+        replica: u8,
+        node: u16,
+        out: &mut [u8],
+        page: &mut Tables,
+    ) -> Paged {
+        told(outline_model::issue_remove_page(
+            buf,
+            replica,
+            node,
+            out,
+            lent(page),
+        ))
+    }
+
+    fn page_move(
+        buf: &mut [u8],
+        replica: u8,
+        node: u16,
+        parent: u16,
+        out: &mut [u8],
+        page: &mut Tables,
+    ) -> Paged {
+        told(outline_model::issue_move_page(
+            buf,
+            replica,
+            node,
+            parent,
+            out,
+            lent(page),
+        ))
+    }
+}
+
+/// The tables, as the model is lent them.
+fn lent<'a>(page: &'a mut Tables) -> outline_model::Page<'a> {
+    outline_model::Page {
+        order: page.order,
+        parents: page.parents,
+        outcomes: page.outcomes,
+    }
+}
+
+fn told((answer, taken_back): (Answer, usize)) -> Paged {
+    (answer.into(), taken_back)
 }
 
 /// Fresh lent memory of a length, with content and guards by place and salt.
@@ -351,7 +555,36 @@ impl Lender {
 
     fn words(&self, length: usize) -> Lent<u16> {
         let content: Vec<u16> = (0..length).map(|i| self.word(!i)).collect();
-        Lent::new(&content, self.guards, |i| self.word(i))
+        self.copy_words(&content)
+    }
+
+    fn copy_words(&self, content: &[u16]) -> Lent<u16> {
+        Lent::new(content, self.guards, |i| self.word(i))
+    }
+
+    fn page(&self, page: &Page) -> LentPage {
+        LentPage {
+            order: self.copy_words(&page.order),
+            parents: self.copy_words(&page.parents),
+            outcomes: self.copy(&page.outcomes),
+        }
+    }
+}
+
+/// The tables of a page, each with its own guards.
+struct LentPage {
+    order: Lent<u16>,
+    parents: Lent<u16>,
+    outcomes: Lent<u8>,
+}
+
+impl LentPage {
+    fn tables(&mut self) -> Tables<'_> {
+        Tables {
+            order: self.order.get_mut(),
+            parents: self.parents.get_mut(),
+            outcomes: self.outcomes.get_mut(),
+        }
     }
 }
 
@@ -359,7 +592,15 @@ impl Lender {
 pub fn run<S: Side>(call: &Call, buffer: &mut Lent<u8>, guards: Guards, salt: usize) -> After {
     let lender = Lender { guards, salt };
     let (mut bytes, mut words) = (vec![], vec![]);
+    let mut taken_back = 0;
     let buf = buffer.get_mut();
+    // Of a call with a page: op or `out`, and the tables.
+    let mut paged = |(outcome, taken): Paged, beside: Lent<u8>, page: LentPage| {
+        taken_back = taken;
+        bytes.extend([beside, page.outcomes]);
+        words.extend([page.order, page.parents]);
+        outcome
+    };
     let outcome = match *call {
         Call::Make => S::make(buf),
         Call::Deliver(ref op) => {
@@ -433,9 +674,47 @@ pub fn run<S: Side>(call: &Call, buffer: &mut Lent<u8>, guards: Guards, salt: us
             bytes.extend([op, holdback]);
             outcome
         }
+        Call::PageDeliver { ref op, ref page } => {
+            let (op, mut page) = (lender.copy(op), lender.page(page));
+            let answer = S::page_deliver(buf, op.get(), &mut page.tables());
+            paged(answer, op, page)
+        }
+        Call::PageAdd {
+            replica,
+            parent,
+            room,
+            ref page,
+        } => {
+            let (mut out, mut page) = (lender.bytes(room), lender.page(page));
+            let answer = S::page_add(buf, replica, parent, out.get_mut(), &mut page.tables());
+            paged(answer, out, page)
+        }
+        Call::PageRemove {
+            replica,
+            node,
+            room,
+            ref page,
+        } => {
+            let (mut out, mut page) = (lender.bytes(room), lender.page(page));
+            let answer = S::page_remove(buf, replica, node, out.get_mut(), &mut page.tables());
+            paged(answer, out, page)
+        }
+        Call::PageMove {
+            replica,
+            node,
+            parent,
+            room,
+            ref page,
+        } => {
+            let (mut out, mut page) = (lender.bytes(room), lender.page(page));
+            let mut tables = page.tables();
+            let answer = S::page_move(buf, replica, node, parent, out.get_mut(), &mut tables);
+            paged(answer, out, page)
+        }
     };
     After {
         outcome,
+        taken_back,
         bytes,
         words,
     }

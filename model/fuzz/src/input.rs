@@ -1,11 +1,14 @@
 //! What is called: files, sound and damaged, short and full, and calls on them.
 
 use crate::call::Call;
+use crate::page::Page;
 use outline::plain::{HOLDBACK, LARGEST_BUNDLE};
 use outline_model::cases::world::{full, holdback, part, Deep, Style, World};
 use outline_model::cases::{damage, examples};
+use outline_model::op::join;
 use outline_model::rng::Rng;
-use outline_model::{Kind, Log, Op, Vector, View, HOLDBACK_PLACES, MAX_FILE, OP_LEN, SLOTS};
+use outline_model::{Kind, Log, Op, Vector, View};
+use outline_model::{HOLDBACK_PLACES, MAX_FILE, MAX_SEQUENCE, OP_LEN, SLOTS};
 
 /// A buffer with a log at its front, and ops to call it with.
 pub struct Input {
@@ -195,12 +198,89 @@ impl Input {
         20 + rng.below(60)
     }
 
-    /// A call on buffer and holdback as the calls before have left them.
-    pub fn call(&self, rng: &mut Rng, buffer: &[u8], holdback: &[u8]) -> Call {
+    /// A call on buffer, holdback and page as the calls before have left them.
+    pub fn call(&self, rng: &mut Rng, buffer: &[u8], holdback: &[u8], page: &Page) -> Call {
+        if rng.one_in(10) {
+            let page = self.page(rng, buffer, page);
+            return self.page_call(rng, buffer, page);
+        }
         match self.deep {
             Some(deep) if rng.one_in(2) => self.deep_call(rng, deep, buffer),
             _ => self.any_call(rng, buffer, holdback),
         }
+    }
+
+    /// An op that is delivered with a page, often a late one, or issued.
+    fn page_call(&self, rng: &mut Rng, buffer: &[u8], page: Page) -> Call {
+        let (node, parent) = match self.deep {
+            Some(deep) => {
+                let (node, parent) = deep.places(rng);
+                let parent = parent.map_or(0, |place| self.ops[place].node);
+                (self.ops[node].node, parent)
+            }
+            None => (self.node(rng), self.node(rng)),
+        };
+        let (replica, room) = (replica(rng), record_room(rng));
+        match rng.below(18) {
+            0..=6 => Call::PageDeliver {
+                op: late(rng, buffer, node, parent).unwrap_or_else(|| self.record(rng)),
+                page,
+            },
+            7..=9 => Call::PageDeliver {
+                op: self.next(rng, buffer, &[]),
+                page,
+            },
+            10 | 11 => Call::PageDeliver {
+                op: self.record(rng),
+                page,
+            },
+            12 | 13 => Call::PageAdd {
+                replica,
+                parent,
+                room,
+                page,
+            },
+            14 | 15 => Call::PageRemove {
+                replica,
+                node,
+                room,
+                page,
+            },
+            _ => Call::PageMove {
+                replica,
+                node,
+                parent,
+                room,
+                page,
+            },
+        }
+    }
+
+    /// A page: as it was left, which other calls may have made old, or the true
+    /// one, or one of fewer ops, or of any entries; some with a wrong entry, and
+    /// some too short or longer than need be.
+    fn page(&self, rng: &mut Rng, buffer: &[u8], left: &Page) -> Page {
+        let left = left.clone().whole();
+        let fresh = |buffer: &[u8]| Page::fresh(buffer).unwrap_or_else(Page::zeros);
+        let mut page = match rng.below(16) {
+            0 => Page::noise(rng),
+            1 => Page::zeros(),
+            2 => {
+                let fewer = self.held.saturating_sub(1 + rng.below(4));
+                fresh(&examples::file_of(&self.ops[..fewer]))
+            }
+            3 => fresh(buffer).mixed(rng, left),
+            4..=6 => fresh(buffer).stained(rng),
+            7..=11 => fresh(buffer),
+            _ => left,
+        };
+        if rng.one_in(6) {
+            page = page.long(rng);
+        }
+        if rng.one_in(12) {
+            page = page.whole().short(rng);
+        }
+        page
     }
 
     /// A move near or far in the chains, issued or delivered, or judging.
@@ -417,6 +497,47 @@ impl Input {
         }
         rng.pick(&self.ops).node
     }
+}
+
+/// An op of a replica that has met nothing since its last op, or one other op at
+/// most: it is judged before much of what is held. None if the log is not sound or
+/// the replica has no op left.
+fn late(rng: &mut Rng, buffer: &[u8], node: u16, parent: u16) -> Option<Vec<u8>> {
+    let log = Log::open(buffer)?;
+    let held: Vec<&Op> = log.ops().collect();
+    let replica = match held[..] {
+        [] => 1 + rng.below(8) as u8,
+        _ if rng.one_in(4) => 1 + rng.below(8) as u8,
+        _ => rng.pick(&held).replica,
+    };
+    let index = usize::from(replica) - 1;
+    let count = usize::from(log.held()[index]);
+    if count == MAX_SEQUENCE {
+        return None;
+    }
+    let mut counts = log.get(index, count).map_or([0; 8], with_itself);
+    if !held.is_empty() && rng.one_in(2) {
+        counts = join(&counts, &with_itself(rng.pick(&held)));
+    }
+    // Mostly of nodes that it knows.
+    let known = |node: u16| log.knowledge(&counts, node).is_known();
+    let is_given = parent == 0 || known(parent) || rng.one_in(20);
+    let parent = if is_given { parent } else { 0 };
+    let is_movable = known(node);
+    let op = match rng.below(6) {
+        0 | 1 if is_movable => examples::up(replica, node, parent, &counts),
+        2 | 3 if is_movable => examples::down(replica, node, parent, &counts),
+        4 if is_movable => examples::remove(replica, node, &counts),
+        _ => examples::add(replica, parent, &counts),
+    };
+    Some(op.bytes().to_vec())
+}
+
+/// The ops that one counts, and this one.
+fn with_itself(op: &Op) -> Vector {
+    let mut counts = op.vector;
+    counts[op.index()] = op.sequence() as u8;
+    counts
 }
 
 /// Whether ops can be counted in it.

@@ -5,15 +5,17 @@
 mod call;
 mod input;
 mod lent;
+mod page;
 mod program;
 mod raw;
 
-use call::{run, Call, Library, Model, Outcome, NAMES};
+use call::{run, After, Call, Library, Model, Outcome, NAMES};
 use input::{Input, Stock};
 use lent::{Guards, Lent};
 use outline::plain::HOLDBACK;
-use outline_model::refusal;
 use outline_model::rng::Rng;
+use outline_model::{refusal, HEADER_LEN, OP_LEN};
+use page::Page;
 use std::time::Instant;
 
 const USAGE: &str = "fuzz [--calls N] [--seed N] [--exact] [--without NAME]
@@ -72,11 +74,15 @@ struct Tally {
     full: u64,
     /// Issues, deliveries and judgings in deep chains.
     deep: u64,
+    /// Acceptances with a page that took back no op, some, and all that were held.
+    none_back: u64,
+    some_back: u64,
+    all_back: u64,
 }
 
 impl Tally {
-    fn add(&mut self, call: &Call, outcome: Outcome) {
-        let column = match outcome {
+    fn add(&mut self, call: &Call, after: &After) {
+        let column = match after.outcome {
             Outcome::Refused(number) => usize::from(number),
             Outcome::HadIt => 15,
             Outcome::Waiting => 16,
@@ -84,6 +90,14 @@ impl Tally {
             Outcome::Value(_) => 18,
         };
         self.counts[call.index()][column] += 1;
+        if let (true, Outcome::Value(end)) = (call.has_page(), after.outcome) {
+            let held = (end - HEADER_LEN) / OP_LEN - 1;
+            match after.taken_back {
+                0 => self.none_back += 1,
+                taken if taken < held => self.some_back += 1,
+                _ => self.all_back += 1,
+            }
+        }
     }
 
     fn calls(&self) -> u64 {
@@ -91,7 +105,7 @@ impl Tally {
     }
 
     fn print(&self) {
-        print!("{:<17}", "call");
+        print!("{:<18}", "call");
         for column in 1..=14 {
             print!("{:>8}", format!("ref {column}"));
         }
@@ -100,7 +114,7 @@ impl Tally {
         }
         println!();
         for (name, counts) in NAMES.iter().zip(&self.counts) {
-            print!("{name:<17}");
+            print!("{name:<18}");
             for count in &counts[1..] {
                 print!("{count:>8}");
             }
@@ -147,15 +161,19 @@ fn compare_calls(options: &Options) -> u64 {
         let mut ours = Lent::new(&input.buffer, guards, |i| (i ^ salt) as u8);
         let mut theirs = ours.clone();
         let mut holdback = vec![0; HOLDBACK];
+        let mut page = Page::zeros();
         for _ in 0..input.calls(&mut rng) {
-            let call = input.call(&mut rng, ours.get(), &holdback);
+            let call = input.call(&mut rng, ours.get(), &holdback, &page);
             if options.without.as_deref() == Some(NAMES[call.index()]) {
                 continue;
             }
             let before = ours.get().to_vec();
             let library = run::<Library>(&call, &mut ours, guards, salt);
             let model = run::<Model>(&call, &mut theirs, guards, salt);
-            tally.add(&call, model.outcome);
+            tally.add(&call, &model);
+            if let Some(left) = model.page(&call) {
+                page = left;
+            }
             if let (Call::HoldbackDeliver { .. }, [_, left]) = (&call, &model.bytes[..]) {
                 if model.outcome != Outcome::Refused(refusal::BAD_HOLDBACK) {
                     holdback = left.get().to_vec();
@@ -176,8 +194,10 @@ fn compare_calls(options: &Options) -> u64 {
                 );
                 println!("  call     {call:?}");
                 println!("  buffer   {}", hex(&before));
-                println!("  library  {:?}", library.outcome);
-                println!("  model    {:?}", model.outcome);
+                for (side, after) in [("library", &library), ("model  ", &model)] {
+                    let (outcome, taken_back) = (after.outcome, after.taken_back);
+                    println!("  {side}  {outcome:?}, {taken_back} taken back");
+                }
                 println!(
                     "  buffers  {}",
                     if ours == theirs { "same" } else { "differ" }
@@ -189,6 +209,10 @@ fn compare_calls(options: &Options) -> u64 {
         }
     }
     tally.print();
+    println!(
+        "accepted with a page: {} took back no op, {} some, {} all that were held",
+        tally.none_back, tally.some_back, tally.all_back
+    );
     println!(
         "{} calls with seed {}, {} of them on logs of at least 2,000 ops, {} issues, deliveries and \
          judgings in deep chains, in {:.1} s: {} differences",
