@@ -29,7 +29,7 @@ use Rattle.codec.specs.Asked.{isAccepted}
 use Rattle.codec.proofs.AnswerLaws.{accepted-with, if-accepted, if-not-accepted}
 use Rattle.page_rules.proofs.PageLaws.{behind-is, old-cut, page-before}
 use Rattle.replay.proofs.CutLaws.{whole-header, whole-sound}
-use Rattle.page.specs.Tables.{Lent}
+use Rattle.page_tables.specs.Tables.{Lent}
 use Rattle.page.specs.Renewing.{Grown, GrownLent, Ready, Took}
 
 ---- an op that was added

@@ -37,7 +37,7 @@ use Rattle.undo.specs.Tables.{Kept, Named, TimedWalk, opsAlong, slotCounted, ti
 use Rattle.undo.specs.Carried.{Carriable, FirstBeyond, Schedules, Slots}
 use Rattle.undo.proofs.CarryLaws.{ops-are, timed-are}
 use Rattle.undo.proofs.KeepLaws.{counted-slot, kept-replay, kept-unjudged, slot-asks}
-use Rattle.page.specs.Tables.{Comparable, Fillable, without}
+use Rattle.page_tables.specs.Tables.{Comparable, Fillable, without}
 use Rattle.page.specs.Renewing.{Grown, Renewable, Took}
 use Rattle.rules.specs.Tree as trees
 

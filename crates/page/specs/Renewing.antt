@@ -14,7 +14,7 @@ use Rattle.rules.specs.Replay.{orderOf}
 use Rattle.rules.specs.Tree.{mostOps}
 use Rattle.order.specs.Undo.{FirstNew}
 use Rattle.schedule.specs.Schedule.{schedule, scheduled}
-use Rattle.page.specs.Tables.{Lent}
+use Rattle.page_tables.specs.Tables.{Lent}
 
 -- how many ops are taken back to bring on the page of a closed cut: where the lent tables show it, those behind the first op that it does
 -- not count, and else all that it counts

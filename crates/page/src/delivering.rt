@@ -1,11 +1,11 @@
 use crate::answer::Paged;
 use crate::answer::refused;
 use crate::renewing::renew;
-use crate::tables::long_enough;
 use codec::Refusal;
 use codec::is_accepted;
 use delivery::deliver_next;
 use oplog::counts_of;
+use page_tables::long_enough;
 use soundness::WIDTH;
 use soundness::is_sound;
 ghost use mathlib.Core.Path.{_≡_};

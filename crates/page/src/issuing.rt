@@ -1,11 +1,11 @@
 use crate::answer::Paged;
 use crate::answer::refused;
 use crate::renewing::renew;
-use crate::tables::long_enough;
 use codec::Refusal;
 use codec::is_accepted;
 use issue::issue_sound;
 use oplog::counts_of;
+use page_tables::long_enough;
 use request::Request;
 use soundness::WIDTH;
 use soundness::is_sound;

@@ -4,7 +4,6 @@ mod answer;
 mod delivering;
 mod issuing;
 mod renewing;
-mod tables;
 
 pub use answer::Paged;
 pub use delivering::deliver;

@@ -1,6 +1,6 @@
-use crate::tables::fill;
-use crate::tables::shows;
 use oplog::counts_of;
+use page_tables::fill;
+use page_tables::shows;
 use schedule::OPS;
 use schedule::write_order;
 use soundness::WIDTH;

@@ -27,8 +27,8 @@ pub data Row : Type 0 where
   -- delivering to a log is accepted with this end and takes so many ops back; the page then has these outcomes for the ops of the log, and
   -- entries behind it are as they were
   takes : Log → (lent : Page) → Op → (end taken : ℕ) → List (List ℕ) → Row
-  -- delivering is answered otherwise, and the page is as it was
-  leaves : Log → (lent : Page) → Op → Answer → Row
+  -- delivering to a buffer is answered otherwise, and the page is as it was
+  leaves : (buffer : List ℕ) → (lent : Page) → Op → Answer → Row
   -- a replica that issues at a log, with just the room for the op, is answered, and so many ops are taken back
   issues : Log → (lent : Page) → (replica : ℕ) → Request → Answer → (taken : ℕ) → Row
 
@@ -38,8 +38,8 @@ Holds (takes log lent r end taken os) =
     let c = deliverPage width (roomy log) r lent in
     (c .answer ≡ accepted end) × (c .taken ≡ taken) × (ofOps (λ s q. getD (c .page .outcomes) (slot s q) 0) (append log r) ≡ os)
     × (drop mostOps (c .page .order) ≡ drop mostOps (lent .order))
-Holds (leaves log lent r a) =
-    let c = deliverPage width (roomy log) r lent in
+Holds (leaves f lent r a) =
+    let c = deliverPage width f r lent in
     (c .answer ≡ a) × (c .taken ≡ 0) × (c .page ≡ lent)
 Holds (issues log lent s q a taken) =
     let c = issuePage width (roomy log) (replicate width 9) s q lent in
@@ -119,13 +119,15 @@ table =
     ∷ takes rivalsEarly (pageOf rivalsEarly) (opBytes 4 3 258 257 (vector 3 0 0)) 116 2
     (three [] (1 ∷ 1 ∷ 1 ∷ 1 ∷ []) (3 ∷ []) (1 ∷ []))
     -- "a refusal or had it leaves the page unchanged", an untrue one too
-    ∷ leaves p1Early (pageOf emptyLog) a₁ hadIt
-    ∷ leaves p1Early (pageOf emptyLog) (opBytes 4 2 257 258 (vector 4 0 0)) (refused 5)
-    ∷ leaves p1Early (pageOf p1Early) (opBytes 4 2 257 999 (vector 2 0 0)) (refused 7)
+    ∷ leaves (roomy p1Early) (pageOf emptyLog) a₁ hadIt
+    ∷ leaves (roomy p1Early) (pageOf emptyLog) (opBytes 4 2 257 258 (vector 4 0 0)) (refused 5)
+    ∷ leaves (roomy p1Early) (pageOf p1Early) (opBytes 4 2 257 999 (vector 2 0 0)) (refused 7)
     -- "one too short for 2,040 records is answered 2", whatever else is wrong with the op, and where it is held
-    ∷ leaves p1Early (short 2039 2041 2041) (opBytes 4 2 257 258 (vector 4 0 0)) (refused 2)
-    ∷ leaves p1Early (short 2040 2040 2041) a₁ (refused 2)
-    ∷ leaves p1Early (short 2040 2041 2040) b₁ (refused 2)
+    ∷ leaves (roomy p1Early) (short 2039 2041 2041) (opBytes 4 2 257 258 (vector 4 0 0)) (refused 2)
+    ∷ leaves (roomy p1Early) (short 2040 2040 2041) a₁ (refused 2)
+    ∷ leaves (roomy p1Early) (short 2040 2041 2040) b₁ (refused 2)
+    -- but a log that is not sound is answered before
+    ∷ leaves (replicate 31 0) (short 2039 2041 2041) a₁ (refused 1)
     -- an issued op sorts last; at a page that is not true all that is held is taken back
     ∷ issues p1 (pageOf p1) 1 (add 258) (accepted 102) 0
     ∷ issues p1 (pageOf p1) 2 (move 257 0) (accepted 102) 0
@@ -154,5 +156,5 @@ table-holds =
     & (refl, refl, refl, refl) & (refl, refl, refl, refl) & (refl, refl, refl, refl) & (refl, refl, refl, refl)
     & (refl, refl, refl, refl) & (refl, refl, refl, refl) & (refl, refl, refl, refl) & (refl, refl, refl, refl)
     & (refl, refl, refl, refl) & (refl, refl, refl, refl) & (refl, refl, refl, refl) & (refl, refl, refl) & (refl, refl, refl)
-    & (refl, refl, refl) & (refl, refl, refl) & (refl, refl, refl) & (refl, refl, refl) & (refl, refl) & (refl, refl)
+    & (refl, refl, refl) & (refl, refl, refl) & (refl, refl, refl) & (refl, refl, refl) & (refl, refl, refl) & (refl, refl) & (refl, refl)
     & (refl, refl) & (refl, refl) & (refl, refl) & tt

@@ -1,9 +1,9 @@
--- `page::tables::same_words` meets its contract.
-use Rattle.page.proofs.TableLaws.{tabling, Matched}
+-- `page_tables::tables::same_words` meets its contract.
+use Rattle.page_tables.proofs.TableLaws.{tabling, Matched}
 use Prim.Native.Nat.{_-_}
 use lib.ListN.{length}
-use Rattle.page.proofs.tables.same_words.Statement.{statement}
-use Rattle.page.proofs.tables.same_words.Tie as tie
+use Rattle.page_tables.proofs.tables.same_words.Statement.{statement}
+use Rattle.page_tables.proofs.tables.same_words.Tie as tie
 
 abbrev Inv-loop : tie.InvT-loop
 Inv-loop a b i₀ i-end i =

@@ -15,7 +15,7 @@ use Rattle.lists.proofs.ListLaws.{same-all, same-end, same-sym, same-turn, same
 use Rattle.page_rules.specs.Page.{filled, longEnough, page, shows}
 use Rattle.rules.specs.Tree.{mostOps, slots}
 use Rattle.oplog.proofs.InsertLaws.{front-first, front-last, front-next}
-use Rattle.page.specs.Tables.{Comparable, Entry, Fillable, OrderLent, without}
+use Rattle.page_tables.specs.Tables.{Comparable, Entry, Fillable, OrderLent, without}
 
 ---- room
 

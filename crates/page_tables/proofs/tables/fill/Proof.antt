@@ -1,7 +1,7 @@
--- `page::tables::fill` meets its contract.
-use Rattle.page.proofs.TableLaws.{tabling}
-use Rattle.page.proofs.tables.fill.Statement.{statement}
-use Rattle.page.proofs.tables.fill.Tie as tie
+-- `page_tables::tables::fill` meets its contract.
+use Rattle.page_tables.proofs.TableLaws.{tabling}
+use Rattle.page_tables.proofs.tables.fill.Statement.{statement}
+use Rattle.page_tables.proofs.tables.fill.Tie as tie
 
 pub fill-spec : {M : Type 1} → statement M
 fill-spec =

@@ -10,10 +10,10 @@ ghost use Rattle.lists.specs.Lists.{same};
 ghost use Rattle.page_rules.specs.Page.{filled, page};
 ghost use Rattle.rules.specs.Tree.{mostOps};
 ghost use Rattle.page_rules.specs.Page as rules;
-ghost use Rattle.page.specs.Tables.{Comparable, Entry, Fillable, OrderLent, without};
+ghost use Rattle.page_tables.specs.Tables.{Comparable, Entry, Fillable, OrderLent, without};
 
 // Whether lent tables have room for every page.
-pub(crate) fn long_enough(order: &[u16], parents: &[u16], outcomes: &[u8]) -> bool
+pub fn long_enough(order: &[u16], parents: &[u16], outcomes: &[u8]) -> bool
     ensures { λ r. ⌜ r ≡ rules.longEnough (page (now (order .entry)) (now (parents .entry)) (now (outcomes .entry))) ⌝ }
 {
     if order.len() < OPS {
@@ -76,7 +76,7 @@ fn order_shows(lent: &[u16], order: &[u16], place: usize) -> bool
 }
 
 // Whether lent tables show a page: its order is this one without the entry at a place.
-pub(crate) fn shows(
+pub fn shows(
     order: &[u16],
     parents: &[u16],
     outcomes: &[u8],
@@ -100,7 +100,7 @@ pub(crate) fn shows(
 }
 
 // Puts a page into the first entries of lent tables.
-pub(crate) fn fill(
+pub fn fill(
     order: &mut [u16],
     parents: &mut [u16],
     outcomes: &mut [u8],

@@ -1,10 +1,10 @@
--- `page::tables::put_words` meets its contract.
-use Rattle.page.proofs.TableLaws.{tabling}
+-- `page_tables::tables::put_words` meets its contract.
+use Rattle.page_tables.proofs.TableLaws.{tabling}
 use Prim.Native.Nat.{_-_}
 use lib.ListN.{length}
 use Rattle.oplog.proofs.InsertLaws.{Fronted}
-use Rattle.page.proofs.tables.put_words.Statement.{statement}
-use Rattle.page.proofs.tables.put_words.Tie as tie
+use Rattle.page_tables.proofs.tables.put_words.Statement.{statement}
+use Rattle.page_tables.proofs.tables.put_words.Tie as tie
 
 abbrev Inv-loop : tie.InvT-loop
 Inv-loop table₀ words j₀ j-end table j =

@@ -1,11 +1,11 @@
--- `page::tables::order_shows` meets its contract.
-use Rattle.page.proofs.TableLaws.{tabling, Matched}
+-- `page_tables::tables::order_shows` meets its contract.
+use Rattle.page_tables.proofs.TableLaws.{tabling, Matched}
 use Prim.Native.Nat.{_-_}
 use lib.ListN.{take}
 use Rattle.rules.specs.Tree.{mostOps}
-use Rattle.page.specs.Tables.{without}
-use Rattle.page.proofs.tables.order_shows.Statement.{statement}
-use Rattle.page.proofs.tables.order_shows.Tie as tie
+use Rattle.page_tables.specs.Tables.{without}
+use Rattle.page_tables.proofs.tables.order_shows.Statement.{statement}
+use Rattle.page_tables.proofs.tables.order_shows.Tie as tie
 
 abbrev Inv-loop : tie.InvT-loop
 Inv-loop lent order place j₀ j =
