@@ -3,7 +3,9 @@
 
 mod callgrind;
 mod distance;
+mod late;
 mod meeting;
+mod page;
 mod pick;
 mod program;
 mod report;

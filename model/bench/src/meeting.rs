@@ -97,7 +97,7 @@ pub fn hand_over(from: &[u8], to: &mut [u8], side: Side) -> bool {
 }
 
 /// The ops with other replicas, which follow each other from this one.
-fn by_replicas_from(first: u8, ops: Vec<Op>) -> Vec<Op> {
+pub fn by_replicas_from(first: u8, ops: Vec<Op>) -> Vec<Op> {
     let mut old: Vec<u8> = ops.iter().map(|op| op.replica).collect();
     old.sort();
     old.dedup();

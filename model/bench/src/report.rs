@@ -11,10 +11,10 @@ Made by `model/bench/run`; do not edit.
 Every call of the library is measured beside the same call in safe Rust, written with equal care for speed over the same algorithms
 (model/bench/src/careful; its tests compare it with the model): no allocation, one pass for soundness, which looks up only those counts of a
 version vector that have changed since its replica's op before, vectors compared four or eight counts at a time, replay level by level, a
-linear listing, a bundle opened in one copy of the log, a holdback searched in place. Both are compiled by LLVM at the highest level for the
-same processor, the Rust with its bounds checks and without checks of overflow. One program calls both in turn, many times; the least time of
-each counts. It calls the library through the Rust crate, which makes a `Result` of the number that the library answers: at `make`, of eight
-instructions, that is most of the time.
+linear listing, a bundle opened in one copy of the log, a holdback searched in place, a page compared with a replay of the log. Both are
+compiled by LLVM at the highest level for the same processor, the Rust with its bounds checks and without checks of overflow. One program calls
+both in turn, many times; the least time of each counts. It calls the library through the Rust crate, which makes a `Result` of the number that
+the library answers: at `make`, of eight instructions, that is most of the time.
 
 Logs: **flat** has adds under the root, of all eight replicas, each by itself; **deep** is one chain, each node under the one before and each
 op counting all before; **random** has replicas that add, remove and move, and hear of each other now and then. The size is the number of
@@ -40,6 +40,16 @@ A delivery with a holdback: with an empty one, of the same op as by `deliver`. I
 ops. One **waits**: the very last comes, and 31 of the others wait; a plain delivery refuses it as early. One **frees 32**: the first comes,
 and the others wait, the last of them first, so that the search starts again from the front 32 times; or the 33 come one by one, in causal
 order.
+
+A page is what judging a log says, kept beside it in three tables. The cheapest test of whether one is true is a replay of the log, with which
+the whole page is compared. So a call with a page has the cost of the plain call, about that of a judgement, that of the comparison, and that of
+the ops which it takes back: those that sort after the new one, and are judged again. In the rows of `page_deliver` an add of replica 1 comes to a
+deep or random log of the seven others. As these hold no more than 1,785 ops, at 2,040 the log begins with 254 adds of replica 1 under the root,
+which all others count. The add counts all ops of the log, and sorts **last**, or it counts those before some timestamp, so that 10 or 100 ops of
+the same log sort after it: it comes **10 back** or **100 back**. The random log is the first drawn one that has such timestamps. **Untrue** is
+the op of the row last at a page of which the last outcome is wrong: the page is built anew, and all ops count as taken back. Below stand the
+same op by `deliver`, which does not judge, so that one row is enough, and by `deliver` and then `judge`. Issuing with a page is issuing as
+without, at a true page, and takes back none.
 ";
 
 pub fn text(found: &[Found]) -> String {

@@ -2,7 +2,9 @@
 
 use crate::callgrind;
 use crate::distance::{self, Distance};
+use crate::late::Late;
 use crate::meeting::{hand_over, Meeting};
+use crate::page::Page;
 use crate::pick::{last, names};
 use outline::{plain, Refusal};
 use outline_bench::careful;
@@ -89,9 +91,19 @@ pub enum Call {
     Frees,
     /// The same 33 ops by plain deliveries, in causal order.
     InTurn,
+    /// A delivery with a true page.
+    Page(Late),
+    /// One with an untrue page, of the op that sorts last.
+    PageUntrue,
+    /// The same op by a plain delivery, to which it is all one how late it comes.
+    Pageless,
+    /// The same by a plain delivery, and then a judgement.
+    Afresh(Late),
+    PageAdd,
+    PageMove,
 }
 
-pub const CALLS: [Call; 25] = [
+pub const CALLS: [Call; 35] = [
     Call::Make,
     Call::Deliver,
     Call::Add,
@@ -117,6 +129,16 @@ pub const CALLS: [Call; 25] = [
     Call::Early,
     Call::Frees,
     Call::InTurn,
+    Call::Page(Late::Last),
+    Call::PageUntrue,
+    Call::Pageless,
+    Call::Afresh(Late::Last),
+    Call::Page(Late::Ten),
+    Call::Afresh(Late::Ten),
+    Call::Page(Late::Hundred),
+    Call::Afresh(Late::Hundred),
+    Call::PageAdd,
+    Call::PageMove,
 ];
 
 impl Call {
@@ -147,6 +169,14 @@ impl Call {
             Call::Early => "the same by deliver, early",
             Call::Frees => "holdback_deliver, frees 32",
             Call::InTurn => "the same 33 by deliver",
+            Call::Page(Late::Last) => "page_deliver, last",
+            Call::Page(Late::Ten) => "page_deliver, 10 back",
+            Call::Page(Late::Hundred) => "page_deliver, 100 back",
+            Call::PageUntrue => "page_deliver, untrue",
+            Call::Pageless => "the same by deliver",
+            Call::Afresh(_) => "the same by deliver and judge",
+            Call::PageAdd => "page_issue_add",
+            Call::PageMove => "page_issue_move",
         }
     }
 
@@ -154,14 +184,19 @@ impl Call {
     fn adds(self) -> bool {
         let issues = matches!(
             self,
-            Call::Add | Call::Remove | Call::Move | Call::MoveOver(_)
+            Call::Add
+                | Call::Remove
+                | Call::Move
+                | Call::MoveOver(_)
+                | Call::PageAdd
+                | Call::PageMove
         );
         self.brings_last() || issues
     }
 
     /// Whether the call delivers the last op of the log.
     fn brings_last(self) -> bool {
-        matches!(self, Call::Deliver | Call::Holdback)
+        matches!(self, Call::Deliver | Call::Holdback) || self.late().is_some()
     }
 
     /// Whether the log lacks a chain.
@@ -182,6 +217,23 @@ impl Call {
     /// Whether the call is lent a holdback.
     fn has_holdback(self) -> bool {
         matches!(self, Call::Holdback | Call::Waits | Call::Frees)
+    }
+
+    /// Whether the call is lent a page.
+    fn has_page(self) -> bool {
+        matches!(
+            self,
+            Call::Page(_) | Call::PageUntrue | Call::PageAdd | Call::PageMove
+        )
+    }
+
+    /// How late the op comes that the rows of pages deliver.
+    fn late(self) -> Option<Late> {
+        match self {
+            Call::Page(late) | Call::Afresh(late) => Some(late),
+            Call::PageUntrue | Call::Pageless => Some(Late::Last),
+            _ => None,
+        }
     }
 
     /// Whether two logs meet.
@@ -207,6 +259,7 @@ pub struct Work {
     waiting: Vec<u8>,
     holdback: Vec<u8>,
     meeting: Meeting,
+    page: Page,
     op: Vec<u8>,
     replica: u8,
     node: u16,
@@ -218,9 +271,10 @@ pub struct Work {
 
 impl Work {
     pub fn new(call: Call, shape: Shape, size: usize) -> Work {
-        let mut ops = match call {
-            Call::MoveOver(_) => distance::chain(size),
-            Call::JudgeOver(distance) => distance.moves(size),
+        let mut ops = match (call, call.late()) {
+            (Call::MoveOver(_), _) => distance::chain(size),
+            (Call::JudgeOver(distance), _) => distance.moves(size),
+            (_, Some(late)) => late.ops(shape, size),
             _ => shape.ops(size.max(1)),
         };
         let chain = if call.has_chain() {
@@ -273,6 +327,11 @@ impl Work {
             } else {
                 Meeting::default()
             },
+            page: match call {
+                Call::PageUntrue => Page::untrue(&log),
+                _ if call.has_page() => Page::of(&log, call.late().map_or(0, Late::by)),
+                _ => Page::default(),
+            },
             op: op.bytes().to_vec(),
             replica: replica as u8 + 1,
             node,
@@ -296,14 +355,17 @@ impl Work {
         if self.call.meets() {
             self.meeting.part();
         }
+        if self.call.has_page() {
+            self.page.turn_back();
+        }
         let buffer = black_box(&mut self.buffer[..]);
         match (self.call, side) {
             (Call::Make, Side::Library) => callgrind::count(|| plain::make(buffer).is_ok()),
             (Call::Make, Side::Rust) => accepted(|| careful::make(buffer)),
-            (Call::Deliver | Call::Early, Side::Library) => {
+            (Call::Deliver | Call::Early | Call::Pageless, Side::Library) => {
                 callgrind::count(|| plain::deliver(buffer, &self.op).is_ok())
             }
-            (Call::Deliver | Call::Early, Side::Rust) => {
+            (Call::Deliver | Call::Early | Call::Pageless, Side::Rust) => {
                 accepted(|| careful::deliver(buffer, &self.op))
             }
             (Call::Add, Side::Library) => callgrind::count(|| {
@@ -326,11 +388,8 @@ impl Work {
                 let (replica, node, parent) = (self.replica, self.node, self.parent);
                 careful::issue_move(buffer, replica, node, parent, &mut self.out)
             }),
-            (Call::Judge | Call::JudgeOver(_), Side::Library) => callgrind::count(|| {
-                plain::judge(buffer, &mut self.words, &mut self.bytes[..SLOTS]).is_ok()
-            }),
-            (Call::Judge | Call::JudgeOver(_), Side::Rust) => {
-                accepted(|| careful::judge(buffer, &mut self.words, &mut self.bytes[..SLOTS]))
+            (Call::Judge | Call::JudgeOver(_), _) => {
+                callgrind::count(|| judge(buffer, &mut self.words, &mut self.bytes, side))
             }
             (Call::Path, Side::Library) => {
                 callgrind::count(|| plain::path(buffer, self.node, &mut self.words).is_ok())
@@ -372,28 +431,47 @@ impl Work {
                 accepted(|| careful::deliver_holdback(buffer, &self.op, &mut self.holdback))
             }
             (Call::InTurn, _) => callgrind::count(|| in_turn(&self.offered, buffer, side)),
+            (Call::Page(_) | Call::PageUntrue, _) => {
+                callgrind::count(|| self.page.deliver(buffer, &self.op, side))
+            }
+            (Call::Afresh(_), _) => callgrind::count(|| {
+                in_turn(&self.op, buffer, side)
+                    && judge(buffer, &mut self.words, &mut self.bytes, side)
+            }),
+            (Call::PageAdd, _) => callgrind::count(|| {
+                let (replica, parent, out) = (self.replica, self.parent, &mut self.out);
+                self.page.issue_add(buffer, replica, parent, out, side)
+            }),
+            (Call::PageMove, _) => callgrind::count(|| {
+                let (replica, node, parent) = (self.replica, self.node, self.parent);
+                let out = &mut self.out;
+                self.page
+                    .issue_move(buffer, replica, node, parent, out, side)
+            }),
         }
     }
 
-    /// Both sides leave the same behind.
+    /// Both sides leave the same behind, and take back as many ops as are meant.
     pub fn check(&mut self) {
+        let name = self.call.name();
         let mut left = vec![];
         for side in [Side::Library, Side::Rust] {
             self.out.fill(1);
             self.words.fill(1);
             self.bytes.fill(1);
             let accepted = self.once(side);
+            assert_eq!(self.page.taken, self.page.meant, "{name}");
             left.push((
                 accepted,
                 self.buffer.clone(),
                 self.holdback.clone(),
                 self.meeting.buffers.clone(),
+                self.page.tables.clone(),
                 self.out.clone(),
                 self.words.clone(),
                 self.bytes.clone(),
             ));
         }
-        let name = self.call.name();
         assert!(left[0] == left[1], "{name}: the sides differ");
         // No other refusal than the one that is meant.
         if let Call::MoveOver(distance) = self.call {
@@ -419,6 +497,15 @@ fn in_turn(ops: &[u8], buffer: &mut [u8], side: Side) -> bool {
 }
 
 #[inline]
+fn judge(file: &[u8], parents: &mut [u16], outcomes: &mut [u8], side: Side) -> bool {
+    let outcomes = &mut outcomes[..SLOTS];
+    match side {
+        Side::Library => plain::judge(file, parents, outcomes).is_ok(),
+        Side::Rust => careful::judge(file, parents, outcomes) == Answer::Done,
+    }
+}
+
+#[inline]
 fn accepted(call: impl FnOnce() -> Answer) -> bool {
     callgrind::count(|| !matches!(call(), Answer::Refused(_)))
 }
@@ -433,6 +520,10 @@ pub fn all() -> impl Iterator<Item = (Call, Shape, usize)> {
                 (Call::Bundles | Call::OpByOp, _) => shape == Shape::Random && size == 1000,
                 (Call::MoveOver(_) | Call::JudgeOver(_), _) => shape == Shape::Deep && size > 0,
                 _ if call.has_chain() => shape == Shape::Interleaved && size > CHAIN,
+                _ if call.late().is_some_and(|late| size <= late.by()) => false,
+                _ if call.late().is_some() || call.has_page() => {
+                    matches!(shape, Shape::Deep | Shape::Random) && size > 0
+                }
                 (_, Shape::Interleaved) => false,
                 _ => size > 0 || shape == Shape::Flat,
             };
