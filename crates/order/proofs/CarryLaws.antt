@@ -1,5 +1,5 @@
--- A replay is carried from one cut to a greater one along the order of the whole log: what the first counts from some place on is taken back,
--- and what the second counts there is judged.
+-- A replay is carried from one cut to a greater one along the order of the whole log: what the first counts from some place on is taken
+-- back, and what the second counts there is judged.
 use Prim.Native.Nat.{ℕ, _≤_}
 use borrow.Author.Tests.{le-leb, leb-true}
 use lib.ListN.{take, drop, take-append-drop}

@@ -1,5 +1,5 @@
 -- The claims, proved.
-use Rattle.order.specs.Claims.{BoundsFree, Decimals, JudgedClimbs, Listings, NoNewWork, OneFile, Ordered, PartsAlike, TreeClimbs}
+use Rattle.order.specs.Claims.{BoundsFree, Decimals, JudgedClimbs, Listings, NoNewWork, OneFile, Ordered, PartsAlike, PartsOrdered, TakesBack, TreeClimbs}
 use Rattle.order.proofs.LevelLaws.{Cut, equation}
 use Rattle.rules.specs.File.{Log, countsOf, logOf}
 use Rattle.rules.proofs.ExtendLaws.{alike-more, replay-alike}
@@ -20,7 +20,15 @@ use Rattle.order.proofs.TreeTheorem.{below-root}
 use Rattle.order.proofs.RunLaws.{along-at, replay-run}
 use Rattle.lists.proofs.BoolLaws.{never}
 use Rattle.rules.specs.Op.{isMove}
-use Rattle.rules.specs.Replay.{start}
+use Rattle.rules.specs.Replay.{Stamped, orderOf, ordered, start}
+use Rattle.rules.proofs.CausalLaws.{within-le}
+use Rattle.order.specs.Undo.{replayKeeping, stepKeeping, takeBack, unjudged}
+use Rattle.order.proofs.PartLaws.{ordered-part}
+use Rattle.order.proofs.SlotLaws.{slots-distinct, slots-in}
+use Rattle.order.proofs.UndoLaws.{opsOf, take-back-after}
+use lib.ListN.{drop, take, take-append-drop}
+use mathlib.Core.List.{List, _++_, foldl}
+use mathlib.Core.Path.{_≡_, ap, sym, _∙_}
 
 pub one-file : OneFile
 one-file w f bytes s =
@@ -38,6 +46,20 @@ pub parts-alike : PartsAlike
 parts-alike w f more s x cut cv cl =
     let log : Log = logOf w f in
     replay-alike log more (good-ops (structural-good w f s)) cut (alike-more log more x cut cv cl)
+
+pub parts-ordered : PartsOrdered
+parts-ordered w f st part whole c h = ordered-part (logOf w f) (structural-good w f st) part whole c (within-le part whole h)
+
+pub takes-back : TakesBack
+unfolding replayKeeping orderOf
+takes-back w f st cut c e place =
+    let log = logOf w f in
+    let good = structural-good w f st in
+    let is : Cut log cut = record { is-covered = c; is-closed = e } in
+    let xs = ordered log cut in
+    let whole : xs ≡ take place xs ++ drop place xs = sym (take-append-drop place xs) in
+    ap (λ (ys : List Stamped). takeBack (foldl stepKeeping unjudged ys) (opsOf (drop place xs))) whole
+    ∙ take-back-after (take place xs) (drop place xs) (rw (← whole) (slots-in log good cut is)) (rw (← whole) (slots-distinct log good cut is))
 
 pub bounds-free : BoundsFree
 bounds-free w f s =

@@ -100,7 +100,9 @@ module _ (log : Log) (good : GoodLog log) (cut : Vector) (is : Cut log cut) wher
       let f = few s l u in
       ne-eqb i (outcomeSlot (getD (opsOf log s) k [])) (λ z. ne (omega (arith, b .0))) in
       elim (decLe (countIn cut s) j) [
-        | yes out ↦ rw (only, filter-none p (stamp log) [] (countIn cut s) (opsOf log s) (λ k h d. off k h (λ z. omega arith))) (omega arith)
+        | yes out ↦
+            rw (only, filter-none p (stamp log) [] (countIn cut s) (opsOf log s) (λ k h d. off k h (λ z. omega arith)))
+            (omega arith)
         | no ins ↦ rw (
           only,
           filter-one p (stamp log) [] (countIn cut s) j (opsOf log s) (omega arith)

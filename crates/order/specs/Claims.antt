@@ -3,12 +3,12 @@ use Prim.Native.Nat.{ℕ, _+_, _*_, _-_, _≤_, _<_}
 use mathlib.Core.Path.{_≡_}
 use mathlib.Core.Bool.{Bool, true, false, cond}
 use mathlib.Core.List.{List, [], _∷_, _++_, map, foldl}
-use lib.ListN.{length, take, getD}
+use lib.ListN.{drop, length, take, getD}
 use lib.Dec.{eqb}
 use Rattle.lists.specs.Lists.{greatest, filter, isIn}
 use Rattle.rules.specs.Bytes.{byte}
-use Rattle.rules.specs.Op.{Op, Vector, replicas, countIn, nodeOf, parentOf, vectorOf, isMove, isRemove}
-use Rattle.rules.specs.File.{Log, opAt, countsOf, Extends, fileEnd, logOf, fileOf}
+use Rattle.rules.specs.Op.{Op, Vector, replicas, countIn, counted, nodeOf, parentOf, vectorOf, isMove, isRemove}
+use Rattle.rules.specs.File.{Log, opAt, countsOf, Extends, fileEnd, logOf, fileOf, within}
 use Rattle.rules.specs.Log.{covered, closed, knownParent, structural}
 use Rattle.rules.specs.Tree.{slots, climb, path, depth}
 use Rattle.rules.specs.ClimbClaim.{ClimbSays}
@@ -17,6 +17,7 @@ use Rattle.rules.specs.Answer.{accepted}
 use Rattle.rules.specs.Issue.{Request, issued, issueAnswer}
 use Rattle.rules.specs.Replay.{opsWithin, timestamp, Stamped, stamped, ordered, start, step, replay, parentsOf}
 use Rattle.rules.specs.Views.{View}
+use Rattle.order.specs.Undo.{replayKeeping, stepKeeping, takeBack, unjudged}
 use Rattle.rules.specs.Listing.{preorder, digits, decimal, lineOf, line, listingOf}
 
 -- a file of bytes is, to its end, the file of its log: a log has one file
@@ -45,6 +46,22 @@ abbrev pub PartsAlike : Type 0
 PartsAlike =
     (w : ℕ) (f : List ℕ) (more : Log) → structural w f ≡ true → Extends (logOf w f) more
     → (cut : Vector) → covered (logOf w f) cut ≡ true → closed (logOf w f) cut ≡ true → replay more cut ≡ replay (logOf w f) cut
+
+-- taking back is exact: from whatever place on the ops of a cut are taken back, every entry of every table is as it was when those before
+-- that place were judged
+abbrev pub TakesBack : Type 0
+TakesBack =
+    (w : ℕ) (f : List ℕ) → structural w f ≡ true
+    → (cut : Vector) → covered (logOf w f) cut ≡ true → closed (logOf w f) cut ≡ true
+    → (place : ℕ) → let xs = ordered (logOf w f) cut in
+    takeBack (replayKeeping (logOf w f) cut) (map (λ (x : Stamped). x .op) (drop place xs)) ≡ foldl stepKeeping unjudged (take place xs)
+
+-- the order of a part is the order of the whole without what the part does not count
+abbrev pub PartsOrdered : Type 0
+PartsOrdered =
+    (w : ℕ) (f : List ℕ) → structural w f ≡ true
+    → (part whole : Vector) → covered (logOf w f) whole ≡ true → within part whole ≡ true
+    → ordered (logOf w f) part ≡ filter (λ (x : Stamped). counted part (x .op)) (ordered (logOf w f) whole)
 
 ---- bounds in definitions do not matter
 

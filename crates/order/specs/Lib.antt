@@ -1,4 +1,4 @@
 pub mod Levels
 pub mod Placing
-pub mod Claims
 pub mod Undo
+pub mod Claims

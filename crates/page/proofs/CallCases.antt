@@ -130,7 +130,8 @@ module _ (f op ls lp lo : List ℕ) where
   unfolding deliverPageAnswer withPage takenWith pageWith require
   deliver-short s e a t ea et = rw (s, e, ea, et)
 
-  module _ (x : Ready f ls lp lo) (a : Answer) (f′ : List ℕ) (is : _≡_ {A = Result} (record { answer = a; buffer = f′ }) (deliver width f op)) where
+  module _ (x : Ready f ls lp lo) (a : Answer) (f′ : List ℕ)
+      (is : _≡_ {A = Result} (record { answer = a; buffer = f′ }) (deliver width f op)) where
     plain : a ≡ deliverAnswer width f op
     plain = ap (λ (y : Result). y .answer) is
 

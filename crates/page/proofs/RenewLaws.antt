@@ -252,8 +252,10 @@ module _ (f : List ℕ) (old all : Vector) (s times : List ℕ) (n : ℕ) (ls lp
       unfolding orderOf
       back-count =
           let zs : List Stamped = ordered log (countsOf log) in
-          let back : filter (inCut old) (drop i xs) ≡ drop (suc i) xs = rw counts-all at (counted-back log good old old-cut one i first-new) in
-          rw (ops-are width f s times i n all schedules (first .inside) old, back, length-map, length-drop, length-drop, length-map, counts-all)
+          let back : filter (inCut old) (drop i xs) ≡ drop (suc i) xs =
+          rw counts-all at (counted-back log good old old-cut one i first-new) in
+          let along = ops-are width f s times i n all schedules (first .inside) old in
+          rw (along, back, length-map, length-drop, length-drop, length-map, counts-all)
 
       module _ (shown : Bool) (so : shown ≡ shows (page ls lp lo) (page (without i s) p o)) where
         pub took-back : shown ≡ true → (r : ℕ) → r ≡ length (opsAlong log old s i n) → Took log old (page ls lp lo) r

@@ -127,7 +127,8 @@ module _ (log : Log) (good : GoodLog log) (r : Op) (h : Admits log r) where
   pub own-count : countIn (countsOf more) (replicaOf r) ≡ suc (countIn old (replicaOf r))
   own-count =
       let b = in-range log r good h in
-      rw (count-held more (replicaOf r), count-held log (replicaOf r), ops-same log r (good .eight) (b .0) (b .1), length-append) (omega arith)
+      let more-ops = ops-same log r (good .eight) (b .0) (b .1) in
+      rw (count-held more (replicaOf r), count-held log (replicaOf r), more-ops, length-append) (omega arith)
 
   pub other-count : (s : ℕ) → 1 ≤ s → (s ≡ replicaOf r → ⊥) → countIn (countsOf more) s ≡ countIn old s
   other-count s l ne =

@@ -68,7 +68,8 @@ module _ (log : Log) (good : GoodLog log) (r : Op) (h : Admits log r) where
         | yes e ↦
             let number : q ≡ seqOf r =
             omega (arith, next log good r h, own-count log good r h, ap (countIn old) e, ap (countIn (countsOf more)) e) in
-            rw (e, number, new-in log r (good .eight) (in-range log r good h .0) (in-range log r good h .1) (own-next log r good h) .there) whole
+            let b = in-range log r good h in
+            rw (e, number, new-in log r (good .eight) (b .0) (b .1) (own-next log r good h) .there) whole
         | no ne ↦ absurd (omega (arith, other-count log good r h s l ne))
       ];
     }
@@ -99,7 +100,8 @@ module _ (log : Log) (good : GoodLog log) (r : Op) (h : Admits log r) where
           | yes l ↦ l
           | no nl ↦
               let same : getD xs i noOp ≡ getD ys i noOp =
-              ap (λ (zs : List Stamped). getD zs i noOp) (ordered-late log more late good goods) ∙ List·getD-append ys _ noOp i (omega arith) in
+              ap (λ (zs : List Stamped). getD zs i noOp) (ordered-late log more late good goods)
+              ∙ List·getD-append ys _ noOp i (omega arith) in
               let c = each-at (λ x. inCut old x ≡ true) ys noOp i counted-old (omega arith) in
               never (sym (at .here (omega arith)) ∙ ap (inCut old) same ∙ c)
         ] in

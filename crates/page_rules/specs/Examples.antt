@@ -1,5 +1,5 @@
--- Calls with a page worked out on P1, P11 and rival moves, as rows of one table that one theorem covers: ops that arrive late, pages that are
--- not true, and calls that leave the page.
+-- Calls with a page worked out on P1, P11 and rival moves, as rows of one table that one theorem covers: ops that arrive late, pages
+-- that are not true, and calls that leave the page.
 use Prim.Native.Nat.{ℕ}
 use lib.ListN.{drop, getD, replicate, set}
 use mathlib.Core.List.{List, [], _∷_, _++_}

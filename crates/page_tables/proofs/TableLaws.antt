@@ -101,7 +101,8 @@ module _ (xs : List ℕ) (i j : ℕ) (x : Entry xs i j) where
     entry-next u =
         let e : suc i + (j - i) ≡ j + 1 = omega arith in
         let b : j - i < length (drop (suc i) xs) = omega (arith, length-drop (suc i) xs, x .whole) in
-        sym (past ∙ List·getD-append (drop (suc i) xs) (0 ∷ []) 0 (j - i) b ∙ getD-drop (suc i) xs (j - i) 0 ∙ ap (λ (k : ℕ). getD xs k 0) e)
+        sym (past ∙ List·getD-append (drop (suc i) xs) (0 ∷ []) 0 (j - i) b ∙ getD-drop (suc i) xs (j - i) 0
+        ∙ ap (λ (k : ℕ). getD xs k 0) e)
 
     pub entry-next-fits : j < mostOps - 1 → j + 1 < length xs
     entry-next-fits u = omega (arith, x .whole)

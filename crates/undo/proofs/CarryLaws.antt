@@ -112,7 +112,8 @@ module _ (w : ℕ) (f : List ℕ) (before after : Vector) (order times : List �
       let n : Named w f (getD order i 0) = record { is-structural = st; in-slot = x .walk .walk .in-slots i (omega (arith, x .ends)) } in
       counted-slot w f (getD order i 0) n before ∙ x .agrees i (omega arith) (sym (counted-slot w f (getD order i 0) n after) ∙ e))))
 
-  module _ (p′ o′ l′ t′ b′ : List ℕ) (back : undoable p′ o′ l′ t′ b′ ≡ takeBack (undoable p o l t b) (opsAlong log before order from to)) where
+  module _ (p′ o′ l′ t′ b′ : List ℕ)
+      (back : undoable p′ o′ l′ t′ b′ ≡ takeBack (undoable p o l t b) (opsAlong log before order from to)) where
     pub judge-asks : TimedWalk w f order times to p′ o′ l′ t′ b′
     judge-asks = record {
       walk = record {

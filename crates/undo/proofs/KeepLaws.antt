@@ -109,7 +109,8 @@ module _ (w : ℕ) (f : List ℕ) (i : ℕ) (p o l t b : List ℕ) (x : Keepable
           was = set b i (getD l (slotOf (nodeOf it)) 0);
         }) e)
 
-    pub op-undone : undoable (set p n (getD t i 0)) (set o i 0) (set l n (getD b i 0)) (set t i 0) (set b i 0) ≡ undo (undoable p o l t b) it
+    pub op-undone : undoable (set p n (getD t i 0)) (set o i 0) (set l n (getD b i 0)) (set t i 0) (set b i 0)
+        ≡ undo (undoable p o l t b) it
     unfolding undo
     op-undone = rw (is .0, own)
 

@@ -1,12 +1,12 @@
 use crate::pages;
+use crate::print::answered;
 use crate::print::memory;
 use crate::print::memory_front;
 use crate::print::number;
 use crate::print::numbers;
+use crate::print::refused;
 use crate::print::text;
 use codec::Answer;
-use codec::Refusal;
-use codec::number_of;
 use codec::widen;
 use codec::widen16;
 use codec::word_at;
@@ -18,26 +18,6 @@ use view::View;
 ghost use mathlib.Core.Path.{_≡_};
 ghost use lib.ListN.{length};
 ghost use Rattle.rules.specs.Tree.{slots};
-
-fn refused(why: Refusal) {
-    text(b"r ");
-    number(number_of(why));
-}
-
-fn accepted(n: usize) {
-    text(b"a ");
-    number(n);
-}
-
-pub fn answered(answer: Answer) {
-    match answer {
-        Answer::Refused(why) => refused(why),
-        Answer::HadIt => text(b"h"),
-        Answer::Waiting => text(b"w"),
-        Answer::Done => text(b"d"),
-        Answer::Accepted(n) => accepted(n),
-    }
-}
 
 fn make(buf: &mut [u8]) {
     answered(replica::make(buf));

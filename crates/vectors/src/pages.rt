@@ -1,4 +1,4 @@
-use crate::calls::answered;
+use crate::print::answered;
 use crate::print::memory;
 use crate::print::number;
 use crate::print::numbers;

@@ -1,3 +1,6 @@
+use codec::Answer;
+use codec::Refusal;
+use codec::number_of;
 ghost use Prim.Native.Nat.{_<_};
 
 pub fn text(s: &[u8]) {
@@ -6,6 +9,26 @@ pub fn text(s: &[u8]) {
 
 pub fn number(n: usize) {
     io::print_decimal(1, n as u64);
+}
+
+pub fn refused(why: Refusal) {
+    text(b"r ");
+    number(number_of(why));
+}
+
+fn accepted(n: usize) {
+    text(b"a ");
+    number(n);
+}
+
+pub fn answered(answer: Answer) {
+    match answer {
+        Answer::Refused(why) => refused(why),
+        Answer::HadIt => text(b"h"),
+        Answer::Waiting => text(b"w"),
+        Answer::Done => text(b"d"),
+        Answer::Accepted(n) => accepted(n),
+    }
 }
 
 fn digit(n: u8) -> u8 {

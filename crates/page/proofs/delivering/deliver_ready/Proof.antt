@@ -22,7 +22,8 @@ returns-2 c =
     let test = passed page in
     let call = delivered test in
     deliver-renewed _ _ _ _ _ (start call .pre) _ _ (call .deliver-next .ensures)
-    (so-by-not (test .before .is-accepted .ensures) (test .if1 .left)) _ (call .before .before .counts-of .ensures) _ (page .renew .ensures .0) _ (page .renew .ensures .1)
+    (so-by-not (test .before .is-accepted .ensures) (test .if1 .left)) _ (call .before .before .counts-of .ensures) _
+    (page .renew .ensures .0) _ (page .renew .ensures .1)
 
 pub deliver-ready-spec : {M : Type 1} → statement M
 deliver-ready-spec =

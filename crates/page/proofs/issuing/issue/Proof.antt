@@ -7,7 +7,8 @@ use Rattle.page.proofs.issuing.issue.Tie as tie
 abbrev issued : tie.After-slice-known10 → tie.After-issue-ready
 issued c =
     let parents = c .before .before .before in
-    let out = parents .before .before .before .before in
+    let order = parents .before .before in
+    let out = order .before .before in
     out .before .before .before
 
 returns-3 : tie.Need-returns-3
@@ -16,7 +17,8 @@ returns-3 c = issued c .issue-ready .ensures
 returns-2 : tie.Need-returns-2
 returns-2 c =
     let long = c .before .before in
-    let sound = long .before .before .before .before in
+    let asked = long .before .before .before in
+    let sound = asked .before in
     issue-short _ _ _ _ _ _ _ (so-by-not (sound .before .is-sound .ensures) (sound .if1 .left))
     (not-so-by-not (long .long-enough .ensures) (c .before .if2 .taken)) _ _ (c .refused2 .ensures .number) (c .refused2 .ensures .none)
 
@@ -25,8 +27,10 @@ issue-ready-requires c κs =
     let lent = c .before .before .before in
     let passed = lent .before .before in
     let long = passed .before in
-    let sound = long .before .before .before .before in
-    ready _ _ _ _ (so-by-not (sound .before .is-sound .ensures) (sound .if1 .left)) (so-by-not (long .long-enough .ensures) (passed .if2 .left))
+    let asked = long .before .before .before in
+    let sound = asked .before in
+    ready _ _ _ _ (so-by-not (sound .before .is-sound .ensures) (sound .if1 .left))
+    (so-by-not (long .long-enough .ensures) (passed .if2 .left))
 
 pub issue-spec : {M : Type 1} → statement M
 issue-spec =

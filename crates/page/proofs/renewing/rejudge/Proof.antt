@@ -7,7 +7,11 @@ use Rattle.page.proofs.renewing.rejudge.Tie as tie
 
 -- the places in the code where facts are learnt
 abbrev start : tie.After-was → tie.Start
-start c = let arrays = c .before .before .before in let lent = arrays .before .before .before in lent .before .before .before .before .before
+start c =
+    let arrays = c .before .before .before in
+    let lent = arrays .before .before .before in
+    let known = lent .before .before .before in
+    known .before .before
 
 abbrev judged : tie.After-was2 → tie.After-judge-along
 judged c = let arrays = c .before .before .before in arrays .before .before
@@ -19,7 +23,11 @@ abbrev seen : tie.After-was3 → tie.After-shows
 seen c = let arrays = c .before .before .before in arrays .before .before
 
 abbrev brought : tie.After-results6 → tie.After-carry
-brought c = let lent = c .before .before .before in let arrays = lent .before .before .before in arrays .before .before .before .before
+brought c =
+    let lent = c .before .before .before in
+    let arrays = lent .before .before .before in
+    let results = arrays .before .before in
+    results .before .before
 
 abbrev stored : tie.After-slice-known6 → tie.After-fill
 stored c = let parents = c .before .before .before in parents .before .before .before

@@ -16,10 +16,12 @@ abbrev μ-loop : tie.MeasureT-loop
 loop-again : tie.Need-loop-again Inv-loop μ-loop
 loop-again c =
     let took = c .before .before .before in
-    let outcomes = took .before .before .before .before in
+    let placed = took .before .before in
+    let outcomes = placed .before .before in
     let judged = outcomes .before .before .before in
     let lent = judged .before .before .before in
-    let read = lent .before .before .before .before in
+    let first = lent .before .before in
+    let read = first .before .before in
     let turn = read .before .before in
     ahead-on _ _ _ _ _ _ _ _ _ _ _ _ _ (turn .before .loop .inv) (turn .loop-test .taken) _ (read .widen16 .ensures) _ _ _ _ _
     (judged .keep-counted .ensures)

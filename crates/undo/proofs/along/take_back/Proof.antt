@@ -17,7 +17,8 @@ abbrev μ-loop : tie.MeasureT-loop
 loop-again : tie.Need-loop-again Inv-loop μ-loop
 loop-again c =
     let took = c .before .before .before in
-    let outcomes = took .before .before .before .before in
+    let placed = took .before .before in
+    let outcomes = placed .before .before in
     let undone = outcomes .before .before .before in
     let lent = undone .before .before .before in
     let read = lent .before .before .before in
@@ -28,7 +29,8 @@ loop-again c =
 add-taken : tie.Need-add-taken Inv-loop μ-loop
 add-taken c =
     let took = c .before .before .before in
-    let outcomes = took .before .before .before .before in
+    let placed = took .before .before in
+    let outcomes = placed .before .before in
     let undone = outcomes .before .before .before in
     let lent = undone .before .before .before in
     let read = lent .before .before .before in
