@@ -2,9 +2,9 @@
 use Prim.Native.Nat.{ℕ, _≤_}
 use lib.ListN.{length}
 use mathlib.Core.List.{List}
-use mathlib.Core.Path.{_≡_, refl, transport, ap}
+use mathlib.Core.Path.{_≡_, refl}
 use native.Mathlib.Omega.{arith}
-use Rattle.outline_c.specs.Fits.{fits}
+use Rattle.numbers.specs.Fits.{fits}
 use Rattle.rules.specs.Views.{View}
 use Rattle.rules.specs.Listing.{listingAnswer, listingOf, listing, listingSize}
 use Rattle.rules.specs.Measure.{countsAnswer, countsCall, endAnswer}
@@ -122,8 +122,3 @@ holdback-fits f r h =
     (λ m e.
     let x = accepted-says width f r h m e in
     omega (arith, x .end, sound-end width (released width f r h .buffer) (released-sound width f r h (x .is-sound))))
-
--- an answer that fits and accepts a value
-pub value-fits : (a : Answer) (n : ℕ) → a ≡ accepted n → fits a → n ≤ 9223372036854775807
-unfolding fits
-value-fits a n e h = transport (ap fits e) h

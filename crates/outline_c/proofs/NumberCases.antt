@@ -1,12 +1,9 @@
 -- The cases of numbers handed over, as the code meets them.
-use Prim.Native.Nat.{ℕ, _+_, _≤_}
+use Prim.Native.Nat.{ℕ, _≤_}
 use borrow.Author.Needs.{needs}
 use lib.ListN.{length}
 use mathlib.Core.List.{List}
 use mathlib.Core.Path.{_≡_, ap}
-use Rattle.codec.specs.Answers.{answerOf, numberOf}
-use Rattle.codec.specs.declared.answer.Answer.the-variants.{Refused, HadIt, Waiting, Done, Accepted}
-use Rattle.codec.specs.declared.answer.Refusal.{Refusal}
 use Rattle.rules.specs.Answer.{Answer}
 use Rattle.rules.specs.Bundle.{bundleCall, openBundle}
 use Rattle.rules.specs.Deliver.{Result, make, deliver}
@@ -19,38 +16,11 @@ use Rattle.rules.specs.File.{width}
 use Rattle.rules.specs.Measure.{countsCall, endAnswer}
 use Rattle.rules.specs.Path.{Written, pathCall}
 use Rattle.rules.specs.Views.{View}
-use Rattle.outline_c.specs.Number.{number, ofResult, ofHoldback, ofIssued, ofJudgement, ofWritten}
-use Rattle.outline_c.specs.Fits.{fits}
+use Rattle.numbers.specs.Number.{number}
+use Rattle.outline_c.specs.Number.{ofResult, ofHoldback, ofIssued, ofJudgement, ofWritten}
+use Rattle.numbers.specs.Fits.{fits}
 use Rattle.outline_c.proofs.FitLaws.{make-fits, deliver-fits, issue-fits, judge-fits, path-fits, listing-fits}
-use Rattle.outline_c.proofs.FitLaws.{holdback-fits, size-fits, end-fits, counts-fits, bundle-fits, open-fits, value-fits}
-use Rattle.codec.specs.declared.answer.Answer as code
-
----- the number of an answer
-
-module _ (a : code.Answer) where
-  pub refused-number : (why : Refusal) → a ≡ Refused why → (n : ℕ) → n ≡ numberOf why → n ≡ number (answerOf a)
-  unfolding number
-  refused-number why e n h = rw e h
-
-  pub had-it-number : a ≡ HadIt → 128 ≡ number (answerOf a)
-  unfolding number
-  had-it-number e = rw e
-
-  pub waiting-number : a ≡ Waiting → 130 ≡ number (answerOf a)
-  unfolding number
-  waiting-number e = rw e
-
-  pub done-number : a ≡ Done → 129 ≡ number (answerOf a)
-  unfolding number
-  done-number e = rw e
-
-  module _ (n : ℕ) (e : a ≡ Accepted n) where
-    pub accepted-number : 256 + n ≡ number (answerOf a)
-    unfolding number
-    accepted-number = rw e
-
-    pub accepted-fits : fits (answerOf a) → n ≤ 9223372036854775807
-    accepted-fits h = value-fits (answerOf a) n (ap answerOf e) h
+use Rattle.outline_c.proofs.FitLaws.{holdback-fits, size-fits, end-fits, counts-fits, bundle-fits, open-fits}
 
 ---- what a call hands over; a is its answer and n the number of it
 
@@ -132,12 +102,10 @@ module _ (a : Answer) where
   held-fits f op h b k e = rw (ap (λ (x : HoldbackResult). x .answer) e) (holdback-fits f op h)
 
 ---- what the code of numbers needs: search numbering
-pub ruleset answers = (refused-number, had-it-number, waiting-number, done-number, accepted-number, accepted-fits)
-
 pub ruleset handing = (result-over, holdback-over, issued-over, judgement-over, written-over, listing-over, answer-over, size-over)
 
 pub ruleset delivering = (made-fits, delivered-fits, held-fits, issued-fits)
 
 pub ruleset fitting = (delivering, judged-fits, path-written, listing-written, sized-fits, counted-fits)
 
-pub ruleset numbering = (needs, answers, handing, fitting)
+pub ruleset numbering = (needs, handing, fitting)

@@ -1,5 +1,5 @@
 -- The numbers of calls with a page, as the code meets them.
-use Prim.Native.Nat.{ℕ, _+_, _*_, _≤_, _<_}
+use Prim.Native.Nat.{ℕ, _≤_, _<_}
 use borrow.Author.Needs.{needs}
 use mathlib.Core.List.{List}
 use mathlib.Core.Path.{_≡_, refl, ap, sym, _∙_}
@@ -8,15 +8,16 @@ use Rattle.codec.specs.Answers.{answerOf, numberOf}
 use Rattle.codec.specs.declared.answer.Answer.the-variants.{Refused, HadIt, Waiting, Done, Accepted}
 use Rattle.codec.specs.declared.answer.Refusal.{Refusal}
 use Rattle.codec.specs.declared.answer.Refusal.the-variants.{Unsound, Length, Malformed, Conflict, Early, NotClosed, Unknown, NoRoom, Exhausted, Cycle, Marked, BadBundle, HoldbackFull, BadHoldback}
-use Rattle.rules.specs.Answer.{Answer, accepted, refused, hadIt, waiting, done}
+use Rattle.rules.specs.Answer.{Answer, accepted}
 use Rattle.rules.specs.File.{largest, width}
 use Rattle.rules.specs.Issue.{Request}
 use Rattle.page_rules.specs.Page.{Page, PageIssued, PageResult, deliverPage, issuePage}
 use Rattle.page_rules.proofs.FewLaws.{deliver-end, deliver-few, issue-end, issue-few}
 use Rattle.page.specs.Answers.{issuedOf, resultOf}
 use Rattle.page.specs.declared.answer.Paged.{Paged}
-use Rattle.outline_c.specs.Fits.{PageFits, fits}
-use Rattle.outline_c.specs.Number.{number, ofPage, ofPageIssued, pageNumber}
+use Rattle.numbers.specs.Fits.{PageFits}
+use Rattle.numbers.specs.Number.{number, pageNumber}
+use Rattle.outline_c.specs.Number.{ofPage, ofPageIssued}
 use Rattle.codec.specs.declared.answer.Answer as code
 
 ---- both parts are small
@@ -61,22 +62,6 @@ module _ (r : Paged) (f : List ℕ) (lent after : Page) (b : List ℕ) where
 
 ---- what is handed over
 
-module _ (a : Answer) (t : ℕ) (x : PageFits a t) where
-  pub answer-fits : fits a
-  unfolding fits number
-  answer-fits = go a (x .low)
-    where
-      go : (a : Answer) → number a < 65536 → fits a
-      go (refused n) h = tt
-      go hadIt h = tt
-      go waiting h = tt
-      go done h = tt
-      go (accepted n) h = omega arith
-
-  pub page-sum : (n : ℕ) → n ≡ number a → n + 65536 * t ≡ pageNumber a t
-  unfolding pageNumber
-  page-sum n is = rw is
-
 module _ (r : Paged) (n : ℕ) (is : n ≡ pageNumber (answerOf (r .answer)) (r .taken)) where
   pub page-over : (b : List ℕ) (p : Page) (x : PageResult) → resultOf r b p ≡ x → (n, b, p) ≡ ofPage x
   page-over b p x e = rw is (ap ofPage e)
@@ -86,4 +71,4 @@ module _ (r : Paged) (n : ℕ) (is : n ≡ pageNumber (answerOf (r .answer)) (r 
 
 ---- what the code of pages needs: search paging
 
-pub ruleset paging = (needs, delivered-pages, issued-pages, answer-fits, page-sum, page-over, page-issued-over)
+pub ruleset paging = (needs, delivered-pages, issued-pages, page-over, page-issued-over)

@@ -1,6 +1,6 @@
-use crate::answer::number;
 use bundle::make;
 use bundle::open;
+use numbers::number;
 ghost use mathlib.Core.Path.{_≡_};
 ghost use Rattle.rules.specs.Bundle.{bundleCall, openBundle};
 ghost use Rattle.rules.specs.File.{width};

@@ -1,4 +1,4 @@
-use crate::answer::number;
+use numbers::number;
 use replica::deliver;
 use replica::issue_add;
 use replica::issue_move;
@@ -20,7 +20,7 @@ ghost use Rattle.rules.specs.Path.{pathCall};
 ghost use Rattle.rules.specs.Sound.{sound};
 ghost use Rattle.view.specs.Answers.{viewOf};
 ghost use Rattle.outline_c.specs.Number.{version, viewFor, ofResult, ofIssued, ofJudgement, ofWritten};
-ghost use Rattle.outline_c.specs.Number as specs;
+ghost use Rattle.numbers.specs.Number as specs;
 ghost use Rattle.rules.specs.Deliver as delivering;
 ghost use Rattle.rules.specs.Issue as issuing;
 ghost use Rattle.rules.specs.Judge as judging;

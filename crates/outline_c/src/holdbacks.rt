@@ -1,5 +1,5 @@
-use crate::answer::number;
 use holdback::deliver;
+use numbers::number;
 ghost use mathlib.Core.Path.{_≡_};
 ghost use Rattle.rules.specs.File.{width};
 ghost use Rattle.rules.specs.Holdback.{deliverHoldback};

@@ -1,6 +1,5 @@
 // The calls of the library for programs in other languages: each answers one number, and lent
 // memory is a pointer and a length. include/outline.h declares them for C.
-mod answer;
 mod bundles;
 mod calls;
 mod holdbacks;

@@ -1,4 +1,4 @@
-use crate::answer::number;
+use numbers::page_number;
 use page::Paged;
 use page::deliver;
 use page::issue_add;
@@ -9,17 +9,17 @@ ghost use Rattle.rules.specs.File.{width};
 ghost use Rattle.rules.specs.Issue.{add, remove, move};
 ghost use Rattle.codec.specs.Answers.{answerOf};
 ghost use Rattle.page_rules.specs.Page.{deliverPage, issuePage, page};
-ghost use Rattle.outline_c.specs.Fits.{PageFits};
-ghost use Rattle.outline_c.specs.Number.{ofPage, ofPageIssued, pageNumber};
+ghost use Rattle.numbers.specs.Fits.{PageFits};
+ghost use Rattle.numbers.specs.Number.{pageNumber};
+ghost use Rattle.outline_c.specs.Number.{ofPage, ofPageIssued};
 
-// One number for an answer and how many ops were taken back.
-fn page_number(paged: Paged) -> usize
+// One number for what a call with a page hands back.
+fn number_of(paged: Paged) -> usize
     requires { ⌜ PageFits (answerOf (paged .answer)) (paged .taken) ⌝ }
     ensures { λ r. ⌜ r ≡ pageNumber (answerOf (paged .answer)) (paged .taken) ⌝ }
 {
     let answer = paged.answer;
-    let taken = paged.taken;
-    number(answer) + 65536 * taken
+    page_number(answer, paged.taken)
 }
 
 // Delivers an op to the log in a buffer, with its page in three tables.
@@ -35,7 +35,7 @@ pub extern "C" fn outline_page_deliver(
         ≡ ofPage (deliverPage width (now (buf .entry)) (now (op .entry))
         (page (now (order .entry)) (now (parents .entry)) (now (outcomes .entry)))) ⌝ }
 {
-    page_number(deliver(buf, op, order, parents, outcomes))
+    number_of(deliver(buf, op, order, parents, outcomes))
 }
 
 // Issues an add of a new node under a parent, with the log's page in three tables.
@@ -53,7 +53,7 @@ pub extern "C" fn outline_page_issue_add(
         ≡ ofPageIssued (issuePage width (now (buf .entry)) (now (out .entry)) replica (add parent)
         (page (now (order .entry)) (now (parents .entry)) (now (outcomes .entry)))) ⌝ }
 {
-    page_number(issue_add(buf, replica, parent, out, order, parents, outcomes))
+    number_of(issue_add(buf, replica, parent, out, order, parents, outcomes))
 }
 
 // Issues a remove of a node, with the log's page in three tables.
@@ -71,7 +71,7 @@ pub extern "C" fn outline_page_issue_remove(
         ≡ ofPageIssued (issuePage width (now (buf .entry)) (now (out .entry)) replica (remove node)
         (page (now (order .entry)) (now (parents .entry)) (now (outcomes .entry)))) ⌝ }
 {
-    page_number(issue_remove(buf, replica, node, out, order, parents, outcomes))
+    number_of(issue_remove(buf, replica, node, out, order, parents, outcomes))
 }
 
 // Issues a move of a node under a new parent, with the log's page in three tables.
@@ -90,5 +90,5 @@ pub extern "C" fn outline_page_issue_move(
         ≡ ofPageIssued (issuePage width (now (buf .entry)) (now (out .entry)) replica (move node parent)
         (page (now (order .entry)) (now (parents .entry)) (now (outcomes .entry)))) ⌝ }
 {
-    page_number(issue_move(buf, replica, node, parent, out, order, parents, outcomes))
+    number_of(issue_move(buf, replica, node, parent, out, order, parents, outcomes))
 }

@@ -104,65 +104,7 @@ fn deliver(
     tables(order, parents, outcomes);
 }
 
-fn issue_add(
-    buf: &mut [u8],
-    line: &[u8],
-    out: &mut [u8],
-    order: &mut [u16],
-    parents: &mut [u16],
-    outcomes: &mut [u8],
-) {
-    if line.len() < 4 {
-        return;
-    }
-    issued(
-        page::issue_add(
-            buf,
-            line[1],
-            word_at(line, 2),
-            out,
-            order,
-            parents,
-            outcomes,
-        ),
-        buf,
-        out,
-        order,
-        parents,
-        outcomes,
-    );
-}
-
-fn issue_remove(
-    buf: &mut [u8],
-    line: &[u8],
-    out: &mut [u8],
-    order: &mut [u16],
-    parents: &mut [u16],
-    outcomes: &mut [u8],
-) {
-    if line.len() < 4 {
-        return;
-    }
-    issued(
-        page::issue_remove(
-            buf,
-            line[1],
-            word_at(line, 2),
-            out,
-            order,
-            parents,
-            outcomes,
-        ),
-        buf,
-        out,
-        order,
-        parents,
-        outcomes,
-    );
-}
-
-fn issue_move(
+fn issue_into(
     buf: &mut [u8],
     line: &[u8],
     out: &mut [u8],
@@ -173,40 +115,51 @@ fn issue_move(
     if line.len() < 6 {
         return;
     }
-    issued(
-        page::issue_move(
-            buf,
-            line[1],
-            word_at(line, 2),
-            word_at(line, 4),
-            out,
-            order,
-            parents,
-            outcomes,
-        ),
-        buf,
-        out,
-        order,
-        parents,
-        outcomes,
-    );
-}
-
-fn issue_into(
-    buf: &mut [u8],
-    line: &[u8],
-    out: &mut [u8],
-    order: &mut [u16],
-    parents: &mut [u16],
-    outcomes: &mut [u8],
-) {
-    if line.len() == 0 {
-        return;
-    }
+    let replica = line[1];
+    let first = word_at(line, 2);
     match line[0] {
-        16 => issue_add(buf, line, out, order, parents, outcomes),
-        17 => issue_remove(buf, line, out, order, parents, outcomes),
-        0..=15 | 18..=255 => issue_move(buf, line, out, order, parents, outcomes),
+        16 => {
+            issued(
+                page::issue_add(buf, replica, first, out, order, parents, outcomes),
+                buf,
+                out,
+                order,
+                parents,
+                outcomes,
+            );
+            return;
+        }
+        17 => {
+            issued(
+                page::issue_remove(buf, replica, first, out, order, parents, outcomes),
+                buf,
+                out,
+                order,
+                parents,
+                outcomes,
+            );
+            return;
+        }
+        0..=15 | 18..=255 => {
+            issued(
+                page::issue_move(
+                    buf,
+                    replica,
+                    first,
+                    word_at(line, 4),
+                    out,
+                    order,
+                    parents,
+                    outcomes,
+                ),
+                buf,
+                out,
+                order,
+                parents,
+                outcomes,
+            );
+            return;
+        }
     }
 }
 

@@ -1,7 +1,7 @@
 -- What the numbers ask of a value.
 use Rattle.rules.specs.Answer.{Answer, accepted, waiting, done, hadIt, refused}
 use Rattle.rules.specs.Tree.{mostOps}
-use Rattle.outline_c.specs.Number.{number}
+use Rattle.numbers.specs.Number.{number}
 use Prim.Native.Nat.{ℕ, _≤_, _<_}
 
 -- the value leaves room for the 256 above it
