@@ -11,14 +11,13 @@ use Rattle.lists.specs.Lists.{filter}
 use Rattle.lists.proofs.BoolLaws.{both-ways}
 use Rattle.lists.proofs.EachLaws.{Each, each-both, each-left, each-map}
 use Rattle.lists.proofs.FilterLaws.{filter-alike, filter-append}
-use Rattle.rules.specs.File.{Log, opAt}
+use Rattle.rules.specs.File.{Log, countsOf, opAt}
 use Rattle.rules.specs.Log.{covered}
 use Rattle.rules.specs.Op.{Vector, countIn, seqOf}
 use Rattle.rules.specs.Replay.{Stamped, orderOf, ordered, stamp}
-use Rattle.rules.proofs.CausalLaws.{Le}
+use Rattle.rules.proofs.CausalLaws.{Le, le-within}
 use Rattle.rules.proofs.StructureLaws.{GoodLog, good-ops, held-in}
 use Rattle.order.specs.Undo.{replayKeeping, stepKeeping, takeBack, unjudged}
-use Rattle.order.proofs.LevelLaws.{Cut}
 use Rattle.order.proofs.OrderLaws.{ordered-each}
 use Rattle.order.proofs.PartLaws.{inCut, ordered-part}
 use Rattle.order.proofs.SlotLaws.{slots-distinct, slots-in}
@@ -37,7 +36,7 @@ in-greater log good v w u cu le = ordered-each log u _ (λ s q l b lq uq e.
     let a : seqOf (opAt log s q) ≤ countIn v s = leb-true _ _ (rw o at e) in
     rw o (le-leb (seqOf (opAt log s q)) (countIn w s) (omega (arith, le s l b))))
 
-module _ (log : Log) (good : GoodLog log) (v w u : Vector) (cv : Cut log v) (cu : covered log u ≡ true) (vw : Le v w) (wu : Le w u)
+module _ (log : Log) (good : GoodLog log) (v w u : Vector) (cu : covered log u ≡ true) (vw : Le v w) (wu : Le w u)
     (i : ℕ) where
   abbrev front : List Stamped
   front = take i (ordered log u)
@@ -52,9 +51,10 @@ module _ (log : Log) (good : GoodLog log) (v w u : Vector) (cv : Cut log v) (cu 
 
   pub carried : Agrees v w front
       → foldl stepKeeping (takeBack (replayKeeping log v) (opsOf (filter (inCut v) back))) (filter (inCut w) back) ≡ replayKeeping log w
-  unfolding replayKeeping orderOf
+  unfolding replayKeeping orderOf covered
   carried agree =
       let vu : Le v u = λ s l b. omega (arith, vw s l b, wu s l b) in
+      let cv : covered log v ≡ true = le-within v (countsOf log) (λ s l b. omega (arith, vu s l b, held-in log u cu s l b)) in
       let P : Stamped → Type 0 = λ x. inCut v x ≡ true → inCut w x ≡ true in
       let greater : Each P front = each-left P front back (rw (take-append-drop i (ordered log u)) (in-greater log good v w u cu vw)) in
       let same : filter (inCut v) front ≡ filter (inCut w) front =

@@ -52,14 +52,13 @@ parts-ordered w f st part whole c h = ordered-part (logOf w f) (structural-good 
 
 pub takes-back : TakesBack
 unfolding replayKeeping orderOf
-takes-back w f st cut c e place =
+takes-back w f st cut c place =
     let log = logOf w f in
     let good = structural-good w f st in
-    let is : Cut log cut = record { is-covered = c; is-closed = e } in
     let xs = ordered log cut in
     let whole : xs ≡ take place xs ++ drop place xs = sym (take-append-drop place xs) in
     ap (λ (ys : List Stamped). takeBack (foldl stepKeeping unjudged ys) (opsOf (drop place xs))) whole
-    ∙ take-back-after (take place xs) (drop place xs) (rw (← whole) (slots-in log good cut is)) (rw (← whole) (slots-distinct log good cut is))
+    ∙ take-back-after (take place xs) (drop place xs) (rw (← whole) (slots-in log good cut c)) (rw (← whole) (slots-distinct log good cut c))
 
 pub bounds-free : BoundsFree
 bounds-free w f s =

@@ -5,22 +5,26 @@ use lib.Dec.{eqb}
 use lib.ListN.{take, getD, length, length-map}
 use mathlib.Core.Bool.{Bool, true, false, cond}
 use mathlib.Core.List.{List, [], _∷_, map}
+use mathlib.Core.Logic.{⊎-elim}
 use mathlib.Core.Path.{_≡_, refl}
 use native.Mathlib.Decide.{decLe}
 use native.Mathlib.Omega.{arith}
-use Rattle.lists.specs.Lists.{concat, filter, isIn, upFrom}
+use Rattle.lists.specs.Lists.{any, concat, filter, isIn, upFrom}
+use Rattle.lists.proofs.BoolLaws.{or-cases}
 use Rattle.lists.proofs.EachLaws.{Each, each-of-map}
 use Rattle.lists.proofs.FilterLaws.{any-passes, filter-map, filter-none, filter-one, filter-part}
 use Rattle.lists.proofs.MemberLaws.{each-in, isIn-here, isIn-there}
-use Rattle.rules.specs.File.{Log, opAt, opsOf}
+use Rattle.rules.specs.File.{Log, countsOf, opAt, opsOf}
+use Rattle.rules.specs.Log.{covered}
 use Rattle.rules.specs.Op.{Op, Vector, countIn, replicas}
 use Rattle.rules.specs.Replay.{Stamped, stamp, stamped, ordered, opsWithin, orderOf, outcomeSlot}
 use Rattle.rules.specs.Tree.{mostOps, slot}
-use Rattle.rules.proofs.StructureLaws.{GoodLog, count-held, good-ops, held-in}
+use Rattle.rules.proofs.StructureLaws.{GoodLog, count-held, counts-covered, good-ops, held-in}
 use Rattle.order.specs.Claims.{Distinct}
-use Rattle.order.proofs.LevelLaws.{Cut}
+use Rattle.order.proofs.LevelLaws.{whole-cut}
 use Rattle.order.proofs.OnceLaws.{ordered-once}
 use Rattle.order.proofs.OrderLaws.{ordered-each}
+use Rattle.order.proofs.PartLaws.{inCut, ordered-part}
 
 abbrev pub IsSlot : ℕ → Type 0
 IsSlot i = (1 ≤ i) × (i ≤ mostOps)
@@ -50,15 +54,15 @@ one-at-most : {A : Type 0} (b : Bool) (x : A) → length (cond b (x ∷ []) []) 
 one-at-most true x = omega arith
 one-at-most false x = omega arith
 
-module _ (log : Log) (good : GoodLog log) (cut : Vector) (is : Cut log cut) where
+module _ (log : Log) (good : GoodLog log) (cut : Vector) (is : covered log cut ≡ true) where
   slot-held : (s q : ℕ) → 1 ≤ s → s ≤ 8 → 1 ≤ q → q ≤ countIn cut s → outcomeSlot (opAt log s q) ≡ 255 * (s - 1) + q
   unfolding outcomeSlot slot
   slot-held s q l u lq uq =
-      let x = good-ops good s q l u lq (omega (arith, held-in log cut (is .is-covered) s l u)) in
+      let x = good-ops good s q l u lq (omega (arith, held-in log cut is s l u)) in
       rw (x .origin, x .number)
 
   few : (s : ℕ) → 1 ≤ s → s ≤ 8 → countIn cut s ≤ 255
-  few s l u = omega (arith, held-in log cut (is .is-covered) s l u, good .counts s l u)
+  few s l u = omega (arith, held-in log cut is s l u, good .counts s l u)
 
   slots-each : Each IsSlot (orderOf log cut)
   unfolding orderOf stamp
@@ -106,15 +110,45 @@ module _ (log : Log) (good : GoodLog log) (cut : Vector) (is : Cut log cut) wher
         | no ins ↦ rw (
           only,
           filter-one p (stamp log) [] (countIn cut s) j (opsOf log s) (omega arith)
-              (omega (arith, held-in log cut (is .is-covered) s l u, count-held log s)) (λ k h d. off k h),
+              (omega (arith, held-in log cut is s l u, count-held log s)) (λ k h d. off k h),
         ) (one-at-most (p (stamp log (getD (opsOf log s) j []))) _)
       ]
 
-  pub slots-distinct : Distinct (orderOf log cut)
-  unfolding orderOf
-  slots-distinct = distinct (orderOf log cut) (λ i e.
-      rw (
-        filter-map (eqb i) (λ (x : Stamped). outcomeSlot (x .op)) (ordered log cut),
-        length-map,
-        ordered-once log good cut is (λ (x : Stamped). eqb i (outcomeSlot (x .op))),
-      ) (slot-once i (slots-in i e)))
+-- of the whole order, and so of every part of it
+whole-distinct : (log : Log) (good : GoodLog log) → Distinct (orderOf log (countsOf log))
+unfolding orderOf
+whole-distinct log good =
+    let cut = countsOf log in
+    let is = counts-covered log in
+    distinct (orderOf log cut) (λ i e.
+    rw (
+      filter-map (eqb i) (λ (x : Stamped). outcomeSlot (x .op)) (ordered log cut),
+      length-map,
+      ordered-once log good cut (whole-cut log good) (λ (x : Stamped). eqb i (outcomeSlot (x .op))),
+    ) (slot-once log good cut is i (slots-in log good cut is i e)))
+
+module _ {A : Type 0} (f : A → ℕ) (p : A → Bool) where
+  filtered-in : (i : ℕ) (xs : List A) → isIn i (map f (filter p xs)) ≡ true → isIn i (map f xs) ≡ true
+  unfolding filter isIn any
+  filtered-in i [] e = e
+  filtered-in i (x ∷ xs) e = go (p x) e (filtered-in i xs)
+    where
+      go : (b : Bool) → isIn i (map f (cond b (x ∷ filter p xs) (filter p xs))) ≡ true
+          → (isIn i (map f (filter p xs)) ≡ true → isIn i (map f xs) ≡ true) → isIn i (map f (x ∷ xs)) ≡ true
+      go true e ih = ⊎-elim (λ q. rw q) (λ q. isIn-there i (f x) (map f xs) (ih q)) (or-cases (eqb i (f x)) _ e)
+      go false e ih = isIn-there i (f x) (map f xs) (ih e)
+
+  filtered-distinct : (xs : List A) → Distinct (map f xs) → Distinct (map f (filter p xs))
+  unfolding filter
+  filtered-distinct [] d = tt
+  filtered-distinct (x ∷ xs) d = go (p x) (filtered-distinct xs (d .1))
+    where
+      go : (b : Bool) → Distinct (map f (filter p xs)) → Distinct (map f (cond b (x ∷ filter p xs) (filter p xs)))
+      go true ih = ((λ e. d .0 (filtered-in (f x) xs e)), ih)
+      go false ih = ih
+
+pub slots-distinct : (log : Log) → GoodLog log → (cut : Vector) → covered log cut ≡ true → Distinct (orderOf log cut)
+unfolding orderOf
+slots-distinct log good cut is =
+    rw (ordered-part log good cut (countsOf log) (counts-covered log) (held-in log cut is))
+    (filtered-distinct (λ (x : Stamped). outcomeSlot (x .op)) (inCut cut) (ordered log (countsOf log)) (whole-distinct log good))

@@ -51,8 +51,7 @@ PartsAlike =
 -- that place were judged
 abbrev pub TakesBack : Type 0
 TakesBack =
-    (w : ℕ) (f : List ℕ) → structural w f ≡ true
-    → (cut : Vector) → covered (logOf w f) cut ≡ true → closed (logOf w f) cut ≡ true
+    (w : ℕ) (f : List ℕ) → structural w f ≡ true → (cut : Vector) → covered (logOf w f) cut ≡ true
     → (place : ℕ) → let xs = ordered (logOf w f) cut in
     takeBack (replayKeeping (logOf w f) cut) (map (λ (x : Stamped). x .op) (drop place xs)) ≡ foldl stepKeeping unjudged (take place xs)
 

@@ -228,7 +228,6 @@ module _ (f : List ℕ) (old all : Vector) (s times : List ℕ) (n : ℕ) (ls lp
         whole = all;
         schedules = schedules;
         ends = first .inside;
-        is-closed = x .grown .is-closed;
         grows = le-within old all old-le;
         inside = le-within all all (λ r a c. omega arith);
         agrees = λ k h e. first .front k h;

@@ -14,14 +14,13 @@ use Rattle.lists.proofs.FilterLaws.{filter-map}
 use Rattle.lists.proofs.ListLaws.{map-map}
 use Rattle.lists.proofs.RangeLaws.{drop-places, take-places}
 use Rattle.rules.specs.Op.{Op, Vector, counted}
-use Rattle.rules.specs.File.{Log, countsOf, logOf}
-use Rattle.rules.specs.Log.{covered, structural}
+use Rattle.rules.specs.File.{Log, logOf}
+use Rattle.rules.specs.Log.{structural}
 use Rattle.rules.specs.Replay.{Stamped, ordered}
-use Rattle.rules.proofs.CausalLaws.{Le, le-within, within-le}
+use Rattle.rules.proofs.CausalLaws.{within-le}
 use Rattle.rules.proofs.StructureLaws.{structural-good}
 use Rattle.order.specs.Undo.{replayKeeping, stepKeeping, takeBack}
 use Rattle.order.proofs.CarryLaws.{Agrees, carried}
-use Rattle.order.proofs.LevelLaws.{Cut}
 use Rattle.order.proofs.PartLaws.{inCut}
 use Rattle.order.proofs.UndoLaws.{opsOf}
 use Rattle.replay.specs.Tables.{opAlong}
@@ -92,17 +91,6 @@ module _ (w : ℕ) (f : List ℕ) (before after : Vector) (order times : List �
   st : structural w f ≡ true
   st = x .walk .walk .is-structural
 
-  is-cut : Cut log before
-  unfolding covered
-  is-cut =
-      let up : Le before (x .whole) = λ s a c.
-      omega (arith, within-le before after (x .grows) s a c, within-le after (x .whole) (x .inside) s a c) in
-      record {
-        is-covered = le-within before (countsOf log) (λ s a c.
-            omega (arith, up s a c, within-le (x .whole) (countsOf log) (x .schedules .is-covered) s a c));
-        is-closed = x .is-closed;
-      }
-
   front-agrees : Agrees before after (take from (ordered log (x .whole)))
   unfolding opAlong
   front-agrees =
@@ -136,7 +124,7 @@ module _ (w : ℕ) (f : List ℕ) (before after : Vector) (order times : List �
           timed-are w f order times from to (x .whole) y (x .ends) after,
           ops-are w f order times from to (x .whole) y (x .ends) before,
           x .replayed,
-        ) (carried log (structural-good w f st) before after (x .whole) is-cut (y .is-covered) (within-le before after (x .grows))
+        ) (carried log (structural-good w f st) before after (x .whole) (y .is-covered) (within-le before after (x .grows))
         (within-le after (x .whole) (x .inside)) from front-agrees)
 
 pub ruleset carrying = (needs, judge-asks, carries)

@@ -7,7 +7,7 @@ use lib.ListN.{length, getD}
 use Rattle.lists.specs.Lists.{upFrom}
 use Rattle.rules.specs.Op.{Vector}
 use Rattle.rules.specs.File.{logOf, within}
-use Rattle.rules.specs.Log.{closed, covered}
+use Rattle.rules.specs.Log.{covered}
 use Rattle.rules.specs.Replay.{ordered}
 use Rattle.order.specs.Undo.{replayKeeping}
 use Rattle.replay.specs.Tables.{opAlong}
@@ -29,14 +29,13 @@ pub record Schedules (w : ℕ) (f order times : List ℕ) (to : ℕ) (whole : Ve
   pub is-covered : covered (logOf w f) whole ≡ true
   pub ops : map (opAlong (logOf w f) order times) (upFrom 0 to) ≡ ordered (logOf w f) whole
 
--- the replay of a closed cut, which another within the order exceeds, but by nothing before a place
+-- the replay of a cut, which another within the order exceeds, but by nothing before a place
 pub record Carriable (w : ℕ) (f : List ℕ) (before after : Vector) (order times : List ℕ) (from to : ℕ) (p o l t b : List ℕ)
     : Type 0 where
   pub walk : TimedWalk w f order times to p o l t b
   pub whole : Vector
   pub schedules : Schedules w f order times to whole
   pub ends : from ≤ to
-  pub is-closed : closed (logOf w f) before ≡ true
   pub grows : within before after ≡ true
   pub inside : within after whole ≡ true
   pub agrees : (i : ℕ) → i < from → slotCounted after (getD order i 0) ≡ true → slotCounted before (getD order i 0) ≡ true
