@@ -21,7 +21,7 @@ use Rattle.order.specs.Undo.{replayKeeping, stepKeeping, takeBack, unjud
 use Rattle.order.proofs.OrderLaws.{ordered-each}
 use Rattle.order.proofs.PartLaws.{inCut, ordered-part}
 use Rattle.order.proofs.SlotLaws.{slots-distinct, slots-in}
-use Rattle.order.proofs.UndoLaws.{opsOf, take-back-after}
+use Rattle.order.proofs.UndoLaws.{opsIn, take-back-after}
 
 -- what w counts among these, v counts
 abbrev pub Agrees : Vector → Vector → List Stamped → Type 0
@@ -50,7 +50,7 @@ module _ (log : Log) (good : GoodLog log) (v w u : Vector) (cu : covered log u �
       ∙ filter-append (inCut z) front back
 
   pub carried : Agrees v w front
-      → foldl stepKeeping (takeBack (replayKeeping log v) (opsOf (filter (inCut v) back))) (filter (inCut w) back) ≡ replayKeeping log w
+      → foldl stepKeeping (takeBack (replayKeeping log v) (opsIn (filter (inCut v) back))) (filter (inCut w) back) ≡ replayKeeping log w
   unfolding replayKeeping orderOf covered
   carried agree =
       let vu : Le v u = λ s l b. omega (arith, vw s l b, wu s l b) in
@@ -60,9 +60,9 @@ module _ (log : Log) (good : GoodLog log) (v w u : Vector) (cu : covered log u �
       let same : filter (inCut v) front ≡ filter (inCut w) front =
       filter-alike (inCut v) (inCut w) front (each-map _ _ front (λ x h. both-ways (inCut v x) (inCut w x) (h .0) (h .1))
       (each-both _ _ front greater agree)) in
-      let taken : takeBack (foldl stepKeeping unjudged (ordered log v)) (opsOf (filter (inCut v) back))
+      let taken : takeBack (foldl stepKeeping unjudged (ordered log v)) (opsIn (filter (inCut v) back))
       ≡ foldl stepKeeping unjudged (filter (inCut v) front) =
-      ap (λ ys. takeBack (foldl stepKeeping unjudged ys) (opsOf (filter (inCut v) back))) (parts v vu)
+      ap (λ ys. takeBack (foldl stepKeeping unjudged ys) (opsIn (filter (inCut v) back))) (parts v vu)
       ∙ take-back-after (filter (inCut v) front) (filter (inCut v) back) (rw (← parts v vu) (slots-in log good v cv))
       (rw (← parts v vu) (slots-distinct log good v cv)) in
       rw (taken, same, parts w wu, foldl-append)

@@ -25,7 +25,7 @@ use Rattle.rules.proofs.CausalLaws.{within-le}
 use Rattle.order.specs.Undo.{replayKeeping, stepKeeping, takeBack, unjudged}
 use Rattle.order.proofs.PartLaws.{ordered-part}
 use Rattle.order.proofs.SlotLaws.{slots-distinct, slots-in}
-use Rattle.order.proofs.UndoLaws.{opsOf, take-back-after}
+use Rattle.order.proofs.UndoLaws.{opsIn, take-back-after}
 use lib.ListN.{drop, take, take-append-drop}
 use mathlib.Core.List.{List, _++_, foldl}
 use mathlib.Core.Path.{_≡_, ap, sym, _∙_}
@@ -57,7 +57,7 @@ takes-back w f st cut c place =
     let good = structural-good w f st in
     let xs = ordered log cut in
     let whole : xs ≡ take place xs ++ drop place xs = sym (take-append-drop place xs) in
-    ap (λ (ys : List Stamped). takeBack (foldl stepKeeping unjudged ys) (opsOf (drop place xs))) whole
+    ap (λ (ys : List Stamped). takeBack (foldl stepKeeping unjudged ys) (opsIn (drop place xs))) whole
     ∙ take-back-after (take place xs) (drop place xs) (rw (← whole) (slots-in log good cut c)) (rw (← whole) (slots-distinct log good cut c))
 
 pub bounds-free : BoundsFree

@@ -18,16 +18,14 @@ use Rattle.rules.specs.File.{Log, countsOf, opAt, opsOf}
 use Rattle.rules.specs.Log.{covered}
 use Rattle.rules.specs.Op.{Op, Vector, countIn, replicas}
 use Rattle.rules.specs.Replay.{Stamped, stamp, stamped, ordered, opsWithin, orderOf, outcomeSlot}
-use Rattle.rules.specs.Tree.{mostOps, slot}
+use Rattle.rules.specs.Tree.{slot}
 use Rattle.rules.proofs.StructureLaws.{GoodLog, count-held, counts-covered, good-ops, held-in}
 use Rattle.order.specs.Claims.{Distinct}
+use Rattle.order.specs.Undo.{IsSlot}
 use Rattle.order.proofs.LevelLaws.{whole-cut}
 use Rattle.order.proofs.OnceLaws.{ordered-once}
 use Rattle.order.proofs.OrderLaws.{ordered-each}
 use Rattle.order.proofs.PartLaws.{inCut, ordered-part}
-
-abbrev pub IsSlot : ℕ → Type 0
-IsSlot i = (1 ≤ i) × (i ≤ mostOps)
 
 -- each stands at most once
 none-left : (x : ℕ) (xs : List ℕ) → length (filter (eqb x) (x ∷ xs)) ≤ 1 → length (filter (eqb x) xs) ≤ 0
@@ -71,7 +69,7 @@ module _ (log : Log) (good : GoodLog log) (cut : Vector) (is : covered log cut �
       (λ s q l u lq uq.
       let e = slot-held s q l u lq uq in
       let f = few s l u in
-      (omega arith, omega arith)))
+      record { some = omega arith; most = omega arith }))
 
   pub slots-in : (i : ℕ) → isIn i (orderOf log cut) ≡ true → IsSlot i
   slots-in = each-in IsSlot (orderOf log cut) slots-each
@@ -89,7 +87,7 @@ module _ (log : Log) (good : GoodLog log) (cut : Vector) (is : covered log cut �
       let s : ℕ = (i - 1) / 255 + 1 in
       let j : ℕ = (i - 1) % 255 in
       let l : 1 ≤ s = omega arith in
-      let u : s ≤ 8 = omega (arith, b .1) in
+      let u : s ≤ 8 = omega (arith, b .most) in
       let p : Stamped → Bool = λ x. eqb i (outcomeSlot (x .op)) in
       let part : ℕ → List Op = λ r. take (countIn cut r) (opsOf log r) in
       let only : filter p (map (stamp log) (concat (map part (upFrom 1 8)))) ≡ filter p (map (stamp log) (part s)) =
@@ -97,12 +95,12 @@ module _ (log : Log) (good : GoodLog log) (cut : Vector) (is : covered log cut �
       (λ k h d.
       let e = at-place r k a (omega arith) h in
       let f = few r a (omega arith) in
-      ne-eqb i (outcomeSlot (getD (opsOf log r) k [])) (λ z. ne (omega (arith, b .0))))) in
+      ne-eqb i (outcomeSlot (getD (opsOf log r) k [])) (λ z. ne (omega (arith, b .some))))) in
       let off : (k : ℕ) → k < countIn cut s → (k ≡ j → ⊥) → p (stamp log (getD (opsOf log s) k [])) ≡ false =
       λ k h ne.
       let e = at-place s k l u h in
       let f = few s l u in
-      ne-eqb i (outcomeSlot (getD (opsOf log s) k [])) (λ z. ne (omega (arith, b .0))) in
+      ne-eqb i (outcomeSlot (getD (opsOf log s) k [])) (λ z. ne (omega (arith, b .some))) in
       elim (decLe (countIn cut s) j) [
         | yes out ↦
             rw (only, filter-none p (stamp log) [] (countIn cut s) (opsOf log s) (λ k h d. off k h (λ z. omega arith)))

@@ -14,14 +14,13 @@ use Rattle.rules.specs.Op.{Op, Vector, nodeOf, parentOf, isAdd, isMove}
 use Rattle.rules.specs.Replay.{Stamped, step, start, outcomeOf, outcomeSlot, ordered, replay}
 use Rattle.rules.specs.Tree.{slotOf, slots}
 use Rattle.order.specs.Claims.{Distinct}
-use Rattle.order.specs.Undo.{Undoable, unjudged, stepKeeping, undo, takeBack, replayKeeping}
-use Rattle.order.proofs.SlotLaws.{IsSlot}
+use Rattle.order.specs.Undo.{IsSlot, Undoable, unjudged, stepKeeping, undo, takeBack, replayKeeping}
 
 abbrev pub slotsOf : List Stamped → List ℕ
 slotsOf xs = map (λ (x : Stamped). outcomeSlot (x .op)) xs
 
-abbrev pub opsOf : List Stamped → List Op
-opsOf xs = map (λ (x : Stamped). x .op) xs
+abbrev pub opsIn : List Stamped → List Op
+opsIn xs = map (λ (x : Stamped). x .op) xs
 
 -- the tables say nothing of slot i
 record Blank (i : ℕ) (k : Undoable) : Type 0 where
@@ -34,11 +33,11 @@ record Blank (i : ℕ) (k : Undoable) : Type 0 where
 blank-first : (i : ℕ) → IsSlot i → Blank i unjudged
 unfolding unjudged start
 blank-first i b = record {
-  outcome = getD-replicate {A = ℕ} slots i 0 0 (omega (arith, b .1));
-  no-took = getD-replicate {A = ℕ} slots i 0 0 (omega (arith, b .1));
-  no-was = getD-replicate {A = ℕ} slots i 0 0 (omega (arith, b .1));
-  took-size = omega (arith, b .1, length-replicate {A = ℕ} slots 0);
-  was-size = omega (arith, b .1, length-replicate {A = ℕ} slots 0);
+  outcome = getD-replicate {A = ℕ} slots i 0 0 (omega (arith, b .most));
+  no-took = getD-replicate {A = ℕ} slots i 0 0 (omega (arith, b .most));
+  no-was = getD-replicate {A = ℕ} slots i 0 0 (omega (arith, b .most));
+  took-size = omega (arith, b .most, length-replicate {A = ℕ} slots 0);
+  was-size = omega (arith, b .most, length-replicate {A = ℕ} slots 0);
 }
 
 -- judging another op leaves a slot as it is
@@ -92,7 +91,7 @@ blanks-step is k x ne b i e = blank-step i k x (λ z. ne (rw z at e)) (b i e)
 
 -- ops that were judged, each once, are taken back
 take-back : (xs : List Stamped) (k : Undoable) → Distinct (slotsOf xs) → AllBlank (slotsOf xs) k
-    → takeBack (foldl stepKeeping k xs) (opsOf xs) ≡ k
+    → takeBack (foldl stepKeeping k xs) (opsIn xs) ≡ k
 unfolding takeBack
 take-back [] k d b = refl
 take-back (x ∷ xs) k d b =
@@ -113,7 +112,7 @@ blanks-run js (x ∷ xs) k d b =
 
 -- the ops behind any place are taken back
 pub take-back-after : (xs ys : List Stamped) → ((i : ℕ) → isIn i (slotsOf (xs ++ ys)) ≡ true → IsSlot i) → Distinct (slotsOf (xs ++ ys))
-    → takeBack (foldl stepKeeping unjudged (xs ++ ys)) (opsOf ys) ≡ foldl stepKeeping unjudged xs
+    → takeBack (foldl stepKeeping unjudged (xs ++ ys)) (opsIn ys) ≡ foldl stepKeeping unjudged xs
 take-back-after xs ys h d =
     let split : slotsOf (xs ++ ys) ≡ slotsOf xs ++ slotsOf ys = map-append (λ (x : Stamped). outcomeSlot (x .op)) xs ys in
     let d′ : Distinct (slotsOf xs ++ slotsOf ys) = rw split at d in

@@ -6,7 +6,7 @@ use mathlib.Core.List.{List, [], _∷_, foldl}
 use mathlib.Core.Path.{_≡_}
 use Rattle.rules.specs.Op.{Op, Vector, counted, nodeOf}
 use Rattle.rules.specs.File.{Log, countsOf}
-use Rattle.rules.specs.Tree.{slotOf, slots}
+use Rattle.rules.specs.Tree.{mostOps, slotOf, slots}
 use Rattle.rules.specs.Replay.{State, Stamped, outcomeSlot, ordered, start, step}
 
 -- for the slot of each judged op the entries that its node had before it: its parent, and the time of the move that placed it; 0 in the
@@ -54,6 +54,11 @@ takeBack k (r ∷ rs) = undo (takeBack k rs) r
 -- the replay of a cut
 unfoldable pub replayKeeping : Log → Vector → Undoable
 replayKeeping log cut = foldl stepKeeping unjudged (ordered log cut)
+
+-- the slot of an op
+pub record IsSlot (i : ℕ) : Type 0 where
+  pub some : 1 ≤ i
+  pub most : i ≤ mostOps
 
 -- what stands at a place behind the end of an order
 abbrev pub noOp : Stamped

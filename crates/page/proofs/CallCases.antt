@@ -15,7 +15,7 @@ use Rattle.rules.specs.File.{Log, append, appended, countsOf, headerCounts, log
 use Rattle.rules.specs.Issue.{Issued, Request, issue, issueAnswer, issueBuffer, issueOut, issued}
 use Rattle.rules.specs.Log.{soundHeader}
 use Rattle.rules.specs.Op.{Op, Vector}
-use Rattle.page_rules.specs.Page.{Page, PageIssued, PageResult, deliverPage, deliverPageAnswer, filled, issuePage, issuePageAnswer, longEnough, page, pageWith, pageOf, takenWith, tookBack, withPage}
+use Rattle.page_rules.specs.Page.{Page, PageIssued, PageResult, deliverPage, deliverPageAnswer, pageFilled, issuePage, issuePageAnswer, longEnough, page, pageWith, pageOf, takenWith, tookBack, withPage}
 use Rattle.rules.specs.Sound.{sound}
 use Rattle.rules.specs.Tree.{mostOps, slots}
 use Rattle.rules.proofs.AppendLaws.{extends, in-range, sum-append}
@@ -29,8 +29,8 @@ use Rattle.codec.specs.Asked.{isAccepted}
 use Rattle.codec.proofs.AnswerLaws.{accepted-with, if-accepted, if-not-accepted}
 use Rattle.page_rules.proofs.PageLaws.{behind-is, old-cut, page-before}
 use Rattle.replay.proofs.CutLaws.{whole-header, whole-sound}
-use Rattle.page_tables.specs.Tables.{Lent}
-use Rattle.page.specs.Renewing.{Grown, GrownLent, Ready, Took}
+use Rattle.page_tables.specs.Tables.{LongPage}
+use Rattle.page.specs.Renewing.{OneMore, OneMoreLent, PageReady, Took}
 
 ---- an op that was added
 
@@ -50,7 +50,7 @@ module _ (f : List ℕ) (r : Op) (n : ℕ) (h : Admitted width f r n) where
   counts-new : headerCounts new ≡ countsOf (append log r)
   counts-new = sym (counts-logOf width new) ∙ ap countsOf log-new
 
-  grown : Grown new (headerCounts f)
+  grown : OneMore new (headerCounts f)
   grown =
       let b = in-range log r good (h .admits) in
       rw (← counts-logOf width f) (record {
@@ -69,8 +69,8 @@ module _ (f : List ℕ) (r : Op) (n : ℕ) (h : Admitted width f r n) where
 
 ---- the lent tables
 
-module _ (f ls lp lo : List ℕ) (x : Ready f ls lp lo) where
-  lent : Lent ls lp lo
+module _ (f ls lp lo : List ℕ) (x : PageReady f ls lp lo) where
+  lent : LongPage ls lp lo
   unfolding longEnough
   lent =
       let e = x .long in
@@ -87,7 +87,7 @@ module _ (f ls lp lo : List ℕ) (x : Ready f ls lp lo) where
   pub ready-sound : soundHeader width f ≡ true
   ready-sound = whole-sound width f (sound-structural width f (x .is-sound))
 
-pub ready : (f ls lp lo : List ℕ) → sound width f ≡ true → longEnough (page ls lp lo) ≡ true → Ready f ls lp lo
+pub ready : (f ls lp lo : List ℕ) → sound width f ≡ true → longEnough (page ls lp lo) ≡ true → PageReady f ls lp lo
 ready f ls lp lo a b = record { is-sound = a; long = b }
 
 ---- what a call that may add r leaves, by its answer
@@ -102,17 +102,17 @@ module _ (f ls lp lo : List ℕ) (r : Op) (a : Answer) where
 
   same-page : isAccepted a ≡ false → before ≡ pageWith width f before r a
   unfolding pageWith
-  same-page e = sym (if-not-accepted (filled before (pageOf (append (logOf width f) r))) before a e)
+  same-page e = sym (if-not-accepted (pageFilled before (pageOf (append (logOf width f) r))) before a e)
 
   module _ (n : ℕ) (h : Admitted width f r n) (e : isAccepted a ≡ true) where
     added-taken : (t : ℕ) → Took (logOf width (appended width f r)) (headerCounts f) before t → t ≡ takenWith width f before r a
     unfolding takenWith
     added-taken t x = took-is f r n h before t x ∙ sym (if-accepted (tookBack (logOf width f) before r) 0 a e)
 
-    added-page : (q : Page) → q ≡ filled before (pageOf (logOf width (appended width f r))) → q ≡ pageWith width f before r a
+    added-page : (q : Page) → q ≡ pageFilled before (pageOf (logOf width (appended width f r))) → q ≡ pageWith width f before r a
     unfolding pageWith
     added-page q x =
-        x ∙ rw (log-new f r n h) (sym (if-accepted (filled before (pageOf (append (logOf width f) r))) before a e))
+        x ∙ rw (log-new f r n h) (sym (if-accepted (pageFilled before (pageOf (append (logOf width f) r))) before a e))
 
 ---- delivering
 
@@ -130,7 +130,7 @@ module _ (f op ls lp lo : List ℕ) where
   unfolding deliverPageAnswer withPage takenWith pageWith require
   deliver-short s e a t ea et = rw (s, e, ea, et)
 
-  module _ (x : Ready f ls lp lo) (a : Answer) (f′ : List ℕ)
+  module _ (x : PageReady f ls lp lo) (a : Answer) (f′ : List ℕ)
       (is : _≡_ {A = Result} (record { answer = a; buffer = f′ }) (deliver width f op)) where
     plain : a ≡ deliverAnswer width f op
     plain = ap (λ (y : Result). y .answer) is
@@ -157,10 +157,10 @@ module _ (f op ls lp lo : List ℕ) where
       added : f′ ≡ appended width f op
       added = buffer-is ∙ if-accepted (appended width f op) f a e
 
-      pub deliver-renews : GrownLent f′ u ls lp lo
+      pub deliver-renews : OneMoreLent f′ u ls lp lo
       deliver-renews = record { grown = rw (added, hu) (grown f op end taken-in); lent = lent f ls lp lo x }
 
-      pub deliver-renewed : (q : Page) → q ≡ filled (page ls lp lo) (pageOf (logOf width f′)) → (t : ℕ)
+      pub deliver-renewed : (q : Page) → q ≡ pageFilled (page ls lp lo) (pageOf (logOf width f′)) → (t : ℕ)
           → Took (logOf width f′) u (page ls lp lo) t → handed a t f′ q ≡ deliverPage width f op (page ls lp lo)
       deliver-renewed q hq t ht = rw (
         answer-is,
@@ -188,7 +188,7 @@ module _ (f out : List ℕ) (s : ℕ) (q : Request) (ls lp lo : List ℕ) where
   unfolding issuePageAnswer withPage takenWith pageWith require
   issue-short h e a t ea et = rw (h, e, ea, et)
 
-  module _ (x : Ready f ls lp lo) (a : Answer) (f′ out′ : List ℕ)
+  module _ (x : PageReady f ls lp lo) (a : Answer) (f′ out′ : List ℕ)
       (is : _≡_ {A = Issued} (record { answer = a; buffer = f′; out = out′ }) (issue width f out s q)) where
     plainly : a ≡ issueAnswer width f (length out) s q
     plainly = ap (λ (y : Issued). y .answer) is
@@ -219,10 +219,10 @@ module _ (f out : List ℕ) (s : ℕ) (q : Request) (ls lp lo : List ℕ) where
       issue-added : f′ ≡ appended width f op
       issue-added = issue-buffer ∙ if-accepted (appended width f op) f a e
 
-      pub issue-renews : GrownLent f′ u ls lp lo
+      pub issue-renews : OneMoreLent f′ u ls lp lo
       issue-renews = record { grown = rw (issue-added, hu) (grown f op issue-end issue-in); lent = lent f ls lp lo x }
 
-      pub issue-renewed : (z : Page) → z ≡ filled (page ls lp lo) (pageOf (logOf width f′)) → (t : ℕ)
+      pub issue-renewed : (z : Page) → z ≡ pageFilled (page ls lp lo) (pageOf (logOf width f′)) → (t : ℕ)
           → Took (logOf width f′) u (page ls lp lo) t → handedOut a t f′ out′ z ≡ issuePage width f out s q (page ls lp lo)
       issue-renewed z hz t ht = rw (
         issue-is,

@@ -13,7 +13,7 @@ use Rattle.lists.proofs.RangeLaws.{map-getD, map-upFrom}
 use Rattle.rules.specs.Op.{Vector, countIn, counted}
 use Rattle.rules.specs.File.{Log, countsOf, headerCounts, logOf, width}
 use Rattle.rules.specs.Log.{covered, soundHeader, structural}
-use Rattle.page_rules.specs.Page.{Page, filled, padded, page, pageAt, pageOf, shows}
+use Rattle.page_rules.specs.Page.{Page, pageFilled, padded, page, pageAt, pageOf, shows}
 use Rattle.rules.specs.Replay.{State, Stamped, orderOf, ordered, outcomeSlot, replay, start}
 use Rattle.rules.specs.Tree.{mostOps, noParent}
 use Rattle.rules.proofs.CausalLaws.{Le, le-within, total, total-sum, within-le, within-length}
@@ -33,12 +33,12 @@ use Rattle.replay.proofs.CutLaws.{whole-header, whole-sound}
 use Rattle.schedule.specs.Schedule.{Schedule, scheduled}
 use Rattle.schedule.specs.Level.{SchedulableCut}
 use Rattle.schedule.proofs.OrderLaws.{Entered, count-is, entered, few-ops}
-use Rattle.undo.specs.Tables.{Kept, Named, TimedWalk, opsAlong, slotCounted, timedAlong, undoable}
+use Rattle.undo.specs.Tables.{AllSized, OpThere, TimedSlotWalk, opsAlong, slotCounted, timedAlong, undoable}
 use Rattle.undo.specs.Carried.{Carriable, FirstBeyond, Schedules, Slots}
 use Rattle.undo.proofs.CarryLaws.{ops-are, timed-are}
 use Rattle.undo.proofs.KeepLaws.{counted-slot, kept-replay, kept-unjudged, slot-asks}
-use Rattle.page_tables.specs.Tables.{Comparable, Fillable, without}
-use Rattle.page.specs.Renewing.{Grown, Renewable, Took}
+use Rattle.page_tables.specs.Tables.{Comparable, FillablePage, orderWithout}
+use Rattle.page.specs.Renewing.{OneMore, Renewable, Took}
 use Rattle.rules.specs.Tree as trees
 
 ---- the tables of a replay
@@ -63,8 +63,8 @@ zeros-more (suc n) = ap (λ (ys : List ℕ). 0 ∷ ys) (zeros-more n)
 
 -- an order with zeros behind it, without one of its entries
 padded-without : (i : ℕ) (ys : List ℕ) → i < length ys → length ys ≤ mostOps
-    → without i (padded ys) ≡ padded (take i ys ++ drop (suc i) ys)
-unfolding without padded zeros
+    → orderWithout i (padded ys) ≡ padded (take i ys ++ drop (suc i) ys)
+unfolding orderWithout padded zeros
 padded-without i ys h u =
     let rest : length (take i ys ++ drop (suc i) ys) ≡ length ys - 1 =
     length-append (take i ys) (drop (suc i) ys) ∙ omega (arith, length-take-le i ys (omega arith), length-drop (suc i) ys) in
@@ -119,13 +119,13 @@ module _ (f : List ℕ) (old all : Vector) (s times : List ℕ) (n : ℕ) (ls lp
       rw (ap (λ (y : Schedule). y .times) (x .is-scheduled), length-append, length-map, length-drop, length-replicate)
       (omega (arith, few, count))
 
-  named : (i : ℕ) → i < n → Named width f (getD s i 0)
+  named : (i : ℕ) → i < n → OpThere width f (getD s i 0)
   named i h = record { is-structural = st; in-slot = entry i h .in-slot }
 
   pub slots-ask : Slots s n
   slots-ask = record { order-long = omega (arith, few, table-long); each = λ i h. slot-asks width f (getD s i 0) (named i h) }
 
-  walk : (p o l t b : List ℕ) → Kept p o l t b → TimedWalk width f s times n p o l t b
+  walk : (p o l t b : List ℕ) → AllSized p o l t b → TimedSlotWalk width f s times n p o l t b
   walk p o l t b k = record {
     walk = record {
       is-structural = st;
@@ -152,7 +152,7 @@ module _ (f : List ℕ) (old all : Vector) (s times : List ℕ) (n : ℕ) (ls lp
 
   ---- the judgement of the old ops
 
-  pub judge-asks : (p o l t b : List ℕ) → undoable p o l t b ≡ unjudged → TimedWalk width f s times n p o l t b
+  pub judge-asks : (p o l t b : List ℕ) → undoable p o l t b ≡ unjudged → TimedSlotWalk width f s times n p o l t b
   judge-asks p o l t b is = walk p o l t b (kept-unjudged p o l t b is)
 
   old-le : Le old all
@@ -234,7 +234,7 @@ module _ (f : List ℕ) (old all : Vector) (s times : List ℕ) (n : ℕ) (ls lp
         replayed = judged-old;
       }
 
-      old-page : page (without i s) p o ≡ pageAt log old
+      old-page : page (orderWithout i s) p o ≡ pageAt log old
       unfolding pageAt orderOf
       old-page =
           let ys = orderOf log all in
@@ -256,7 +256,7 @@ module _ (f : List ℕ) (old all : Vector) (s times : List ℕ) (n : ℕ) (ls lp
           let along = ops-are width f s times i n all schedules (first .inside) old in
           rw (along, back, length-map, length-drop, length-drop, length-map, counts-all)
 
-      module _ (shown : Bool) (so : shown ≡ shows (page ls lp lo) (page (without i s) p o)) where
+      module _ (shown : Bool) (so : shown ≡ shows (page ls lp lo) (page (orderWithout i s) p o)) where
         pub took-back : shown ≡ true → (r : ℕ) → r ≡ length (opsAlong log old s i n) → Took log old (page ls lp lo) r
         took-back e r is′ = record { place = i; first = first-new; number = rw (← old-page, ← so, e) (is′ ∙ back-count) }
 
@@ -265,12 +265,12 @@ module _ (f : List ℕ) (old all : Vector) (s times : List ℕ) (n : ℕ) (ls lp
 
   -- the whole judgement
   module _ (p o l t b : List ℕ) (is : undoable p o l t b ≡ replayKeeping log all) where
-    pub fill-asks : Fillable ls lp lo s p o
+    pub fill-asks : FillablePage ls lp lo s p o
     fill-asks =
         let k = kept-replay log all p o l t b is in
         record { lent = x .lent; judged = record { order = table-long; parents = k .sized .parents; outcomes = k .sized .outcomes } }
 
-    pub page-new : (q : Page) → q ≡ filled (page ls lp lo) (page s p o) → q ≡ filled (page ls lp lo) (pageOf log)
+    pub page-new : (q : Page) → q ≡ pageFilled (page ls lp lo) (page s p o) → q ≡ pageFilled (page ls lp lo) (pageOf log)
     unfolding pageOf pageAt
     page-new q e = e ∙ rw (counts-all, ← table, state-parents p o l t b log all is, state-outcomes p o l t b log all is)
 
@@ -279,7 +279,7 @@ module _ (f : List ℕ) (old all : Vector) (s times : List ℕ) (n : ℕ) (ls lp
 
 ---- what the code of renewing needs: search renewing
 
-module _ (f : List ℕ) (old : Vector) (g : Grown f old) where
+module _ (f : List ℕ) (old : Vector) (g : OneMore f old) where
   pub file-header : 32 ≤ length f
   file-header = whole-header width f (g .is-structural)
 

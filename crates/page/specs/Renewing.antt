@@ -14,7 +14,7 @@ use Rattle.rules.specs.Replay.{orderOf}
 use Rattle.rules.specs.Tree.{mostOps}
 use Rattle.order.specs.Undo.{FirstNew}
 use Rattle.schedule.specs.Schedule.{schedule, scheduled}
-use Rattle.page_tables.specs.Tables.{Lent}
+use Rattle.page_tables.specs.Tables.{LongPage}
 
 -- how many ops are taken back to bring on the page of a closed cut: where the lent tables show it, those behind the first op that it does
 -- not count, and else all that it counts
@@ -26,7 +26,7 @@ pub record Took (log : Log) (old : Vector) (lent : Page) (taken : ℕ) : Type 0 
 ---- what the steps ask
 
 -- a structurally sound file has one op more than a closed cut
-pub record Grown (f : List ℕ) (old : Vector) : Type 0 where
+pub record OneMore (f : List ℕ) (old : Vector) : Type 0 where
   pub is-structural : structural width f ≡ true
   pub eight : length old ≡ 8
   pub inside : within old (headerCounts f) ≡ true
@@ -35,16 +35,16 @@ pub record Grown (f : List ℕ) (old : Vector) : Type 0 where
 
 -- the order of all ops, and lent tables
 pub record Renewable (f : List ℕ) (old all : Vector) (slots times : List ℕ) (n : ℕ) (ls lp lo : List ℕ) : Type 0 where
-  pub grown : Grown f old
+  pub grown : OneMore f old
   pub counts : all ≡ headerCounts f
   pub is-scheduled : schedule slots times n ≡ scheduled (logOf width f) all (replicate mostOps 0) (replicate mostOps 0)
-  pub lent : Lent ls lp lo
+  pub lent : LongPage ls lp lo
 
-pub record GrownLent (f : List ℕ) (old : Vector) (ls lp lo : List ℕ) : Type 0 where
-  pub grown : Grown f old
-  pub lent : Lent ls lp lo
+pub record OneMoreLent (f : List ℕ) (old : Vector) (ls lp lo : List ℕ) : Type 0 where
+  pub grown : OneMore f old
+  pub lent : LongPage ls lp lo
 
 -- the tests 1 and 2 of the page passed
-pub record Ready (f ls lp lo : List ℕ) : Type 0 where
+pub record PageReady (f ls lp lo : List ℕ) : Type 0 where
   pub is-sound : sound width f ≡ true
   pub long : longEnough (page ls lp lo) ≡ true

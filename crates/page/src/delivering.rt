@@ -12,7 +12,7 @@ ghost use mathlib.Core.Path.{_≡_};
 ghost use Rattle.rules.specs.File.{width};
 ghost use Rattle.page_rules.specs.Page.{deliverPage, page};
 ghost use Rattle.page.specs.Answers.{resultOf};
-ghost use Rattle.page.specs.Renewing.{Ready};
+ghost use Rattle.page.specs.Renewing.{PageReady};
 
 // Delivers an op to a sound log with tables that are long enough.
 fn deliver_ready(
@@ -22,7 +22,7 @@ fn deliver_ready(
     parents: &mut [u16],
     outcomes: &mut [u8],
 ) -> Paged
-    requires { ⌜ Ready (now buf) (now order) (now parents) (now outcomes) ⌝ }
+    requires { ⌜ PageReady (now buf) (now order) (now parents) (now outcomes) ⌝ }
     ensures { λ r. ⌜ resultOf r (now (buf .exit)) (page (now (order .exit)) (now (parents .exit)) (now (outcomes .exit)))
         ≡ deliverPage width (now (buf .entry)) (now (op .entry))
         (page (now (order .entry)) (now (parents .entry)) (now (outcomes .entry))) ⌝ }

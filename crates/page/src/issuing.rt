@@ -15,7 +15,7 @@ ghost use Rattle.rules.specs.Issue.{add, move, remove};
 ghost use Rattle.page_rules.specs.Page.{issuePage, page};
 ghost use Rattle.request.specs.Requests.{requestOf};
 ghost use Rattle.page.specs.Answers.{issuedOf};
-ghost use Rattle.page.specs.Renewing.{Ready};
+ghost use Rattle.page.specs.Renewing.{PageReady};
 
 // Issues what is asked for at a sound log with tables that are long enough.
 fn issue_ready(
@@ -27,7 +27,7 @@ fn issue_ready(
     parents: &mut [u16],
     outcomes: &mut [u8],
 ) -> Paged
-    requires { ⌜ Ready (now buf) (now order) (now parents) (now outcomes) ⌝ }
+    requires { ⌜ PageReady (now buf) (now order) (now parents) (now outcomes) ⌝ }
     ensures { λ r. ⌜
         issuedOf r (now (buf .exit)) (now (out .exit)) (page (now (order .exit)) (now (parents .exit)) (now (outcomes .exit)))
         ≡ issuePage width (now (buf .entry)) (now (out .entry)) replica (requestOf request)

@@ -11,8 +11,8 @@ use undo::first_beyond;
 use undo::judge_along;
 ghost use mathlib.Core.Path.{_≡_};
 ghost use Rattle.rules.specs.File.{logOf, width};
-ghost use Rattle.page_rules.specs.Page.{filled, page, pageOf};
-ghost use Rattle.page.specs.Renewing.{GrownLent, Renewable, Took};
+ghost use Rattle.page_rules.specs.Page.{pageFilled, page, pageOf};
+ghost use Rattle.page.specs.Renewing.{OneMoreLent, Renewable, Took};
 
 // Judges the old ops, looks whether the lent tables show that, and brings them on to all ops. Answers
 // how many ops were taken back; where the lent tables are built anew, that is all of the old ones.
@@ -30,7 +30,7 @@ fn rejudge(
     requires { ⌜ Renewable (now file) old all (now slots) (now times) n (now order) (now parents) (now outcomes) ⌝ }
     ensures { λ r. ⌜
         (page (now (order .exit)) (now (parents .exit)) (now (outcomes .exit))
-        ≡ filled (page (now (order .entry)) (now (parents .entry)) (now (outcomes .entry))) (pageOf (logOf width (now (file .entry)))))
+        ≡ pageFilled (page (now (order .entry)) (now (parents .entry)) (now (outcomes .entry))) (pageOf (logOf width (now (file .entry)))))
         × Took (logOf width (now (file .entry))) old
         (page (now (order .entry)) (now (parents .entry)) (now (outcomes .entry))) r ⌝ }
 {
@@ -87,10 +87,10 @@ pub(crate) fn renew(
     parents: &mut [u16],
     outcomes: &mut [u8],
 ) -> usize
-    requires { ⌜ GrownLent (now file) old (now order) (now parents) (now outcomes) ⌝ }
+    requires { ⌜ OneMoreLent (now file) old (now order) (now parents) (now outcomes) ⌝ }
     ensures { λ r. ⌜
         (page (now (order .exit)) (now (parents .exit)) (now (outcomes .exit))
-        ≡ filled (page (now (order .entry)) (now (parents .entry)) (now (outcomes .entry))) (pageOf (logOf width (now (file .entry)))))
+        ≡ pageFilled (page (now (order .entry)) (now (parents .entry)) (now (outcomes .entry))) (pageOf (logOf width (now (file .entry)))))
         × Took (logOf width (now (file .entry))) old
         (page (now (order .entry)) (now (parents .entry)) (now (outcomes .entry))) r ⌝ }
 {

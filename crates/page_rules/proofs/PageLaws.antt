@@ -116,7 +116,7 @@ module _ (log : Log) (good : GoodLog log) (r : Op) (h : Admits log r) where
   page-before = rw (ordered-alike log more (good-ops good) old alike, replay-alike log more (good-ops good) old alike)
 
   -- of the ops of the new order just the new one is not counted
-  record Told (x : Stamped) : Type 0 where
+  record NewOrOld (x : Stamped) : Type 0 where
     pub before : inCut old x ≡ true → outcomeSlot r ≡ outcomeSlot (x .op) → ⊥
     pub new : inCut old x ≡ false → outcomeSlot (x .op) ≡ outcomeSlot r
 
@@ -135,9 +135,9 @@ module _ (log : Log) (good : GoodLog log) (r : Op) (h : Admits log r) where
       let b = in-range log r good h in
       rw (count-held more s, count-held log s, ops-other log r (good .eight) (b .0) (b .1) s l ne)
 
-  told : Each Told (ordered more (countsOf more))
+  told : Each NewOrOld (ordered more (countsOf more))
   unfolding stamp outcomeSlot slot
-  told = ordered-each more (countsOf more) Told (λ s q l u lq uq.
+  told = ordered-each more (countsOf more) NewOrOld (λ s q l u lq uq.
       let b = in-range log r good h in
       let x = good-ops good-more s q l u lq uq in
       let few = good-more .counts s l u in
@@ -161,11 +161,11 @@ module _ (log : Log) (good : GoodLog log) (r : Op) (h : Admits log r) where
   abbrev order : List ℕ
   order = orderOf more (countsOf more)
 
-  not-before : (xs : List Stamped) → Each Told xs → Each (λ x. inCut old x ≡ true) xs
+  not-before : (xs : List Stamped) → Each NewOrOld xs → Each (λ x. inCut old x ≡ true) xs
       → isIn (outcomeSlot r) (map (λ (x : Stamped). outcomeSlot (x .op)) xs) ≡ false
   not-before xs t c = fails _ (λ e. each-in (λ i. outcomeSlot r ≡ i → ⊥) (map (λ (x : Stamped). outcomeSlot (x .op)) xs)
       (each-of-map (λ i. outcomeSlot r ≡ i → ⊥) (λ (x : Stamped). outcomeSlot (x .op)) xs
-      (each-map _ _ xs (λ x y. y .0 .before (y .1)) (each-both Told (λ x. inCut old x ≡ true) xs t c))) (outcomeSlot r) e refl)
+      (each-map _ _ xs (λ x y. y .0 .before (y .1)) (each-both NewOrOld (λ x. inCut old x ≡ true) xs t c))) (outcomeSlot r) e refl)
 
   module _ (i : ℕ) (at : FirstNew more old i) where
     abbrev ys : List Stamped
@@ -184,7 +184,7 @@ module _ (log : Log) (good : GoodLog log) (r : Op) (h : Admits log r) where
     parts = sym (take-append-drop i ys) ∙ ap (λ zs. take i ys ++ zs) (drop-cons ys i noOp within)
 
     own : outcomeSlot (it .op) ≡ outcomeSlot r
-    own = each-at Told ys noOp i told within .new (at .here within)
+    own = each-at NewOrOld ys noOp i told within .new (at .here within)
 
     front-size : length (slots-of (take i ys)) ≡ i
     front-size = length-map (take i ys) _ ∙ length-take-le i ys (at .inside)
@@ -194,7 +194,7 @@ module _ (log : Log) (good : GoodLog log) (r : Op) (h : Admits log r) where
     unfolding orderOf indexOf
     place-is =
         let rest : List Stamped = drop (suc i) ys in
-        let t : Each Told (take i ys) = each-left Told (take i ys) (drop i ys) (rw (take-append-drop i ys) told) in
+        let t : Each NewOrOld (take i ys) = each-left NewOrOld (take i ys) (drop i ys) (rw (take-append-drop i ys) told) in
         let c = front-each more good-more old old-cut one-more i at in
         let first : indexOf (outcomeSlot r) (slots-of (it ∷ rest)) ≡ 0 = rw (eq-eqb (outcomeSlot r) (outcomeSlot (it .op)) (sym own)) in
         ap (λ zs. indexOf (outcomeSlot r) (slots-of zs)) parts

@@ -37,8 +37,8 @@ use Rattle.order.proofs.LevelLaws.{whole-cut}
 use Rattle.order.proofs.OnceLaws.{ordered-length}
 use Rattle.order.proofs.OrderLaws.{ordered-each}
 use Rattle.order.proofs.PartLaws.{inCut}
-use Rattle.page_rules.specs.Page.{Page, deliverPageAnswer, filled, issuePageAnswer, longEnough, padded, pageAt, pageOf, pageWith, shows, sortAfter, takenWith, tookBack, withPage}
-use Rattle.page_rules.specs.Claims.{GoesWith, IssuedLast, Kept, PagesKept, PagesLeft, SortsIn, TooShort, isTrue}
+use Rattle.page_rules.specs.Page.{Page, deliverPageAnswer, pageFilled, issuePageAnswer, longEnough, padded, pageAt, pageOf, pageWith, shows, sortAfter, takenWith, tookBack, withPage}
+use Rattle.page_rules.specs.Claims.{GoesWith, IssuedLast, PageKept, PagesKept, PagesLeft, SortsIn, TooShort, isTrue}
 use Rattle.page_rules.proofs.FewLaws.{few-ordered, page-delivered, page-issued}
 use Rattle.page_rules.proofs.PageLaws.{behind-is, good-more, one-more, other-count, own-count, next, sorts-in}
 
@@ -132,13 +132,13 @@ module _ (f : List ℕ) (r : Op) (n : ℕ) (h : Admitted width f r n) (lent : Pa
   abbrev new : Page
   new = pageOf (append log r)
 
-  order-new : filled lent new .order ≡ padded (orderOf (logOf width after) (countsOf (logOf width after))) ++ drop mostOps (lent .order)
-  unfolding filled pageOf pageAt
+  order-new : pageFilled lent new .order ≡ padded (orderOf (logOf width after) (countsOf (logOf width after))) ++ drop mostOps (lent .order)
+  unfolding pageFilled pageOf pageAt
   order-new = rw log-after
 
   judged-new : judge width after (lent .parents) (lent .outcomes)
-      ≡ record { answer = done; parents = filled lent new .parents; outcomes = filled lent new .outcomes }
-  unfolding judge judgeAnswer require filled pageOf pageAt parentsOf outcomesOf
+      ≡ record { answer = done; parents = pageFilled lent new .parents; outcomes = pageFilled lent new .outcomes }
+  unfolding judge judgeAnswer require pageFilled pageOf pageAt parentsOf outcomesOf
   judged-new = rw (appended-sound width f r n h, long-tables, log-after)
 
   -- each table of a page has its length
@@ -156,8 +156,8 @@ module _ (f : List ℕ) (r : Op) (n : ℕ) (h : Admitted width f r n) (lent : Pa
   unfolding pageOf pageAt
   outcomes-long = tables-full (append log r) (countsOf (append log r)) .outcomes-full
 
-  true-new : isTrue after (filled lent new) ≡ true
-  unfolding isTrue shows filled
+  true-new : isTrue after (pageFilled lent new) ≡ true
+  unfolding isTrue shows pageFilled
   true-new =
       rw (
         log-after,
@@ -177,7 +177,7 @@ module _ (f : List ℕ) (r : Op) (n : ℕ) (h : Admitted width f r n) (lent : Pa
   unfolding isTrue tookBack
   took-all e = rw e
 
-  kept : Kept f r lent after (filled lent (pageOf (append log r))) (tookBack log lent r)
+  kept : PageKept f r lent after (pageFilled lent (pageOf (append log r))) (tookBack log lent r)
   kept = record {
     fresh = record { order = order-new; judged = judged-new };
     is-true = true-new;
@@ -193,7 +193,7 @@ with-long f lent a n e = required _ _ _ n (required _ _ _ n e .1) .0
 
 module _ (f : List ℕ) (r : Op) (lent : Page) (a : Answer) where
   kept-with : (n : ℕ) → a ≡ accepted n → Admitted width f r n → longEnough lent ≡ true
-      → Kept f r lent (ifAccepted a (appended width f r) f) (pageWith width f lent r a) (takenWith width f lent r a)
+      → PageKept f r lent (ifAccepted a (appended width f r) f) (pageWith width f lent r a) (takenWith width f lent r a)
   unfolding pageWith takenWith
   kept-with n e h long = rw e (kept f r n h lent long)
 

@@ -28,14 +28,14 @@ pub record SortsIn (log : Log) (r : Op) (behind : ℕ) : Type 0 where
   pub after : behind ≡ length (drop place (orderOf log (countsOf log)))
 
 -- "the page equals a fresh judgement": the order of the log, and what judging puts into the lent tables; entries behind are as before
-pub record Fresh (f : List ℕ) (lent page : Page) : Type 0 where
+pub record FreshPage (f : List ℕ) (lent page : Page) : Type 0 where
   pub order : page .order ≡ padded (orderOf (logOf width f) (countsOf (logOf width f))) ++ drop mostOps (lent .order)
   pub judged : judge width f (lent .parents) (lent .outcomes)
       ≡ record { answer = done; parents = page .parents; outcomes = page .outcomes }
 
 -- what a call that accepts, and so adds r to the log in f, leaves and reports
-pub record Kept (f : List ℕ) (r : Op) (lent : Page) (after : List ℕ) (page : Page) (taken : ℕ) : Type 0 where
-  pub fresh : Fresh after lent page
+pub record PageKept (f : List ℕ) (r : Op) (lent : Page) (after : List ℕ) (page : Page) (taken : ℕ) : Type 0 where
+  pub fresh : FreshPage after lent page
   pub is-true : isTrue after page ≡ true
   -- "the number of held records sorting after the new one"
   pub behind : isTrue f lent ≡ true → SortsIn (logOf width f) r taken
@@ -45,9 +45,9 @@ pub record Kept (f : List ℕ) (r : Op) (lent : Page) (after : List ℕ) (page :
 -- "after every such call that accepts"
 pub record PagesKept : Type 0 where
   pub delivering : (f r : List ℕ) (lent : Page) (n : ℕ) → deliverPage width f r lent .answer ≡ accepted n
-      → let c = deliverPage width f r lent in Kept f r lent (c .buffer) (c .page) (c .taken)
+      → let c = deliverPage width f r lent in PageKept f r lent (c .buffer) (c .page) (c .taken)
   pub issuing : (f out : List ℕ) (s : ℕ) (q : Request) (lent : Page) (n : ℕ) → issuePage width f out s q lent .answer ≡ accepted n
-      → let c = issuePage width f out s q lent in Kept f (issued (logOf width f) s q) lent (c .buffer) (c .page) (c .taken)
+      → let c = issuePage width f out s q lent in PageKept f (issued (logOf width f) s q) lent (c .buffer) (c .page) (c .taken)
 
 -- "a refusal or had it leaves the page unchanged", and takes no op back
 pub record PagesLeft : Type 0 where

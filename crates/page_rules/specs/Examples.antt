@@ -17,7 +17,7 @@ use Rattle.rules.specs.Op.{Op, replicas, isReplica, countIn, kindOf, replicaOf,
 use Rattle.rules.specs.Replay.{opsWithin, addedIn, removedIn, timestampIn, timestamp, stamp, stamped, ofReplica, ofKind, ofTime, byTime, ordered, start, outcomeSlot, orderOf, outcomeOf, step, replay, parentsOf}
 use Rattle.rules.specs.Sound.{sound}
 use Rattle.rules.specs.Examples.{a₁, a₂, a₃, b₁, ofOps, p1, p1Adds, p11, p11One, p11Two, siblings, three, vector}
-use Rattle.page_rules.specs.Page.{Page, page, padded, pageAt, pageOf, longEnough, shows, filled, sortAfter, tookBack, withPage, takenWith, pageWith, deliverPageAnswer, deliverPage, issuePageAnswer, issuePage}
+use Rattle.page_rules.specs.Page.{Page, page, padded, pageAt, pageOf, longEnough, shows, pageFilled, sortAfter, tookBack, withPage, takenWith, pageWith, deliverPageAnswer, deliverPage, issuePageAnswer, issuePage}
 
 -- the file of a log, with room for one op more
 abbrev roomy : Log → List ℕ
@@ -150,7 +150,7 @@ unfolding ofOps table p1 p1Adds p1Early p1Other p11 p11Early p11First rivalsEarl
     soundOps soundLog soundHeader laid structural sound isHeld heldAnswer admitAnswer deliverAnswer slot slotOf parentIn climb path depth
     atOrBelow opsWithin addedIn removedIn timestampIn timestamp stamp stamped ofReplica ofKind ofTime byTime ordered start outcomeSlot orderOf
     outcomeOf step replay parentsOf opBytes moveKind issued requestKnown requestUnmarked requestClear issueAnswer padded pageAt pageOf
-    longEnough shows filled sortAfter tookBack withPage takenWith pageWith deliverPageAnswer issuePageAnswer
+    longEnough shows pageFilled sortAfter tookBack withPage takenWith pageWith deliverPageAnswer issuePageAnswer
 table-holds =
     (refl, refl, refl, refl) & (refl, refl, refl, refl) & (refl, refl, refl, refl) & (refl, refl, refl, refl)
     & (refl, refl, refl, refl) & (refl, refl, refl, refl) & (refl, refl, refl, refl) & (refl, refl, refl, refl)

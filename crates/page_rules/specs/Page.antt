@@ -49,8 +49,8 @@ shows lent x =
     && same (take slots (lent .outcomes)) (x .outcomes)
 
 -- lent tables with a page in their first entries; what is lent beyond stays
-unfoldable pub filled : (lent page : Page) → Page
-filled lent x =
+unfoldable pub pageFilled : (lent page : Page) → Page
+pageFilled lent x =
     page (x .order ++ drop mostOps (lent .order)) (x .parents ++ drop slots (lent .parents)) (x .outcomes ++ drop slots (lent .outcomes))
 
 ---- the report
@@ -91,7 +91,7 @@ unfoldable pub takenWith : ℕ → (buffer : List ℕ) → (lent : Page) → Op 
 takenWith w f lent r a = ifAccepted a (tookBack (logOf w f) lent r) 0
 
 unfoldable pub pageWith : ℕ → (buffer : List ℕ) → (lent : Page) → Op → Answer → Page
-pageWith w f lent r a = ifAccepted a (filled lent (pageOf (append (logOf w f) r))) lent
+pageWith w f lent r a = ifAccepted a (pageFilled lent (pageOf (append (logOf w f) r))) lent
 
 unfoldable pub deliverPageAnswer : ℕ → (buffer op : List ℕ) → (lent : Page) → Answer
 deliverPageAnswer w f r lent = withPage w f lent (deliverAnswer w f r)

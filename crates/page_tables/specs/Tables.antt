@@ -6,10 +6,10 @@ use lib.ListN.{drop, length, take}
 use Rattle.rules.specs.Tree.{mostOps, slots}
 
 -- an order without the entry at a place: those behind it move up, and 0 is the last
-unfoldable pub without : ℕ → List ℕ → List ℕ
-without i xs = take i xs ++ (drop (suc i) xs ++ (0 ∷ []))
+unfoldable pub orderWithout : ℕ → List ℕ → List ℕ
+orderWithout i xs = take i xs ++ (drop (suc i) xs ++ (0 ∷ []))
 
-pub record Entry (order : List ℕ) (place j : ℕ) : Type 0 where
+pub record OrderEntry (order : List ℕ) (place j : ℕ) : Type 0 where
   pub whole : length order ≡ mostOps
   pub inside : place < mostOps
   pub entry : j < mostOps
@@ -20,7 +20,7 @@ pub record OrderLent (lent order : List ℕ) (place : ℕ) : Type 0 where
   pub inside : place < mostOps
 
 -- lent tables have room for every page
-pub record Lent (s p o : List ℕ) : Type 0 where
+pub record LongPage (s p o : List ℕ) : Type 0 where
   pub order : mostOps ≤ length s
   pub parents : slots ≤ length p
   pub outcomes : slots ≤ length o
@@ -31,10 +31,10 @@ pub record Judged (s p o : List ℕ) : Type 0 where
   pub parents : length p ≡ slots
   pub outcomes : length o ≡ slots
 
-pub record Fillable (ls lp lo s p o : List ℕ) : Type 0 where
-  pub lent : Lent ls lp lo
+pub record FillablePage (ls lp lo s p o : List ℕ) : Type 0 where
+  pub lent : LongPage ls lp lo
   pub judged : Judged s p o
 
 pub record Comparable (ls lp lo s : List ℕ) (place : ℕ) (p o : List ℕ) : Type 0 where
-  pub fillable : Fillable ls lp lo s p o
+  pub fillable : FillablePage ls lp lo s p o
   pub inside : place < mostOps

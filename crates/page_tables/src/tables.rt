@@ -7,10 +7,10 @@ ghost use mathlib.Core.List.{_++_};
 ghost use Prim.Native.Nat.{_≤_};
 ghost use lib.ListN.{drop, getD, length, take};
 ghost use Rattle.lists.specs.Lists.{same};
-ghost use Rattle.page_rules.specs.Page.{filled, page};
+ghost use Rattle.page_rules.specs.Page.{pageFilled, page};
 ghost use Rattle.rules.specs.Tree.{mostOps};
 ghost use Rattle.page_rules.specs.Page as rules;
-ghost use Rattle.page_tables.specs.Tables.{Comparable, Entry, Fillable, OrderLent, without};
+ghost use Rattle.page_tables.specs.Tables.{Comparable, OrderEntry, FillablePage, OrderLent, orderWithout};
 
 // Whether lent tables have room for every page.
 pub fn long_enough(order: &[u16], parents: &[u16], outcomes: &[u8]) -> bool
@@ -50,8 +50,8 @@ fn put_words(table: &mut [u16], words: &[u16])
 
 // Entry j of an order without the one at a place: those behind it move up, and 0 is the last.
 fn entry_without(order: &[u16], place: usize, j: usize) -> u16
-    requires { ⌜ Entry (now order) place j ⌝ }
-    ensures { λ r. ⌜ r ≡ getD (without place (now (order .entry))) j 0 ⌝ }
+    requires { ⌜ OrderEntry (now order) place j ⌝ }
+    ensures { λ r. ⌜ r ≡ getD (orderWithout place (now (order .entry))) j 0 ⌝ }
 {
     if j < place {
         return order[j];
@@ -65,7 +65,7 @@ fn entry_without(order: &[u16], place: usize, j: usize) -> u16
 // Whether a lent order is this one without the entry at a place.
 fn order_shows(lent: &[u16], order: &[u16], place: usize) -> bool
     requires { ⌜ OrderLent (now lent) (now order) place ⌝ }
-    ensures { λ r. ⌜ r ≡ same (take mostOps (now (lent .entry))) (without place (now (order .entry))) ⌝ }
+    ensures { λ r. ⌜ r ≡ same (take mostOps (now (lent .entry))) (orderWithout place (now (order .entry))) ⌝ }
 {
     for j in 0..OPS {
         if lent[j] != entry_without(order, place, j) {
@@ -87,7 +87,7 @@ pub fn shows(
 ) -> bool
     requires { ⌜ Comparable (now order) (now parents) (now outcomes) (now slots) place (now tree) (now results) ⌝ }
     ensures { λ r. ⌜ r ≡ rules.shows (page (now (order .entry)) (now (parents .entry)) (now (outcomes .entry)))
-        (page (without place (now (slots .entry))) (now (tree .entry)) (now (results .entry))) ⌝ }
+        (page (orderWithout place (now (slots .entry))) (now (tree .entry)) (now (results .entry))) ⌝ }
 {
     if !order_shows(order, slots, place) {
         return false;
@@ -108,9 +108,9 @@ pub fn fill(
     tree: &[u16],
     results: &[u8],
 )
-    requires { ⌜ Fillable (now order) (now parents) (now outcomes) (now slots) (now tree) (now results) ⌝ }
+    requires { ⌜ FillablePage (now order) (now parents) (now outcomes) (now slots) (now tree) (now results) ⌝ }
     ensures { λ _. ⌜ page (now (order .exit)) (now (parents .exit)) (now (outcomes .exit))
-        ≡ filled (page (now (order .entry)) (now (parents .entry)) (now (outcomes .entry)))
+        ≡ pageFilled (page (now (order .entry)) (now (parents .entry)) (now (outcomes .entry)))
         (page (now (slots .entry)) (now (tree .entry)) (now (results .entry))) ⌝ }
 {
     put_words(order, slots);

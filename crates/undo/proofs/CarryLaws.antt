@@ -22,9 +22,10 @@ use Rattle.rules.proofs.StructureLaws.{structural-good}
 use Rattle.order.specs.Undo.{replayKeeping, stepKeeping, takeBack}
 use Rattle.order.proofs.CarryLaws.{Agrees, carried}
 use Rattle.order.proofs.PartLaws.{inCut}
-use Rattle.order.proofs.UndoLaws.{opsOf}
+use Rattle.order.proofs.UndoLaws.{opsIn}
 use Rattle.replay.specs.Tables.{opAlong}
-use Rattle.undo.specs.Tables.{IsSlot, Named, TimedWalk, opsAlong, slotCounted, timedAlong, undoable}
+use Rattle.undo.specs.Tables.{OpThere, TimedSlotWalk, opsAlong, slotCounted, timedAlong, undoable}
+use Rattle.order.specs.Undo.{IsSlot}
 use Rattle.undo.proofs.KeepLaws.{counted-slot, kept-taken}
 use Rattle.undo.specs.Carried.{Carriable, FirstBeyond, Schedules, Slots}
 
@@ -75,13 +76,13 @@ module _ (w : ℕ) (f order times : List ℕ) (from to : ℕ) (whole : Vector) (
   unfolding timedAlong
   timed-are = ap (filter (inCut cut)) (sym (drop-places (opAlong (logOf w f) order times) to from h) ∙ ap (drop from) (x .ops))
 
-  pub ops-are : opsAlong (logOf w f) cut order from to ≡ opsOf (filter (inCut cut) (drop from xs))
+  pub ops-are : opsAlong (logOf w f) cut order from to ≡ opsIn (filter (inCut cut) (drop from xs))
   unfolding opsAlong timedAlong opAlong
   ops-are =
       ap (filter (λ (r : Op). counted cut r))
       (sym (map-map (λ (y : Stamped). y .op) (opAlong (logOf w f) order times) (upFrom from (to - from))))
       ∙ filter-map (λ (r : Op). counted cut r) (λ (y : Stamped). y .op) (map (opAlong (logOf w f) order times) (upFrom from (to - from)))
-      ∙ ap opsOf timed-are
+      ∙ ap opsIn timed-are
 
 module _ (w : ℕ) (f : List ℕ) (before after : Vector) (order times : List ℕ) (from to : ℕ) (p o l t b : List ℕ)
     (x : Carriable w f before after order times from to p o l t b) where
@@ -97,12 +98,12 @@ module _ (w : ℕ) (f : List ℕ) (before after : Vector) (order times : List �
       rw (← x .schedules .ops, take-places (opAlong log order times) to from (x .ends))
       (each-of-map (λ y. inCut after y ≡ true → inCut before y ≡ true) (opAlong log order times) (upFrom 0 from)
       (each-range _ from 0 (λ i a c e.
-      let n : Named w f (getD order i 0) = record { is-structural = st; in-slot = x .walk .walk .in-slots i (omega (arith, x .ends)) } in
+      let n : OpThere w f (getD order i 0) = record { is-structural = st; in-slot = x .walk .walk .in-slots i (omega (arith, x .ends)) } in
       counted-slot w f (getD order i 0) n before ∙ x .agrees i (omega arith) (sym (counted-slot w f (getD order i 0) n after) ∙ e))))
 
   module _ (p′ o′ l′ t′ b′ : List ℕ)
       (back : undoable p′ o′ l′ t′ b′ ≡ takeBack (undoable p o l t b) (opsAlong log before order from to)) where
-    pub judge-asks : TimedWalk w f order times to p′ o′ l′ t′ b′
+    pub judge-asks : TimedSlotWalk w f order times to p′ o′ l′ t′ b′
     judge-asks = record {
       walk = record {
         is-structural = st;

@@ -19,11 +19,12 @@ use Rattle.oplog.proofs.HeldLaws.{held-op}
 use Rattle.tree.specs.Slots.{opIn, replicaIn, sequenceIn, slotPlace}
 use Rattle.effect.specs.Effects.{Applicable, stampedAt, tables}
 use Rattle.effect.proofs.EffectLaws.{named-below, own-below, slot-own}
-use Rattle.undo.specs.Tables.{IsSlot, Keepable, Kept, Named, slotCounted, undoable}
+use Rattle.undo.specs.Tables.{Keepable, AllSized, OpThere, slotCounted, undoable}
+use Rattle.order.specs.Undo.{IsSlot}
 
 ---- the slot that an op names
 
-module _ (w : ℕ) (f : List ℕ) (i : ℕ) (x : Named w f i) where
+module _ (w : ℕ) (f : List ℕ) (i : ℕ) (x : OpThere w f i) where
   abbrev op : Op
   op = opIn (logOf w f) i
 
@@ -117,7 +118,7 @@ module _ (w : ℕ) (f : List ℕ) (i : ℕ) (p o l t b : List ℕ) (x : Keepable
 ---- the tables keep their size
 
 abbrev KeptIn : Undoable → Type 0
-KeptIn k = Kept (k .state .parents) (k .state .outcomes) (k .state .placed) (k .took) (k .was)
+KeptIn k = AllSized (k .state .parents) (k .state .outcomes) (k .state .placed) (k .took) (k .was)
 
 kept-step : (k : Undoable) (x : Stamped) → KeptIn k → KeptIn (stepKeeping k x)
 unfolding stepKeeping
@@ -150,7 +151,7 @@ kept-either : (c : Bool) (y z : Undoable) → KeptIn y → KeptIn z → KeptIn (
 kept-either true y z a b = a
 kept-either false y z a b = b
 
-kept-same : (p o l t b : List ℕ) (k : Undoable) → undoable p o l t b ≡ k → KeptIn k → Kept p o l t b
+kept-same : (p o l t b : List ℕ) (k : Undoable) → undoable p o l t b ≡ k → KeptIn k → AllSized p o l t b
 kept-same p o l t b k is h = rw (← is) at h
 
 kept-all : (rs : List Op) (k : Undoable) → KeptIn k → KeptIn (takeBack k rs)
@@ -158,8 +159,8 @@ unfolding takeBack
 kept-all [] k h = h
 kept-all (r ∷ rs) k h = kept-undo (takeBack k rs) r (kept-all rs k h)
 
-pub kept-taken : (p o l t b : List ℕ) → Kept p o l t b → (rs : List Op) (p′ o′ l′ t′ b′ : List ℕ)
-    → undoable p′ o′ l′ t′ b′ ≡ takeBack (undoable p o l t b) rs → Kept p′ o′ l′ t′ b′
+pub kept-taken : (p o l t b : List ℕ) → AllSized p o l t b → (rs : List Op) (p′ o′ l′ t′ b′ : List ℕ)
+    → undoable p′ o′ l′ t′ b′ ≡ takeBack (undoable p o l t b) rs → AllSized p′ o′ l′ t′ b′
 kept-taken p o l t b h rs p′ o′ l′ t′ b′ is = kept-same p′ o′ l′ t′ b′ _ is (kept-all rs (undoable p o l t b) h)
 
 kept-run : (xs : List Stamped) (k : Undoable) → KeptIn k → KeptIn (foldl stepKeeping k xs)
@@ -174,21 +175,21 @@ kept-first = record {
   was = length-replicate {A = ℕ} slots 0;
 }
 
-pub kept-unjudged : (p o l t b : List ℕ) → undoable p o l t b ≡ unjudged → Kept p o l t b
+pub kept-unjudged : (p o l t b : List ℕ) → undoable p o l t b ≡ unjudged → AllSized p o l t b
 kept-unjudged p o l t b is = kept-same p o l t b unjudged is kept-first
 
-pub kept-replay : (log : Log) (cut : Vector) (p o l t b : List ℕ) → undoable p o l t b ≡ replayKeeping log cut → Kept p o l t b
+pub kept-replay : (log : Log) (cut : Vector) (p o l t b : List ℕ) → undoable p o l t b ≡ replayKeeping log cut → AllSized p o l t b
 unfolding replayKeeping
 kept-replay log cut p o l t b is = kept-same p o l t b _ is (kept-run (ordered log cut) unjudged kept-first)
 
-module _ (p o l t b : List ℕ) (h : Kept p o l t b) (c : Bool) (p′ o′ l′ t′ b′ : List ℕ) where
+module _ (p o l t b : List ℕ) (h : AllSized p o l t b) (c : Bool) (p′ o′ l′ t′ b′ : List ℕ) where
   abbrev now : Undoable
   now = undoable p o l t b
 
-  pub kept-on : (x : Stamped) → undoable p′ o′ l′ t′ b′ ≡ cond c (stepKeeping now x) now → Kept p′ o′ l′ t′ b′
+  pub kept-on : (x : Stamped) → undoable p′ o′ l′ t′ b′ ≡ cond c (stepKeeping now x) now → AllSized p′ o′ l′ t′ b′
   kept-on x is = kept-same p′ o′ l′ t′ b′ _ is (kept-either c (stepKeeping now x) now (kept-step now x h) h)
 
-  pub kept-back : (r : Op) → undoable p′ o′ l′ t′ b′ ≡ cond c (undo now r) now → Kept p′ o′ l′ t′ b′
+  pub kept-back : (r : Op) → undoable p′ o′ l′ t′ b′ ≡ cond c (undo now r) now → AllSized p′ o′ l′ t′ b′
   kept-back r is = kept-same p′ o′ l′ t′ b′ _ is (kept-either c (undo now r) now (kept-undo now r h) h)
 
 ---- what the code of one op needs: search keeping

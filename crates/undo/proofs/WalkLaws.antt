@@ -19,7 +19,7 @@ use Rattle.order.proofs.UndoLaws.{take-back-last}
 use Rattle.tree.specs.Slots.{opIn}
 use Rattle.effect.specs.Effects.{stampedAt}
 use Rattle.replay.specs.Tables.{opAlong}
-use Rattle.undo.specs.Tables.{Keepable, Kept, TimedWalk, Walk, opsAlong, timedAlong, undoable}
+use Rattle.undo.specs.Tables.{Keepable, AllSized, TimedSlotWalk, SlotWalk, opsAlong, timedAlong, undoable}
 use Rattle.undo.proofs.KeepLaws.{kept-back, kept-on}
 
 ---- forth
@@ -50,11 +50,11 @@ module _ (log : Log) (cut : Vector) (order times : List ℕ) (to : ℕ) where
 -- what the loop has left: all from k is the rest, from place i on, from the tables as they are now
 pub record Ahead (log : Log) (cut : Vector) (order times : List ℕ) (from to : ℕ) (k : Undoable) (p o l t b : List ℕ) (i : ℕ)
     : Type 0 where
-  pub kept : Kept p o l t b
+  pub kept : AllSized p o l t b
   pub left : foldl stepKeeping k (timedAlong log cut order times from to)
       ≡ foldl stepKeeping (undoable p o l t b) (timedAlong log cut order times i to)
 
-module _ (w : ℕ) (f order times : List ℕ) (to : ℕ) (p₀ o₀ l₀ t₀ b₀ : List ℕ) (x : TimedWalk w f order times to p₀ o₀ l₀ t₀ b₀) where
+module _ (w : ℕ) (f order times : List ℕ) (to : ℕ) (p₀ o₀ l₀ t₀ b₀ : List ℕ) (x : TimedSlotWalk w f order times to p₀ o₀ l₀ t₀ b₀) where
   pub ahead-starts : (cut : Vector) (from : ℕ)
       → Ahead (logOf w f) cut order times from to (undoable p₀ o₀ l₀ t₀ b₀) p₀ o₀ l₀ t₀ b₀ from
   ahead-starts cut from = record { kept = x .walk .kept; left = refl }
@@ -65,7 +65,7 @@ module _ (w : ℕ) (f order times : List ℕ) (to : ℕ) (p₀ o₀ l₀ t₀ b�
   pub ahead-times : (i : ℕ) → i < to → i < length times
   ahead-times i h = omega (arith, x .times-long)
 
-  pub ahead-asks : (i j : ℕ) → i < to → j ≡ getD order i 0 → (p o l t b : List ℕ) → Kept p o l t b → Keepable w f j p o l t b
+  pub ahead-asks : (i j : ℕ) → i < to → j ≡ getD order i 0 → (p o l t b : List ℕ) → AllSized p o l t b → Keepable w f j p o l t b
   ahead-asks i j h e p o l t b z = record {
     named = record { is-structural = x .walk .is-structural; in-slot = rw e (x .walk .in-slots i h) };
     kept = z;
@@ -124,13 +124,13 @@ module _ (log : Log) (cut : Vector) (order : List ℕ) (from : ℕ) where
 -- what the loop has left: taking back all from k is taking back the rest, up to place j, from the tables as they are now
 pub record Behind (log : Log) (cut : Vector) (order : List ℕ) (from to : ℕ) (k : Undoable) (p o l t b : List ℕ) (taken j : ℕ)
     : Type 0 where
-  pub kept : Kept p o l t b
+  pub kept : AllSized p o l t b
   pub few : to ≤ mostOps
   pub inside : taken + j ≤ to
   pub left : takeBack k (opsAlong log cut order from to) ≡ takeBack (undoable p o l t b) (opsAlong log cut order from j)
   pub count : taken + length (opsAlong log cut order from j) ≡ length (opsAlong log cut order from to)
 
-module _ (w : ℕ) (f order : List ℕ) (to : ℕ) (p₀ o₀ l₀ t₀ b₀ : List ℕ) (x : Walk w f order to p₀ o₀ l₀ t₀ b₀) where
+module _ (w : ℕ) (f order : List ℕ) (to : ℕ) (p₀ o₀ l₀ t₀ b₀ : List ℕ) (x : SlotWalk w f order to p₀ o₀ l₀ t₀ b₀) where
   pub behind-starts : (cut : Vector) (from : ℕ)
       → Behind (logOf w f) cut order from to (undoable p₀ o₀ l₀ t₀ b₀) p₀ o₀ l₀ t₀ b₀ 0 to
   behind-starts cut from = record { kept = x .kept; few = x .few; inside = omega arith; left = refl; count = omega arith }

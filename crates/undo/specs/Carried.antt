@@ -11,7 +11,8 @@ use Rattle.rules.specs.Log.{covered}
 use Rattle.rules.specs.Replay.{ordered}
 use Rattle.order.specs.Undo.{replayKeeping}
 use Rattle.replay.specs.Tables.{opAlong}
-use Rattle.undo.specs.Tables.{IsSlot, TimedWalk, slotCounted, undoable}
+use Rattle.undo.specs.Tables.{TimedSlotWalk, slotCounted, undoable}
+use Rattle.order.specs.Undo.{IsSlot}
 
 -- the first n entries of a table are slots
 pub record Slots (order : List ℕ) (n : ℕ) : Type 0 where
@@ -32,7 +33,7 @@ pub record Schedules (w : ℕ) (f order times : List ℕ) (to : ℕ) (whole : Ve
 -- the replay of a cut, which another within the order exceeds, but by nothing before a place
 pub record Carriable (w : ℕ) (f : List ℕ) (before after : Vector) (order times : List ℕ) (from to : ℕ) (p o l t b : List ℕ)
     : Type 0 where
-  pub walk : TimedWalk w f order times to p o l t b
+  pub walk : TimedSlotWalk w f order times to p o l t b
   pub whole : Vector
   pub schedules : Schedules w f order times to whole
   pub ends : from ≤ to

@@ -36,33 +36,29 @@ timedAlong log cut order times from to =
 
 ---- what the functions ask
 
-pub record IsSlot (i : ℕ) : Type 0 where
-  pub some : 1 ≤ i
-  pub most : i ≤ mostOps
-
 -- a structurally sound file has an op in a slot
-pub record Named (w : ℕ) (f : List ℕ) (i : ℕ) : Type 0 where
+pub record OpThere (w : ℕ) (f : List ℕ) (i : ℕ) : Type 0 where
   pub is-structural : structural w f ≡ true
   pub in-slot : InSlot w f i
 
 -- the tables have their size
-pub record Kept (p o l t b : List ℕ) : Type 0 where
+pub record AllSized (p o l t b : List ℕ) : Type 0 where
   pub sized : Sized p o l
   pub took : length t ≡ slots
   pub was : length b ≡ slots
 
 pub record Keepable (w : ℕ) (f : List ℕ) (i : ℕ) (p o l t b : List ℕ) : Type 0 where
-  pub named : Named w f i
-  pub kept : Kept p o l t b
+  pub named : OpThere w f i
+  pub kept : AllSized p o l t b
 
 -- it has one in each slot of a table up to a place
-pub record Walk (w : ℕ) (f order : List ℕ) (to : ℕ) (p o l t b : List ℕ) : Type 0 where
+pub record SlotWalk (w : ℕ) (f order : List ℕ) (to : ℕ) (p o l t b : List ℕ) : Type 0 where
   pub is-structural : structural w f ≡ true
   pub few : to ≤ mostOps
   pub order-long : to ≤ length order
   pub in-slots : (i : ℕ) → i < to → InSlot w f (getD order i 0)
-  pub kept : Kept p o l t b
+  pub kept : AllSized p o l t b
 
-pub record TimedWalk (w : ℕ) (f order times : List ℕ) (to : ℕ) (p o l t b : List ℕ) : Type 0 where
-  pub walk : Walk w f order to p o l t b
+pub record TimedSlotWalk (w : ℕ) (f order times : List ℕ) (to : ℕ) (p o l t b : List ℕ) : Type 0 where
+  pub walk : SlotWalk w f order to p o l t b
   pub times-long : to ≤ length times

@@ -13,7 +13,8 @@ ghost use Rattle.rules.specs.Op.{counted};
 ghost use Rattle.order.specs.Undo.{stepKeeping, takeBack, undo};
 ghost use Rattle.tree.specs.Slots.{opIn};
 ghost use Rattle.effect.specs.Effects.{stampedAt};
-ghost use Rattle.undo.specs.Tables.{IsSlot, Keepable, TimedWalk, Walk, opsAlong, slotCounted, timedAlong, undoable};
+ghost use Rattle.undo.specs.Tables.{Keepable, TimedSlotWalk, SlotWalk, opsAlong, slotCounted, timedAlong, undoable};
+ghost use Rattle.order.specs.Undo.{IsSlot};
 
 // Whether a cut counts the op of a slot.
 pub(crate) fn counts_slot(cut: [u8; 8], slot: usize) -> bool
@@ -77,7 +78,7 @@ pub fn judge_along(
     was: &mut [u16],
     width: usize,
 )
-    requires { ⌜ TimedWalk width (now file) (now order) (now times) to (now parents) (now outcomes) (now placed) (now took) (now was) ⌝ }
+    requires { ⌜ TimedSlotWalk width (now file) (now order) (now times) to (now parents) (now outcomes) (now placed) (now took) (now was) ⌝ }
     ensures { λ _. ⌜ undoable (now (parents .exit)) (now (outcomes .exit)) (now (placed .exit)) (now (took .exit)) (now (was .exit))
         ≡ foldl stepKeeping
         (undoable (now (parents .entry)) (now (outcomes .entry)) (now (placed .entry)) (now (took .entry)) (now (was .entry)))
@@ -143,7 +144,7 @@ pub(crate) fn take_back(
     was: &mut [u16],
     width: usize,
 ) -> usize
-    requires { ⌜ Walk width (now file) (now order) to (now parents) (now outcomes) (now placed) (now took) (now was) ⌝ }
+    requires { ⌜ SlotWalk width (now file) (now order) to (now parents) (now outcomes) (now placed) (now took) (now was) ⌝ }
     ensures { λ r. ⌜
         (undoable (now (parents .exit)) (now (outcomes .exit)) (now (placed .exit)) (now (took .exit)) (now (was .exit))
         ≡ takeBack

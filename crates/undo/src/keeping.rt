@@ -10,11 +10,11 @@ ghost use Rattle.rules.specs.Tree.{slotOf, slots};
 ghost use Rattle.order.specs.Undo.{stepKeeping, undo};
 ghost use Rattle.tree.specs.Slots.{opIn};
 ghost use Rattle.effect.specs.Effects.{stampedAt};
-ghost use Rattle.undo.specs.Tables.{Named, Keepable, undoable};
+ghost use Rattle.undo.specs.Tables.{OpThere, Keepable, undoable};
 
 // The slot of the node that the op of a slot names.
 fn named_slot(file: &[u8], slot: usize, width: usize) -> usize
-    requires { ⌜ Named width (now file) slot ⌝ }
+    requires { ⌜ OpThere width (now file) slot ⌝ }
     ensures { λ r. ⌜ (r ≡ slotOf (nodeOf (opIn (logOf width (now (file .entry))) slot))) × (r < slots) ⌝ }
 {
     let at = slot_place(file, slot, width);

@@ -3,13 +3,13 @@ use Rattle.page_tables.proofs.TableLaws.{tabling, Matched}
 use Prim.Native.Nat.{_-_}
 use lib.ListN.{take}
 use Rattle.rules.specs.Tree.{mostOps}
-use Rattle.page_tables.specs.Tables.{without}
+use Rattle.page_tables.specs.Tables.{orderWithout}
 use Rattle.page_tables.proofs.tables.order_shows.Statement.{statement}
 use Rattle.page_tables.proofs.tables.order_shows.Tie as tie
 
 abbrev Inv-loop : tie.InvT-loop
 Inv-loop lent order place j₀ j =
-    Matched (take mostOps lent) (without place order) mostOps j
+    Matched (take mostOps lent) (orderWithout place order) mostOps j
 
 abbrev μ-loop : tie.MeasureT-loop
 μ-loop lent order place j₀ j = mostOps - j
