@@ -58,7 +58,8 @@ takes-back w f st cut c place =
     let xs = ordered log cut in
     let whole : xs ≡ take place xs ++ drop place xs = sym (take-append-drop place xs) in
     ap (λ (ys : List Stamped). takeBack (foldl stepKeeping unjudged ys) (opsIn (drop place xs))) whole
-    ∙ take-back-after (take place xs) (drop place xs) (rw (← whole) (slots-in log good cut c)) (rw (← whole) (slots-distinct log good cut c))
+    ∙ take-back-after (take place xs) (drop place xs) (rw (← whole) (slots-in log good cut c))
+    (rw (← whole) (slots-distinct log good cut c))
 
 pub bounds-free : BoundsFree
 bounds-free w f s =

@@ -143,14 +143,15 @@ _&_ a b = (a, b)
 
 -- every row of the table holds
 pub table-holds : AllHold table
-unfolding ofOps table p1 p1Adds p1Early p1Other p11 p11Early p11First rivalsEarly require wordAt word upFrom downFrom sum greatest same concat
-    all any filter isIn indexOf replicas isReplica countIn kindOf replicaOf nodeOf parentOf vectorOf ownCount seqOf nodeNumber isAdd isRemove
-    isMove wellFormed emptyLog opsOf opAt countsOf append countAt startAt headerCounts startOf endOf fileEnd chunks chunksOf logOf headerEntry
-    headerOf fileOf appended within covered closedAt closed isKnown isMarked marked nodeWithin knowledge knownParent namesKnown soundOp
-    soundOps soundLog soundHeader laid structural sound isHeld heldAnswer admitAnswer deliverAnswer slot slotOf parentIn climb path depth
-    atOrBelow opsWithin addedIn removedIn timestampIn timestamp stamp stamped ofReplica ofKind ofTime byTime ordered start outcomeSlot orderOf
-    outcomeOf step replay parentsOf opBytes moveKind issued requestKnown requestUnmarked requestClear issueAnswer padded pageAt pageOf
-    longEnough shows pageFilled sortAfter tookBack withPage takenWith pageWith deliverPageAnswer issuePageAnswer
+unfolding ofOps table p1 p1Adds p1Early p1Other p11 p11Early p11First rivalsEarly require wordAt word upFrom downFrom sum greatest same
+    concat all any filter isIn indexOf replicas isReplica countIn kindOf replicaOf nodeOf parentOf vectorOf ownCount seqOf nodeNumber
+    isAdd isRemove isMove wellFormed emptyLog opsOf opAt countsOf append countAt startAt headerCounts startOf endOf fileEnd chunks
+    chunksOf logOf headerEntry headerOf fileOf appended within covered closedAt closed isKnown isMarked marked nodeWithin knowledge
+    knownParent namesKnown soundOp soundOps soundLog soundHeader laid structural sound isHeld heldAnswer admitAnswer deliverAnswer slot
+    slotOf parentIn climb path depth atOrBelow opsWithin addedIn removedIn timestampIn timestamp stamp stamped ofReplica ofKind ofTime
+    byTime ordered start outcomeSlot orderOf outcomeOf step replay parentsOf opBytes moveKind issued requestKnown requestUnmarked
+    requestClear issueAnswer padded pageAt pageOf longEnough shows pageFilled sortAfter tookBack withPage takenWith pageWith
+    deliverPageAnswer issuePageAnswer
 table-holds =
     (refl, refl, refl, refl) & (refl, refl, refl, refl) & (refl, refl, refl, refl) & (refl, refl, refl, refl)
     & (refl, refl, refl, refl) & (refl, refl, refl, refl) & (refl, refl, refl, refl) & (refl, refl, refl, refl)

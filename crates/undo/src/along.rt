@@ -78,7 +78,8 @@ pub fn judge_along(
     was: &mut [u16],
     width: usize,
 )
-    requires { ⌜ TimedSlotWalk width (now file) (now order) (now times) to (now parents) (now outcomes) (now placed) (now took) (now was) ⌝ }
+    requires { ⌜ TimedSlotWalk width (now file) (now order) (now times) to
+        (now parents) (now outcomes) (now placed) (now took) (now was) ⌝ }
     ensures { λ _. ⌜ undoable (now (parents .exit)) (now (outcomes .exit)) (now (placed .exit)) (now (took .exit)) (now (was .exit))
         ≡ foldl stepKeeping
         (undoable (now (parents .entry)) (now (outcomes .entry)) (now (placed .entry)) (now (took .entry)) (now (was .entry)))
