@@ -7,6 +7,7 @@ use native.Mathlib.Omega.{arith}
 use lib.ListN.{drop, getD, length, length-append, length-drop, length-map, length-replicate, replicate, set, take}
 use lib.Seq.{drop-append-le, length-take-le, take-append-le}
 use borrow.Author.Needs.{needs}
+use borrow.Author.Tests.{le-leb}
 use Rattle.lists.specs.Lists.{filter, sum, upFrom}
 use Rattle.lists.proofs.ListLaws.{drop-replicate, map-drop, map-take}
 use Rattle.lists.proofs.RangeLaws.{map-getD, map-upFrom}
@@ -17,7 +18,7 @@ use Rattle.page_rules.specs.Page.{Page, pageFilled, padded, page, pageAt, pageO
 use Rattle.rules.specs.Replay.{State, Stamped, orderOf, ordered, outcomeSlot, replay, start}
 use Rattle.rules.specs.Tree.{mostOps, noParent}
 use Rattle.rules.proofs.CausalLaws.{Le, le-within, total, total-sum, within-le, within-length}
-use Rattle.rules.proofs.FileLaws.{counts-logOf}
+use Rattle.rules.proofs.FileLaws.{counts-at, counts-logOf}
 use Rattle.rules.proofs.IssueLaws.{counts-eight}
 use Rattle.rules.proofs.StructureLaws.{GoodLog, counts-covered, structural-good}
 use Rattle.oplog.specs.Places.{Held}
@@ -28,6 +29,7 @@ use Rattle.order.proofs.OnceLaws.{ordered-length}
 use Rattle.page_rules.proofs.PageLaws.{counted-back, old-ordered, place-within}
 use Rattle.order.proofs.PartLaws.{inCut, ordered-part}
 use Rattle.order.proofs.UndoLaws.{replay-keeping}
+use Rattle.tree.specs.Slots.{replicaIn, sequenceIn}
 use Rattle.replay.specs.Tables.{opAlong}
 use Rattle.replay.proofs.CutLaws.{whole-header, whole-sound}
 use Rattle.schedule.specs.Schedule.{Schedule, scheduled}
@@ -121,6 +123,12 @@ module _ (f : List ℕ) (old all : Vector) (s times : List ℕ) (n : ℕ) (ls lp
 
   named : (i : ℕ) → i < n → OpThere width f (getD s i 0)
   named i h = record { is-structural = st; in-slot = entry i h .in-slot }
+
+  all-counted : (k : ℕ) → k < n → slotCounted all (getD s k 0) ≡ true
+  unfolding slotCounted
+  all-counted k h =
+      let y = entry k h .in-slot .in-file in
+      le-leb (sequenceIn (getD s k 0)) _ (rw (x .counts, counts-at f (replicaIn (getD s k 0)) (y .low) (y .high)) (y .last))
 
   pub slots-ask : Slots s n
   slots-ask = record { order-long = omega (arith, few, table-long); each = λ i h. slot-asks width f (getD s i 0) (named i h) }
@@ -228,9 +236,9 @@ module _ (f : List ℕ) (old all : Vector) (s times : List ℕ) (n : ℕ) (ls lp
         whole = all;
         schedules = schedules;
         ends = first .inside;
-        grows = le-within old all old-le;
-        inside = le-within all all (λ r a c. omega arith);
-        agrees = λ k h e. first .front k h;
+        before-inside = le-within old all old-le;
+        after-inside = le-within all all (λ r a c. omega arith);
+        agrees = λ k h. first .front k h ∙ sym (all-counted k (omega (arith, first .inside)));
         replayed = judged-old;
       }
 

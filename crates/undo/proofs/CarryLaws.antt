@@ -64,7 +64,7 @@ module _ (cut : Vector) (order : List ℕ) (n i : ℕ) (x : Passed cut order n i
 
 pub ruleset finding = (needs, place-fits, place-slot, pass-starts, beyond-here, pass-on, pass-ends)
 
----- from one cut to a greater one
+------ from one cut to another
 
 -- the ops from a place on are those of the order
 module _ (w : ℕ) (f order times : List ℕ) (from to : ℕ) (whole : Vector) (x : Schedules w f order times to whole) (h : from ≤ to)
@@ -96,10 +96,10 @@ module _ (w : ℕ) (f : List ℕ) (before after : Vector) (order times : List �
   unfolding opAlong
   front-agrees =
       rw (← x .schedules .ops, take-places (opAlong log order times) to from (x .ends))
-      (each-of-map (λ y. inCut after y ≡ true → inCut before y ≡ true) (opAlong log order times) (upFrom 0 from)
-      (each-range _ from 0 (λ i a c e.
+      (each-of-map (λ y. inCut before y ≡ inCut after y) (opAlong log order times) (upFrom 0 from)
+      (each-range _ from 0 (λ i a c.
       let n : OpThere w f (getD order i 0) = record { is-structural = st; in-slot = x .walk .walk .in-slots i (omega (arith, x .ends)) } in
-      counted-slot w f (getD order i 0) n before ∙ x .agrees i (omega arith) (sym (counted-slot w f (getD order i 0) n after) ∙ e))))
+      counted-slot w f (getD order i 0) n before ∙ x .agrees i (omega arith) ∙ sym (counted-slot w f (getD order i 0) n after))))
 
   module _ (p′ o′ l′ t′ b′ : List ℕ)
       (back : undoable p′ o′ l′ t′ b′ ≡ takeBack (undoable p o l t b) (opsAlong log before order from to)) where
@@ -125,7 +125,7 @@ module _ (w : ℕ) (f : List ℕ) (before after : Vector) (order times : List �
           timed-are w f order times from to (x .whole) y (x .ends) after,
           ops-are w f order times from to (x .whole) y (x .ends) before,
           x .replayed,
-        ) (carried log (structural-good w f st) before after (x .whole) (y .is-covered) (within-le before after (x .grows))
-        (within-le after (x .whole) (x .inside)) from front-agrees)
+        ) (carried log (structural-good w f st) before after (x .whole) (y .is-covered)
+        (within-le before (x .whole) (x .before-inside)) (within-le after (x .whole) (x .after-inside)) from front-agrees)
 
 pub ruleset carrying = (needs, judge-asks, carries)

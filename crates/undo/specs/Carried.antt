@@ -1,4 +1,4 @@
--- What carrying a replay from one cut to a greater one asks, and the place from which it is carried.
+-- What carrying a replay from one cut to another asks, and the place from which it is carried.
 use Prim.Native.Nat.{ℕ, _≤_, _<_}
 use mathlib.Core.Path.{_≡_}
 use mathlib.Core.Bool.{true, false}
@@ -30,14 +30,14 @@ pub record Schedules (w : ℕ) (f order times : List ℕ) (to : ℕ) (whole : Ve
   pub is-covered : covered (logOf w f) whole ≡ true
   pub ops : map (opAlong (logOf w f) order times) (upFrom 0 to) ≡ ordered (logOf w f) whole
 
--- the replay of a cut, which another within the order exceeds, but by nothing before a place
+-- the replay of a cut, and another one: both lie within the order, and before a place they count the same
 pub record Carriable (w : ℕ) (f : List ℕ) (before after : Vector) (order times : List ℕ) (from to : ℕ) (p o l t b : List ℕ)
     : Type 0 where
   pub walk : TimedSlotWalk w f order times to p o l t b
   pub whole : Vector
   pub schedules : Schedules w f order times to whole
   pub ends : from ≤ to
-  pub grows : within before after ≡ true
-  pub inside : within after whole ≡ true
-  pub agrees : (i : ℕ) → i < from → slotCounted after (getD order i 0) ≡ true → slotCounted before (getD order i 0) ≡ true
+  pub before-inside : within before whole ≡ true
+  pub after-inside : within after whole ≡ true
+  pub agrees : (i : ℕ) → i < from → slotCounted before (getD order i 0) ≡ slotCounted after (getD order i 0)
   pub replayed : undoable p o l t b ≡ replayKeeping (logOf w f) before

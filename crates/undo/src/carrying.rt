@@ -22,7 +22,7 @@ pub fn first_beyond(order: &[u16], n: usize, cut: [u8; 8]) -> usize
     n
 }
 
-// Carries the replay of one cut on to a greater one, along an order that has both: what the first
+// Carries the replay of one cut on to another, along an order that has both: what the first
 // counts from a place on is taken back, and what the second counts there is judged. Before that
 // place they count the same ops. Answers how many ops it took back.
 pub fn carry(
