@@ -1,7 +1,7 @@
 -- Laws of lists: sums, equal lists, lists of lists, parts and stores.
 use Rattle.lists.proofs.BoolLaws.{and-left, and-right, both-ways, never}
 use Rattle.lists.specs.Lists.{concat, same, sum}
-use mathlib.Core.Bool.{Bool, _&&_, true}
+use mathlib.Core.Bool.{Bool, _&&_, false, true}
 use mathlib.Core.List.{List, [], _++_, _∷_, append-assoc, map, map-append}
 use Prim.Native.Nat.{_+_, _-_, _<_, _≤_, suc, zero, ℕ}
 use mathlib.Core.Path.{_∙_, _≡_, ap, ap₂, refl, sym}
@@ -9,7 +9,7 @@ use native.Mathlib.Numerals.{add-one}
 use native.Mathlib.Omega.{arith}
 use lib.ListN.{length-append, length-set, drop, drop-of-length-le, getD, length, replicate, replicate-append-replicate, set, take, take-append-drop}
 use lib.Seq.{drop-cons, drop-drop, drop-set-lt, take-all, take-nil, take-suc, take-suc-set}
-use borrow.Author.Tests.{eq-eqb, eqb-true}
+use borrow.Author.Tests.{eq-eqb, eqb-true, ne-eqb}
 use lib.Dec.{eqb}
 use native.Mathlib.Nat.{le-of-suc-le-suc, not-suc-le-zero, suc-add, zero-add}
 
@@ -54,14 +54,46 @@ pub same-all : (a b : List ℕ) → same a b ≡ sameFrom a b 0
 unfolding sameFrom
 same-all a b = refl
 
-pub same-turn : (a b : List ℕ) (i : ℕ) → i < length a → i < length b
+same-turn : (a b : List ℕ) (i : ℕ) → i < length a → i < length b
     → sameFrom a b i ≡ (eqb (getD a i 0) (getD b i 0) && sameFrom a b (i + 1))
 unfolding sameFrom same
 same-turn a b i h l = rw (drop-cons a i 0 h, drop-cons b i 0 l, add-one i)
 
-pub same-end : (a b : List ℕ) (i : ℕ) → length a ≤ i → length b ≤ i → sameFrom a b i ≡ true
+same-end : (a b : List ℕ) (i : ℕ) → length a ≤ i → length b ≤ i → sameFrom a b i ≡ true
 unfolding sameFrom same
 same-end a b i h l = rw (drop-of-length-le a h, drop-of-length-le b l)
+
+-- a loop that compares two lists of one length, of which the first i elements are the same
+pub record Matched (a b : List ℕ) (end i : ℕ) : Type 0 where
+  pub whole : end ≡ length a
+  pub long : length a ≡ length b
+  pub few : i ≤ length a
+  pub left : same a b ≡ sameFrom a b i
+
+module _ (a b : List ℕ) where
+  pub match-starts : length a ≡ length b → Matched a b (length a) 0
+  match-starts h = record { whole = refl; long = h; few = omega arith; left = same-all a b }
+
+  module _ (end i : ℕ) (t : Matched a b end i) where
+    pub match-there : i < end → i < length b
+    match-there h = omega (arith, t .whole, t .long)
+
+    match-next : i < end → same a b ≡ (eqb (getD a i 0) (getD b i 0) && sameFrom a b (i + 1))
+    match-next h = t .left ∙ same-turn a b i (omega (arith, t .whole)) (omega (arith, t .whole, t .long))
+
+    pub match-fails : i < end → (getD a i 0 ≡ getD b i 0 → ⊥) → false ≡ same a b
+    match-fails h e = sym (match-next h ∙ rw (ne-eqb _ _ e))
+
+    pub match-on : i < end → getD a i 0 ≡ getD b i 0 → Matched a b end (i + 1)
+    match-on h e = record {
+      whole = t .whole;
+      long = t .long;
+      few = omega (arith, t .whole);
+      left = match-next h ∙ rw (eq-eqb _ _ e);
+    }
+
+    pub match-ends : end ≤ i → true ≡ same a b
+    match-ends h = sym (t .left ∙ same-end a b i (omega (arith, t .whole)) (omega (arith, t .whole, t .long)))
 
 ---- lists of lists
 

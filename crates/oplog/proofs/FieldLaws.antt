@@ -1,10 +1,8 @@
 -- Where the fields of an op stand in a laid-out file.
 use lib.Seq.{getD-take, getD-drop, drop-drop, take-take}
-use lib.Dec.{eqb}
 use borrow.Author.Needs.{needs}
-use borrow.Author.Tests.{eq-eqb, ne-eqb}
-use mathlib.Core.Path.{_≡_, refl, sym, ap, _∙_}
-use mathlib.Core.Bool.{true, false, _&&_}
+use mathlib.Core.Path.{_≡_, sym, ap, _∙_}
+use mathlib.Core.Bool.{true, false}
 use mathlib.Core.List.{List}
 use Prim.Native.Nat.{ℕ, _+_, _*_, _-_, _^_, _≤_, _<_}
 use native.Mathlib.Omega.{arith}
@@ -18,7 +16,7 @@ use Rattle.rules.specs.Log.{laid}
 use Rattle.rules.proofs.StructureLaws.{Laid, laid-reads}
 use Rattle.rules.proofs.FileLaws.{counts-at, counts-logOf, ops-chunksOf, length-counts, chunk-at}
 use Rattle.rules.proofs.CausalLaws.{within-le}
-use Rattle.lists.proofs.ListLaws.{sum-take, drop-take, sameFrom, same-all, same-turn, same-end}
+use Rattle.lists.proofs.ListLaws.{Matched, match-ends, match-fails, match-on, match-starts, sum-take, drop-take}
 use Rattle.oplog.specs.Places.{InFile, Held, placeOf}
 
 -- two ops of the same fields
@@ -128,46 +126,34 @@ held-of w f v h e c = record {
 
 ---- comparing bytes
 
--- the first i bytes of an op are those of the file from a place on
+-- an op is compared with the bytes of the file from a place on
 pub record Compared (f : List ℕ) (at : ℕ) (op : List ℕ) (end i : ℕ) : Type 0 where
-  pub whole : end ≡ length op
   pub fits : at + length op ≤ length f
-  pub few : i ≤ length op
-  pub left : same op (take (length op) (drop at f)) ≡ sameFrom op (take (length op) (drop at f)) i
+  pub matched : Matched op (take (length op) (drop at f)) end i
 
 module _ (f : List ℕ) (at : ℕ) (op : List ℕ) where
   abbrev part : List ℕ
   part = take (length op) (drop at f)
 
-  part-long : at + length op ≤ length f → length part ≡ length op
+  part-long : at + length op ≤ length f → length op ≡ length part
   part-long h = simp (length-take, length-drop) (omega arith)
 
   pub same-first : at + length op ≤ length f → Compared f at op (length op) 0
-  same-first h = record { whole = refl; fits = h; few = omega arith; left = same-all op part }
+  same-first h = record { fits = h; matched = match-starts op part (part-long h) }
 
   module _ (end i : ℕ) (t : Compared f at op end i) where
-    same-next-byte : i < length op → same op part ≡ (eqb (getD op i 0) (getD f (at + i) 0) && sameFrom op part (i + 1))
-    same-next-byte h =
-        let e : getD part i 0 ≡ getD f (at + i) 0 = rw (getD-take, getD-drop) in
-        t .left ∙ same-turn op part i h (omega (arith, part-long (t .fits))) ∙ rw e
-
     module _ (h : i < end) where
-      here : i < length op
-      here = omega (arith, t .whole)
+      byte-there : getD part i 0 ≡ getD f (at + i) 0
+      byte-there = let l : i < length op = omega (arith, t .matched .whole) in rw (getD-take, getD-drop)
 
       pub same-differs : (getD op i 0 ≡ getD f (at + i) 0 → ⊥) → false ≡ same op (take (length op) (drop at f))
-      same-differs e = sym (same-next-byte here ∙ rw (ne-eqb _ _ e))
+      same-differs e = match-fails op part end i (t .matched) h (λ z. e (z ∙ byte-there))
 
       pub same-next : getD op i 0 ≡ getD f (at + i) 0 → Compared f at op end (i + 1)
-      same-next e = record {
-        whole = t .whole;
-        fits = t .fits;
-        few = omega (arith, here);
-        left = same-next-byte here ∙ rw (eq-eqb _ _ e);
-      }
+      same-next e = record { fits = t .fits; matched = match-on op part end i (t .matched) h (e ∙ sym byte-there) }
 
     pub same-last : end ≤ i → true ≡ same op (take (length op) (drop at f))
-    same-last h = sym (t .left ∙ same-end op part i (omega (arith, t .whole)) (omega (arith, t .whole, part-long (t .fits))))
+    same-last h = match-ends op part end i (t .matched) h
 
 ---- what the code of places needs: search placing
 pub ruleset comparing = (same-first, same-differs, same-next, same-last)

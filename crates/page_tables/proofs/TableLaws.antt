@@ -1,17 +1,17 @@
 -- Comparing and filling lent tables, as the code has them.
-use mathlib.Core.Path.{_≡_, refl, sym, ap, _∙_}
-use mathlib.Core.Bool.{Bool, true, false, _&&_, not}
+use mathlib.Core.Path.{_≡_, sym, ap, _∙_}
+use mathlib.Core.Bool.{Bool, true, false, not}
 use mathlib.Core.List.{List, [], _∷_, _++_}
 use Prim.Native.Nat.{ℕ, suc, _+_, _-_, _≤_, _<_}
 use native.Mathlib.Omega.{arith}
-use lib.Dec.{eqb, leb}
+use lib.Dec.{leb}
 use lib.ListN.{drop, getD, length, length-append, length-drop, List·getD-append, take}
 use lib.Seq.{getD-append-add, getD-drop, getD-take, length-take-le}
 use borrow.Author.Needs.{needs}
-use borrow.Author.Tests.{eq-eqb, le-leb, lt-leb, ne-eqb}
+use borrow.Author.Tests.{le-leb, lt-leb}
 use Rattle.lists.specs.Lists.{same}
 use Rattle.lists.proofs.BoolLaws.{not-so-by-not, so-by-not}
-use Rattle.lists.proofs.ListLaws.{same-all, same-end, same-sym, same-turn, sameFrom}
+use Rattle.lists.proofs.ListLaws.{Matched, match-ends, match-fails, match-on, match-starts, match-there, same-all, same-sym}
 use Rattle.page_rules.specs.Page.{pageFilled, longEnough, page, shows}
 use Rattle.rules.specs.Tree.{mostOps, slots}
 use Rattle.oplog.proofs.InsertLaws.{front-first, front-last, front-next}
@@ -32,39 +32,6 @@ module _ (s p o : List ℕ) where
     pub all-long : slots ≤ length p → leb slots (length o) ≡ longEnough (page s p o)
     unfolding longEnough
     all-long b = rw (le-leb mostOps (length s) a, le-leb slots (length p) b)
-
----- two tables of one length
-
-pub record Matched (a b : List ℕ) (end i : ℕ) : Type 0 where
-  pub whole : end ≡ length a
-  pub long : length a ≡ length b
-  pub few : i ≤ length a
-  pub left : same a b ≡ sameFrom a b i
-
-module _ (a b : List ℕ) where
-  pub match-starts : length a ≡ length b → Matched a b (length a) 0
-  match-starts h = record { whole = refl; long = h; few = omega arith; left = same-all a b }
-
-  module _ (end i : ℕ) (t : Matched a b end i) where
-    pub match-there : i < end → i < length b
-    match-there h = omega (arith, t .whole, t .long)
-
-    match-next : i < end → same a b ≡ (eqb (getD a i 0) (getD b i 0) && sameFrom a b (i + 1))
-    match-next h = t .left ∙ same-turn a b i (omega (arith, t .whole)) (omega (arith, t .whole, t .long))
-
-    pub match-fails : i < end → (getD a i 0 ≡ getD b i 0 → ⊥) → false ≡ same a b
-    match-fails h e = sym (match-next h ∙ rw (ne-eqb _ _ e))
-
-    pub match-on : i < end → getD a i 0 ≡ getD b i 0 → Matched a b end (i + 1)
-    match-on h e = record {
-      whole = t .whole;
-      long = t .long;
-      few = omega (arith, t .whole);
-      left = match-next h ∙ rw (eq-eqb _ _ e);
-    }
-
-    pub match-ends : end ≤ i → true ≡ same a b
-    match-ends h = sym (t .left ∙ same-end a b i (omega (arith, t .whole)) (omega (arith, t .whole, t .long)))
 
 ---- an order without an entry
 

@@ -13,11 +13,11 @@ slot s q = 255 * (s - 1) + q
 unfoldable pub slotOf : ℕ → ℕ
 slotOf n = cond (eqb n 0) 0 (slot (n / 256) (n % 256))
 
--- the most ops that a log has: 255 of each of the eight replicas; how many slots a table has, and the parent entry of a slot without an
--- added node
+-- the most ops that a log has: 255 of each of the eight replicas
 abbrev pub mostOps : ℕ
 mostOps = 2040
 
+-- how many slots a table has, and the parent entry of a slot without an added node
 abbrev pub slots : ℕ
 slots = 2041
 

@@ -1,5 +1,6 @@
 -- `page_tables::tables::order_shows` meets its contract.
-use Rattle.page_tables.proofs.TableLaws.{tabling, Matched}
+use Rattle.lists.proofs.ListLaws.{Matched}
+use Rattle.page_tables.proofs.TableLaws.{tabling}
 use Prim.Native.Nat.{_-_}
 use lib.ListN.{take}
 use Rattle.rules.specs.Tree.{mostOps}
