@@ -13,8 +13,8 @@ use native.Mathlib.Nat.{le-refl}
 use native.Mathlib.Omega.{arith}
 use Rattle.lists.specs.Lists.{sum}
 use Rattle.lists.proofs.BoolLaws.{never, tested}
-use Rattle.rules.specs.Answer.{Answer, refused, hadIt, waiting, done, accepted, require}
-use Rattle.rules.specs.Bundle.{bodiesIn, headCounts, headSize, openAnswer, openBuffer, openBundle, turnsAnswer, turnsBuffer, unlessRefused, wholeBundle}
+use Rattle.rules.specs.Answer.{Answer, refused, hadIt, waiting, done, accepted, require, unlessRefused}
+use Rattle.rules.specs.Bundle.{bodiesIn, headCounts, headSize, openAnswer, openBuffer, openBundle, turnsAnswer, turnsBuffer, wholeBundle}
 use Rattle.rules.specs.Deliver.{Result, deliver, deliverAnswer, deliverBuffer}
 use Rattle.rules.specs.File.{chunks, fileEnd, headerCounts, largest, startOf, width}
 use Rattle.rules.specs.Op.{Op}

@@ -6,8 +6,8 @@ use mathlib.Core.Logic.{_⊎_}
 use mathlib.Core.Path.{_≡_}
 use lib.Dec.{leb}
 use lib.ListN.{length, take}
-use Rattle.rules.specs.Answer.{Answer, accepted}
-use Rattle.rules.specs.Bundle.{bodiesIn, turnsAnswer, turnsBuffer, unlessRefused, wholeBundle}
+use Rattle.rules.specs.Answer.{Answer, accepted, unlessRefused}
+use Rattle.rules.specs.Bundle.{bodiesIn, turnsAnswer, turnsBuffer, wholeBundle}
 use Rattle.rules.specs.Deliver.{Result, deliverAnswer, deliverBuffer}
 use Rattle.rules.specs.File.{fileEnd, largest, width}
 use Rattle.rules.specs.Op.{Op}

@@ -8,10 +8,10 @@ use lib.ListN.{length, drop}
 use lib.Seq.{take-at}
 use Rattle.rules.specs.Op.{Op}
 use Rattle.rules.specs.File.{logOf, fileEnd, appended, width}
-use Rattle.rules.specs.Answer.{Answer, refused, hadIt, waiting, done, accepted, ifAccepted}
+use Rattle.rules.specs.Answer.{Answer, refused, hadIt, waiting, done, accepted, ifAccepted, unlessRefused}
 use Rattle.rules.specs.Deliver.{makeAnswer, makeBuffer, deliverAnswer, deliverBuffer}
 use Rattle.rules.specs.Issue.{Request, issued, issueAnswer, issueBuffer, issueOut}
-use Rattle.rules.specs.Bundle.{bodiesIn, unlessRefused, turnsAnswer, turnsBuffer, turnsTaken, openAnswer, openBuffer}
+use Rattle.rules.specs.Bundle.{bodiesIn, turnsAnswer, turnsBuffer, turnsTaken, openAnswer, openBuffer}
 use Rattle.rules.proofs.DeliverLaws.{if-not, required, accepted-same, Admitted, admitted, delivered, appended-end}
 use Rattle.rules.proofs.IssueLaws.{issue-admitted}
 use Rattle.rules.proofs.SoundLaws.{empty-ends}

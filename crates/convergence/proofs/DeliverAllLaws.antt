@@ -5,8 +5,8 @@ use mathlib.Core.List.{List, [], _∷_, _++_, append-assoc, append-nil}
 use Prim.Native.Nat.{ℕ}
 use native.Mathlib.Omega.{arith}
 use Rattle.lists.specs.Lists.{all}
-use Rattle.rules.specs.Answer.{Answer, refused, hadIt, waiting, done, accepted, ifAccepted}
-use Rattle.rules.specs.Bundle.{unlessRefused, turnsAnswer, turnsBuffer, turnsTaken}
+use Rattle.rules.specs.Answer.{Answer, refused, hadIt, waiting, done, accepted, ifAccepted, unlessRefused}
+use Rattle.rules.specs.Bundle.{turnsAnswer, turnsBuffer, turnsTaken}
 use Rattle.rules.specs.Deliver.{deliverAnswer, deliverBuffer}
 use Rattle.rules.specs.File.{width}
 use Rattle.rules.specs.Op.{Op}

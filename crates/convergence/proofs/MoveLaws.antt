@@ -14,7 +14,7 @@ use Rattle.rules.proofs.KnownLaws.{Known, Named, named-valid, parent-reads, kno
 use Rattle.order.proofs.GrowLaws.{Tree}
 use Rattle.order.proofs.LevelLaws.{whole-cut}
 use Rattle.order.proofs.RunLaws.{replay-run}
-use Rattle.rules.proofs.IssueLaws.{counts-eight, bytes-parent, bytes-vector, bytes-node, Allowed}
+use Rattle.rules.proofs.IssueLaws.{counts-eight, bytes-parent, bytes-vector, bytes-node, issued-moves, Allowed}
 use Rattle.rules.proofs.StructureLaws.{GoodLog}
 use Rattle.rules.proofs.SlotLaws.{Valid}
 use Rattle.rules.proofs.ClimbLaws.{Reaches, short}
@@ -72,14 +72,6 @@ module _ (log : Log) (good : GoodLog log) (x : Move) where
   unfolding issued opBytes kindOf moveKind
   kind-is = refl
 
-  is-move : isMove (opOf log x) ≡ true
-  unfolding isMove
-  is-move = rw kind-is (go (upward log x))
-    where
-      go : (b : Bool) → (eqb (cond b 3 4) 3 || eqb (cond b 3 4) 4) ≡ true
-      go true = refl
-      go false = refl
-
   origin-is : replicaOf (opOf log x) ≡ x .replica
   unfolding issued opBytes replicaOf
   origin-is = refl
@@ -96,7 +88,7 @@ module _ (log : Log) (good : GoodLog log) (x : Move) where
   unfolding issued outcomeSlot nextSlot
   drawn = record {
     kind = kind-is;
-    moves = is-move;
+    moves = issued-moves log (x .replica) (x .node) (x .parent);
     origin = origin-is;
     node-is = bytes-node _ (x .replica) (x .node) (x .parent) (countsOf log);
     parent-is = bytes-parent _ (x .replica) (x .node) (x .parent) (countsOf log);

@@ -5,8 +5,8 @@ use mathlib.Core.List.{List, [], _∷_}
 use Prim.Native.Nat.{ℕ}
 use native.Mathlib.Omega.{arith}
 use Rattle.lists.specs.Lists.{all}
-use Rattle.rules.specs.Answer.{Answer, refused, hadIt, waiting, done, accepted, require}
-use Rattle.rules.specs.Bundle.{bodiesIn, unlessRefused, turnsAnswer, wholeBundle, openAnswer, openBuffer}
+use Rattle.rules.specs.Answer.{Answer, refused, hadIt, waiting, done, accepted, require, unlessRefused}
+use Rattle.rules.specs.Bundle.{bodiesIn, turnsAnswer, wholeBundle, openAnswer, openBuffer}
 use Rattle.rules.specs.Deliver.{deliverAnswer, deliverBuffer}
 use Rattle.rules.specs.File.{width}
 use Rattle.rules.specs.Op.{Op}

@@ -9,11 +9,11 @@ use native.Mathlib.Omega.{arith}
 use Rattle.convergence.specs.Clash.{Move, circle, beats, putOut, BothIssued, BothAdded, Arrivals}
 use Rattle.convergence.specs.Converges.{expected}
 use Rattle.convergence.specs.Exchange.{Side, Round, left, Offer, Pair, Call, issue, deliver, openBundle, run, right, make, missing, after, answers, acceptedBy, answer, answerTo, acceptances, isSide, arrange, inOrder, everything, other, perform, opNumbered, begun, added, has, onlyIn, bufferAfter, offered}
-use Rattle.rules.specs.Answer.{require}
+use Rattle.rules.specs.Answer.{require, unlessRefused}
 use Rattle.rules.specs.Bytes.{wordAt, word}
 use Rattle.lists.specs.Lists.{all, upFrom, downFrom, sum, concat, greatest, same, any, filter, isIn}
 use Rattle.rules.specs.Deliver.{makeAnswer, deliverBuffer, makeBuffer, deliverAnswer, heldAnswer, admitAnswer, isHeld}
-use Rattle.rules.specs.Bundle.{countsRead, headCounts, headSize, bodiesIn, opsBy, wholeBundle, unlessRefused, turnsAnswer, turnsBuffer, turnsTaken, openAnswer, openBuffer}
+use Rattle.rules.specs.Bundle.{countsRead, headCounts, headSize, bodiesIn, opsBy, wholeBundle, turnsAnswer, turnsBuffer, turnsTaken, openAnswer, openBuffer}
 use Rattle.rules.specs.Examples.{a₁, a₂, a₃, b₁, p1, p1File, p1Bundle}
 use Rattle.rules.specs.Issue.{opBytes, add, move, requestKnown, requestUnmarked, issued, issueAnswer, requestClear, issueBuffer, issueOut}
 use Rattle.rules.specs.Tree.{moveKind, climb, path, atOrBelow, slot, slotOf, depth, parentIn}

@@ -108,7 +108,7 @@ fails-from p (suc n) a e = go (p a) refl e (fails-from p n (suc a))
     go false q z ih = (a, omega arith, omega arith, q)
 
 module _ {A : Type 0} (F : ℕ → List A) where
-  one-down : (n s : ℕ) → 1 ≤ s → s ≤ n → ((r : ℕ) → 1 ≤ r → r ≤ n → (r ≡ s → ⊥) → F r ≡ [])
+  pub one-down : (n s : ℕ) → 1 ≤ s → s ≤ n → ((r : ℕ) → 1 ≤ r → r ≤ n → (r ≡ s → ⊥) → F r ≡ [])
       → concat (map F (downFrom n)) ≡ F s
   unfolding downFrom concat
   one-down zero s l u e = absurd (omega arith)

@@ -16,6 +16,7 @@ pub mod TourLaws
 pub mod PlacingLaws
 pub mod DecimalLaws
 pub mod RemoveLaws
+pub mod IssuedLaws
 pub mod WorkLaws
 pub mod TreePathLaws
 pub mod ViewLaws

@@ -19,7 +19,7 @@ use Rattle.page_rules.specs.Claims.{SortsIn}
 use Rattle.page_rules.specs.Page.{pageAt, pageOf, sortAfter}
 use Rattle.rules.specs.Replay.{Stamped, orderOf, ordered, outcomeSlot, stamp}
 use Rattle.rules.specs.Tree.{slot}
-use Rattle.rules.proofs.AppendLaws.{Admits, closed-more, extends, good-append, in-range, ops-other, ops-same, own-next, sum-append}
+use Rattle.rules.proofs.AppendLaws.{Admits, closed-more, extends, good-append, in-range, new-seq, other-count, own-count, sum-append}
 use Rattle.rules.proofs.CausalLaws.{total, total-sum, within-length}
 use Rattle.rules.proofs.ExtendLaws.{Alike, alike-more, ordered-alike, replay-alike}
 use Rattle.rules.proofs.IssueLaws.{counts-eight}
@@ -120,21 +120,6 @@ module _ (log : Log) (good : GoodLog log) (r : Op) (h : Admits log r) where
     pub before : inCut old x ≡ true → outcomeSlot r ≡ outcomeSlot (x .op) → ⊥
     pub new : inCut old x ≡ false → outcomeSlot (x .op) ≡ outcomeSlot r
 
-  pub next : seqOf r ≡ suc (countIn old (replicaOf r))
-  unfolding seqOf
-  next = omega (arith, own-next log r good h, count-held log (replicaOf r))
-
-  pub own-count : countIn (countsOf more) (replicaOf r) ≡ suc (countIn old (replicaOf r))
-  own-count =
-      let b = in-range log r good h in
-      let more-ops = ops-same log r (good .eight) (b .0) (b .1) in
-      rw (count-held more (replicaOf r), count-held log (replicaOf r), more-ops, length-append) (omega arith)
-
-  pub other-count : (s : ℕ) → 1 ≤ s → (s ≡ replicaOf r → ⊥) → countIn (countsOf more) s ≡ countIn old s
-  other-count s l ne =
-      let b = in-range log r good h in
-      rw (count-held more s, count-held log s, ops-other log r (good .eight) (b .0) (b .1) s l ne)
-
   told : Each NewOrOld (ordered more (countsOf more))
   unfolding stamp outcomeSlot slot
   told = ordered-each more (countsOf more) NewOrOld (λ s q l u lq uq.
@@ -146,15 +131,16 @@ module _ (log : Log) (good : GoodLog log) (r : Op) (h : Admits log r) where
         before = λ c e.
             let k : q ≤ countIn old s = leb-true _ _ (rw (x .origin, x .number) at c) in
             let z : 255 * (replicaOf r - 1) + seqOf r ≡ 255 * (s - 1) + q = rw (x .origin, x .number) at e in
-            let same : s ≡ replicaOf r = omega (arith, next, own-count, b .0) in
-            omega (arith, next, z, k, ap (countIn old) same);
+            let same : s ≡ replicaOf r = omega (arith, new-seq log r good h, own-count log r good h, b .0) in
+            omega (arith, new-seq log r good h, z, k, ap (countIn old) same);
         new = λ c.
             let k : countIn old s < q = leb-false _ _ (rw (x .origin, x .number) at c) in
             elim (ℕ-discrete s (replicaOf r)) [
               | yes e ↦
-                  let number : q ≡ seqOf r = omega (arith, next, own-count, ap (countIn old) e, ap (countIn (countsOf more)) e) in
+                  let own = own-count log r good h in
+                  let number : q ≡ seqOf r = omega (arith, new-seq log r good h, own, ap (countIn old) e, ap (countIn (countsOf more)) e) in
                   rw (x .origin, x .number, e, number)
-              | no ne ↦ absurd (omega (arith, other-count s l ne))
+              | no ne ↦ absurd (omega (arith, other-count log r good h s l ne))
             ];
       })
 

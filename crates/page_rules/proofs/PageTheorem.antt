@@ -32,7 +32,8 @@ use Rattle.rules.proofs.SoundLaws.{sound-good}
 use Rattle.rules.proofs.StepLaws.{tables-full}
 use Rattle.rules.proofs.StructureLaws.{GoodLog, count-held, counts-covered, good-ops}
 use Rattle.order.specs.Undo.{FirstNew, noOp}
-use Rattle.order.proofs.LateLaws.{Late, ordered-late}
+use Rattle.order.proofs.IssuedLaws.{late}
+use Rattle.order.proofs.LateLaws.{ordered-late}
 use Rattle.order.proofs.LevelLaws.{whole-cut}
 use Rattle.order.proofs.OnceLaws.{ordered-length}
 use Rattle.order.proofs.OrderLaws.{ordered-each}
@@ -40,7 +41,7 @@ use Rattle.order.proofs.PartLaws.{inCut}
 use Rattle.page_rules.specs.Page.{Page, deliverPageAnswer, pageFilled, issuePageAnswer, longEnough, padded, pageAt, pageOf, pageWith, shows, sortAfter, takenWith, tookBack, withPage}
 use Rattle.page_rules.specs.Claims.{GoesWith, IssuedLast, PageKept, PagesKept, PagesLeft, SortsIn, TooShort, isTrue}
 use Rattle.page_rules.proofs.FewLaws.{few-ordered, page-delivered, page-issued}
-use Rattle.page_rules.proofs.PageLaws.{behind-is, good-more, one-more, other-count, own-count, next, sorts-in}
+use Rattle.page_rules.proofs.PageLaws.{behind-is, good-more, one-more, sorts-in}
 
 ---- where a new op stands
 
@@ -61,19 +62,6 @@ module _ (log : Log) (good : GoodLog log) (r : Op) (h : Admits log r) where
 
   -- an op that counts all that is held sorts last
   module _ (whole : vectorOf r ≡ countsOf log) where
-    late : Late log more
-    late = record {
-      extends = extends log r good h;
-      vector = λ s q l u a b. elim (ℕ-discrete s (replicaOf r)) [
-        | yes e ↦
-            let number : q ≡ seqOf r =
-            omega (arith, next log good r h, own-count log good r h, ap (countIn old) e, ap (countIn (countsOf more)) e) in
-            let b = in-range log r good h in
-            rw (e, number, new-in log r (good .eight) (b .0) (b .1) (own-next log r good h) .there) whole
-        | no ne ↦ absurd (omega (arith, other-count log good r h s l ne))
-      ];
-    }
-
     counted-old : Each (λ x. inCut old x ≡ true) (ordered log old)
     unfolding stamp
     counted-old = ordered-each log old _ (λ s q l u lq uq.
@@ -100,7 +88,7 @@ module _ (log : Log) (good : GoodLog log) (r : Op) (h : Admits log r) where
           | yes l ↦ l
           | no nl ↦
               let same : getD xs i noOp ≡ getD ys i noOp =
-              ap (λ (zs : List Stamped). getD zs i noOp) (ordered-late log more late good goods)
+              ap (λ (zs : List Stamped). getD zs i noOp) (ordered-late log more (late log good r h whole) good goods)
               ∙ List·getD-append ys _ noOp i (omega arith) in
               let c = each-at (λ x. inCut old x ≡ true) ys noOp i counted-old (omega arith) in
               never (sym (at .here (omega arith)) ∙ ap (inCut old) same ∙ c)

@@ -202,6 +202,18 @@ module _ (log : Log) (r : Op) (g : GoodLog log) (h : Admits log r) where
     | no ne ↦ rw (count-held, ops-other log r (g .eight) (in-range .0) (in-range .1) s l ne, ← count-held log s) (g .counts s l u)
   ]
 
+  -- its sequence, and the counts with it
+  pub new-seq : seqOf r ≡ suc (countIn (countsOf log) (replicaOf r))
+  unfolding seqOf
+  new-seq = omega (arith, own-next, count-held log (replicaOf r))
+
+  pub own-count : countIn (countsOf (append log r)) (replicaOf r) ≡ suc (countIn (countsOf log) (replicaOf r))
+  own-count =
+      rw (count-held, count-held, ops-same log r (g .eight) (in-range .0) (in-range .1), length-append) (omega arith)
+
+  pub other-count : (s : ℕ) → 1 ≤ s → (s ≡ replicaOf r → ⊥) → countIn (countsOf (append log r)) s ≡ countIn (countsOf log) s
+  other-count s l ne = rw (count-held, count-held, ops-other log r (g .eight) (in-range .0) (in-range .1) s l ne)
+
   sound-new : soundOp (append log r) (replicaOf r) (1 + length (opsOf log (replicaOf r))) r ≡ true
   unfolding soundOp seqOf
   sound-new =

@@ -10,7 +10,7 @@ use lib.ListN.{length, length-map}
 use lib.Seq.{take-all}
 use lib.Dec.{leb, ltb, eqb}
 use Rattle.rules.specs.Bytes.{wordAt, word}
-use Rattle.rules.specs.Op.{Op, Vector, isReplica, countIn, kindOf, replicaOf, nodeOf, parentOf, vectorOf, ownCount, seqOf, nodeNumber, isAdd, isRemove, wellFormed}
+use Rattle.rules.specs.Op.{Op, Vector, isReplica, countIn, kindOf, replicaOf, nodeOf, parentOf, vectorOf, ownCount, seqOf, nodeNumber, isAdd, isMove, isRemove, wellFormed}
 use Rattle.rules.specs.File.{Log, countsOf, fileEnd, logOf, width}
 use Rattle.rules.specs.Log.{knownParent, namesKnown}
 use Rattle.rules.specs.Deliver.{isHeld}
@@ -128,6 +128,15 @@ module _ (log : Log) (g : GoodLog log) where
   issued-long s (add p) = bytes-long _ s _ p
   issued-long s (remove n) = bytes-long _ s n _
   issued-long s (move n p) = bytes-long _ s n p
+
+-- the op of a move moves
+pub issued-moves : (log : Log) (s n p : ℕ) → isMove (issued log s (move n p)) ≡ true
+unfolding issued opBytes kindOf isMove moveKind
+issued-moves log s n p = go (ltb (depth (parentsOf log) p) (depth (parentsOf log) n))
+  where
+    go : (b : Bool) → (eqb (cond b 3 4) 3 || eqb (cond b 3 4) 4) ≡ true
+    go true = refl
+    go false = refl
 
 -- what acceptance says of the request
 pub record Allowed (w : ℕ) (f : List ℕ) (room s : ℕ) (q : Request) (n : ℕ) : Type 0 where

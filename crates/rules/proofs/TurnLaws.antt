@@ -13,8 +13,8 @@ use Rattle.lists.specs.Lists.{same, any}
 use Rattle.lists.proofs.BoolLaws.{never, or-cases}
 use Rattle.lists.proofs.EachLaws.{Each}
 use Rattle.lists.proofs.ListLaws.{same-eq}
-use Rattle.rules.specs.Answer.{Answer, refused, hadIt, waiting, done, accepted, ifAccepted}
-use Rattle.rules.specs.Bundle.{unlessRefused, turnsAnswer, turnsBuffer, turnsTaken}
+use Rattle.rules.specs.Answer.{Answer, refused, hadIt, waiting, done, accepted, ifAccepted, unlessRefused}
+use Rattle.rules.specs.Bundle.{turnsAnswer, turnsBuffer, turnsTaken}
 use Rattle.rules.specs.Deliver.{deliverAnswer, deliverBuffer, admitAnswer, isHeld}
 use Rattle.rules.specs.File.{Log, opAt, countsOf, endOf, fileEnd, logOf, append, appended, within, Extends}
 use Rattle.rules.specs.Log.{covered}

@@ -16,6 +16,14 @@ unfoldable pub require : Bool → ℕ → Answer → Answer
 require true n next = next
 require false n next = refused n
 
+-- the answer to a step of a call, and what follows it: a refusal ends the call
+unfoldable pub unlessRefused : Answer → Answer → Answer
+unlessRefused (refused n) next = refused n
+unlessRefused hadIt next = next
+unlessRefused waiting next = next
+unlessRefused done next = next
+unlessRefused (accepted n) next = next
+
 -- what a call leaves behind: the new content if it was accepted, else the old
 abbrev pub ifAccepted {ℓ} : {A : Type ℓ} → Answer → A → A → A
 ifAccepted (refused n) new old = old

@@ -7,7 +7,7 @@ use lib.Count.{ones}
 use lib.ListN.{length, take, drop}
 use lib.Dec.{leb, ltb, eqb}
 use Rattle.lists.specs.Lists.{sum, concat, all, filter}
-use Rattle.rules.specs.Answer.{Answer, refused, hadIt, waiting, done, accepted, require, ifAccepted}
+use Rattle.rules.specs.Answer.{Answer, accepted, require, unlessRefused, ifAccepted}
 use Rattle.rules.specs.Bytes.{byte}
 use Rattle.rules.specs.Op.{Op, Vector, replicas, countIn, replicaOf, seqOf}
 use Rattle.rules.specs.File.{Log, countsOf, fileEnd, chunks, logOf}
@@ -84,15 +84,8 @@ wholeBundle w b =
 
 ---- opening one
 
--- the answer to a body, and what follows it: a refusal ends the opening; "records already held are passed by"
-unfoldable pub unlessRefused : Answer → Answer → Answer
-unlessRefused (refused n) next = refused n
-unlessRefused hadIt next = next
-unlessRefused waiting next = next
-unlessRefused done next = next
-unlessRefused (accepted n) next = next
-
--- "opening a parcel delivers its bodies in turn", and "answers the new file end": the answer, the buffer, and the bodies that are accepted
+-- "opening a parcel delivers its bodies in turn", "records already held are passed by", and it "answers the new file end": the answer, the
+-- buffer, and the bodies that are accepted
 unfoldable pub turnsAnswer : ℕ → List ℕ → List Op → Answer
 turnsAnswer w f [] = accepted (fileEnd w f)
 turnsAnswer w f (r ∷ rs) = unlessRefused (deliverAnswer w f r) (turnsAnswer w (deliverBuffer w f r) rs)

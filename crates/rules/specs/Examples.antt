@@ -6,10 +6,10 @@ use mathlib.Core.Bool.{Bool, true, false}
 use mathlib.Core.List.{List, [], _∷_, _++_, map}
 use mathlib.Core.Path.{_≡_, refl}
 use native.Mathlib.Nat.{le-of-suc-le-suc, not-suc-le-zero}
-use Rattle.rules.specs.Answer.{Answer, refused, hadIt, waiting, done, accepted, require}
+use Rattle.rules.specs.Answer.{Answer, refused, hadIt, waiting, done, accepted, require, unlessRefused}
 use Rattle.rules.specs.Bytes.{wordAt, word}
 use Rattle.lists.specs.Lists.{upFrom, downFrom, sum, greatest, same, concat, all, any, filter, isIn, indexOf}
-use Rattle.rules.specs.Bundle.{beyondCounts, headByte, headOf, isBeyond, opsBeyond, bundleOf, bundleAnswer, bundleCall, headSize, countsRead, headCounts, bodiesIn, opsBy, wholeBundle, unlessRefused, turnsAnswer, turnsBuffer, openAnswer, openBuffer, openBundle}
+use Rattle.rules.specs.Bundle.{beyondCounts, headByte, headOf, isBeyond, opsBeyond, bundleOf, bundleAnswer, bundleCall, headSize, countsRead, headCounts, bodiesIn, opsBy, wholeBundle, turnsAnswer, turnsBuffer, openAnswer, openBuffer, openBundle}
 use Rattle.rules.specs.Holdback.{places, holdbackOps, holdbackOf, soundHoldback, stays, look, searchOn, looks, search, waits, putBack, earlyAnswer, released, answerOn, holdbackAnswer, holdbackBuffer, holdbackAfter, deliverHoldback}
 use Rattle.rules.specs.Deliver.{makeAnswer, isHeld, heldAnswer, admitAnswer, deliverAnswer, deliverBuffer}
 use Rattle.rules.specs.Issue.{Request, add, remove, move, opBytes, issued, requestKnown, requestUnmarked, requestClear, issueAnswer, issueOut}
