@@ -24,6 +24,8 @@ use Rattle.rules.proofs.ReplicaLaws.{replica-high, replica-low}
 use Rattle.rules.proofs.SoundLaws.{sound-good}
 use Rattle.rules.proofs.StepLaws.{tables-full}
 use Rattle.rules.proofs.StructureLaws.{GoodLog}
+use Rattle.rules.proofs.TurnLaws.{OneLog, issue-alike, one-end}
+use Rattle.rules.proofs.FileLaws.{Wide}
 use Rattle.order.proofs.IssuedLaws.{knowledge-still, outcomes-moved, parents-moved}
 use Rattle.batch_rules.specs.Batch.{moveBuffer, movesAnswer, movesBuffer, movesOps}
 
@@ -196,3 +198,44 @@ taken-outcome (n ∷ ns) f s p i t h =
     taken-outcome ns (moveBuffer width f s n p) s p i (t .1) (omega (arith, count-after f s n p m e))
     ∙ ap (λ os. getD os i 0) (outcomes-after f s n p m e)
     ∙ getD-set-other (outcomesOf (logOf width f)) k i 1 0 (λ z. omega (arith, slot-there f s n p m e))
+
+---- the ops
+
+pub ops-count : (ns f : List ℕ) (s p : ℕ) → length (movesOps width f s ns p) ≡ length ns
+unfolding movesOps
+ops-count [] f s p = refl
+ops-count (n ∷ ns) f s p = ap suc (ops-count ns (moveBuffer width f s n p) s p)
+
+pub ops-wide : (ns f : List ℕ) (s p : ℕ) → AllTaken f s ns p → Wide width (movesOps width f s ns p)
+unfolding movesOps
+ops-wide [] f s p t = tt
+ops-wide (n ∷ ns) f s p t =
+    let (m, e) = t .0 in
+    (issue-admitted f width s (move n p) m e .long, ops-wide ns (moveBuffer width f s n p) s p (t .1))
+
+---- the log and the buffer's length settle it
+
+module _ (s p : ℕ) where
+  move-alike : (f g : List ℕ) → OneLog width f g → (n : ℕ) → OneLog width (moveBuffer width f s n p) (moveBuffer width g s n p)
+  unfolding moveBuffer issueBuffer
+  move-alike f g x n = go refl (issue-settled f width s (move n p))
+    where
+      go : {a : Answer} → issueAnswer width f width s (move n p) ≡ a → Settled a
+          → OneLog width (moveBuffer width f s n p) (moveBuffer width g s n p)
+      go e (no k) = rw (← issue-alike width f g x width s (move n p), e) x
+      go e (yes m) =
+          let d = sym (issue-alike width f g x width s (move n p)) ∙ e in
+          record {
+            first = after-sound f s n p m e;
+            second = after-sound g s n p m d;
+            log = after-log f s n p m e ∙ ap (λ log. append log (issued log s (move n p))) (x .log) ∙ sym (after-log g s n p m d);
+            size = after-length f s n p m e ∙ x .size ∙ sym (after-length g s n p m d);
+          }
+
+  pub moves-alike : (ns f g : List ℕ) → OneLog width f g
+      → (movesAnswer width f s ns p ≡ movesAnswer width g s ns p) × (movesOps width f s ns p ≡ movesOps width g s ns p)
+  unfolding movesAnswer movesOps
+  moves-alike [] f g x = (ap accepted (one-end width f g (x .log)), refl)
+  moves-alike (n ∷ ns) f g x =
+      let rest = moves-alike ns (moveBuffer width f s n p) (moveBuffer width g s n p) (move-alike f g x n) in
+      (rw (issue-alike width f g x width s (move n p), rest .0), rw (x .log, rest .1))

@@ -14,16 +14,18 @@ use Rattle.lists.specs.Lists.{all, concat}
 use Rattle.lists.proofs.BoolLaws.{and-both, and-left, and-right, and-false, never}
 use Rattle.lists.proofs.ListLaws.{no-length}
 use Rattle.rules.specs.Answer.{Answer, accepted, refused, require, unlessRefused, ifAccepted}
-use Rattle.rules.specs.File.{countsOf, fileEnd, logOf, width}
+use Rattle.rules.specs.File.{chunks, countsOf, fileEnd, logOf, width}
 use Rattle.rules.specs.Issue.{Issued, move, issue, issued, issueAnswer, issueBuffer, issueOut}
 use Rattle.rules.specs.Op.{countIn, isReplica}
 use Rattle.rules.specs.Replay.{outcomeSlot, outcomesOf, parentsOf}
 use Rattle.rules.specs.Sound.{sound}
 use Rattle.rules.specs.Tree.{slot, slots, slotOf}
 use Rattle.rules.proofs.DeliverLaws.{if-not, required, accepted-same}
+use Rattle.rules.proofs.FileLaws.{chunks-concat}
+use Rattle.rules.proofs.TurnLaws.{OneLog}
 use Rattle.batch_rules.specs.Batch.{batchAnswer, batchBuffer, batchOut, issueMoves, mostMoves, moveBuffer, movesAnswer, movesBuffer, movesOps}
 use Rattle.batch_rules.specs.Claims.{AppliedAtIssue, AsOneByOne, ByItsMoves, Decided, EmptyAccepted, OneByOne, RefusedLeaves, Tested, TooMany, WholeAtIssue, allAccepted, lastBuffer, singly}
-use Rattle.batch_rules.proofs.BatchLaws.{AllTaken, Settled, yes, no, all-taken, issue-settled, outcomes-after, slot-in, slot-there, count-after, taken-answer, taken-outcome, taken-parts, taken-tree}
+use Rattle.batch_rules.proofs.BatchLaws.{AllTaken, Settled, yes, no, all-taken, issue-settled, moves-alike, ops-count, ops-wide, outcomes-after, slot-in, slot-there, count-after, taken-answer, taken-outcome, taken-parts, taken-tree}
 
 ---- what an accepted batch has passed
 
@@ -112,6 +114,13 @@ module _ (f out : List ℕ) (s : ℕ) (ns : List ℕ) (p end : ℕ) (e : batchAn
   pub batch-ends : fileEnd width (batchBuffer width f (length out) s ns p) ≡ end
   batch-ends =
       rw batch-buffer (accepted-same _ end (sym (taken-answer ns f s p taken) ∙ passed f (length out) s ns p end e .1))
+
+  -- the ops, read from the lent bytes
+  pub put-in : chunks width (length ns) (batchOut width f out s ns p) ≡ movesOps width f s ns p
+  unfolding batchOut
+  put-in =
+      rw (e, ← ops-count ns f s p)
+      (chunks-concat width (movesOps width f s ns p) (drop (width * length (movesOps width f s ns p)) out) (ops-wide ns f s p taken))
 
   one-by-one : OneByOne f out s ns p end
   unfolding batchOut
@@ -216,3 +225,11 @@ pub too-many : TooMany
 unfolding batchAnswer require
 too-many f out s ns p a (inl h) = rw (a, lt-leb (length ns) mostMoves h)
 too-many f out s ns p a (inr h) = rw (a, lt-leb (width * length ns) (length out) h, and-false)
+
+---- the log and the buffer's length settle it
+
+pub batch-alike : (f g : List ℕ) → OneLog width f g → (out : List ℕ) (s : ℕ) (ns : List ℕ) (p : ℕ)
+    → (batchAnswer width f (length out) s ns p ≡ batchAnswer width g (length out) s ns p)
+    × (batchOut width f out s ns p ≡ batchOut width g out s ns p)
+unfolding batchAnswer batchOut
+batch-alike f g x out s ns p = let y = moves-alike s p ns f g x in (rw (x .first, x .second, y .0), rw (x .first, x .second, y .0, y .1))

@@ -1,5 +1,5 @@
 -- What each call adds, and what settles it: the only laws that go by cases on the call.
-use mathlib.Core.Path.{_≡_, refl, ap, _∙_}
+use mathlib.Core.Path.{_≡_, refl, sym, ap, _∙_}
 use mathlib.Core.Bool.{true, false}
 use mathlib.Core.List.{List, [], _∷_, _++_}
 use Prim.Native.Nat.{ℕ, zero, suc}
@@ -7,10 +7,10 @@ use native.Mathlib.Omega.{arith}
 use lib.ListN.{length, drop}
 use lib.Seq.{take-at}
 use Rattle.rules.specs.Op.{Op}
-use Rattle.rules.specs.File.{logOf, fileEnd, appended, width}
+use Rattle.rules.specs.File.{logOf, fileEnd, appended, chunks, width}
 use Rattle.rules.specs.Answer.{Answer, refused, hadIt, waiting, done, accepted, ifAccepted, unlessRefused}
 use Rattle.rules.specs.Deliver.{makeAnswer, makeBuffer, deliverAnswer, deliverBuffer}
-use Rattle.rules.specs.Issue.{Request, issued, issueAnswer, issueBuffer, issueOut}
+use Rattle.rules.specs.Issue.{Request, move, issued, issueAnswer, issueBuffer, issueOut}
 use Rattle.rules.specs.Bundle.{bodiesIn, turnsAnswer, turnsBuffer, turnsTaken, openAnswer, openBuffer}
 use Rattle.rules.proofs.DeliverLaws.{if-not, required, accepted-same, Admitted, admitted, delivered, appended-end}
 use Rattle.rules.proofs.IssueLaws.{issue-admitted}
@@ -18,11 +18,14 @@ use Rattle.rules.proofs.SoundLaws.{empty-ends}
 use Rattle.rules.specs.Holdback.{Look, found, none, look, searchOn, looks, search, holdbackOps, released, holdbackAnswer, holdbackBuffer, holdbackTaken}
 use Rattle.rules.proofs.ReleaseLaws.{accepted-says, released-alike, answer-alike, after-alike}
 use Rattle.rules.proofs.SearchLaws.{look-found}
-use Rattle.rules.proofs.TurnLaws.{OneLog, one-end, turns-end, deliver-alike, turns-alike}
-use Rattle.convergence.specs.Exchange.{Call, make, issue, deliver, openBundle, deliverHoldback, deliverPage, issuePage, Site, answer, bufferAfter, begun, added, Adds, reply, outAfter, pageAfter, takenBack}
+use Rattle.rules.proofs.TurnLaws.{OneLog, turns-end, deliver-alike, issue-alike, turns-alike}
+use Rattle.convergence.specs.Exchange.{Call, make, issue, deliver, openBundle, deliverHoldback, deliverPage, issuePage, issueMoves, Site, answer, bufferAfter, begun, added, Adds, reply, outAfter, pageAfter, takenBack}
 use Rattle.convergence.specs.Lists.{CallsAdd}
 use Rattle.page_rules.specs.Page.{Page, deliverPageAnswer, issuePageAnswer, pageWith, takenWith, withPage}
 use Rattle.page_rules.proofs.FewLaws.{page-delivered, page-issued}
+use Rattle.batch_rules.specs.Batch.{batchAnswer, batchBuffer, batchOut, moveBuffer, movesBuffer, movesOps}
+use Rattle.batch_rules.proofs.BatchLaws.{AllTaken, after-is}
+use Rattle.batch_rules.proofs.BatchTheorem.{batch-alike, batch-ends, put-in, taken}
 
 ---- what a call adds
 
@@ -49,6 +52,16 @@ turns-add (r ∷ rs) f n e = go (deliverAnswer width f r) refl e (λ g. turns-ad
     go done q e ih = let s : next ≡ f = rw q in rw s (ih f (rw s at e))
     go (accepted m) q e ih = (m, q, ih next e)
 
+-- moves in turn
+moves-add : (ns f : List ℕ) (s p : ℕ) → AllTaken f s ns p → Adds f (movesOps width f s ns p) (movesBuffer width f s ns p)
+unfolding movesOps movesBuffer deliverBuffer
+moves-add [] f s p t = refl
+moves-add (n ∷ ns) f s p t =
+    let (m, e) = t .0 in
+    let took = delivered width f _ m (issue-admitted f width s (move n p) m e) in
+    let same : deliverBuffer width f (issued (logOf width f) s (move n p)) ≡ moveBuffer width f s n p = rw took (sym (after-is f s n p m e)) in
+    (m, took, rw same (moves-add ns (moveBuffer width f s n p) s p (t .1)))
+
 -- ops of a holdback, each found in its turn
 looks-add : (k : ℕ) (f : List ℕ) (ops : List Op) → Adds f (looks k width f ops .taken) (looks k width f ops .buffer)
 unfolding looks searchOn
@@ -73,7 +86,7 @@ opened f b n e = required _ _ _ n (required _ _ _ n e .1) .1
 
 adds : (x : Site) (c : Call) (n : ℕ) → answer (x .buffer) c ≡ accepted n
     → Adds (begun x c .buffer) (added (x .buffer) c) (bufferAfter (x .buffer) c)
-unfolding answer begun added bufferAfter issueBuffer issueOut deliverBuffer openBuffer holdbackBuffer holdbackTaken released
+unfolding answer begun added bufferAfter issueBuffer issueOut deliverBuffer openBuffer holdbackBuffer holdbackTaken released batchBuffer
 adds x make n e = refl
 adds x (issue out s q) n e =
     let h = issue-admitted (x .buffer) (length out) s q n e in
@@ -89,6 +102,9 @@ adds x (issuePage out s q p) n e =
     let h = page-issued (x .buffer) out s q p n e in
     let r : Op = issued (logOf width (x .buffer)) s q in
     rw (e, take-at r (drop width out) width (h .long)) (adds-one (x .buffer) r n h)
+adds x (issueMoves out s ns p) n e =
+    let t = taken (x .buffer) out s ns p n e in
+    rw (e, put-in (x .buffer) out s ns p n e) (moves-add ns (x .buffer) s p t)
 
 made : (f : List ℕ) (n : ℕ) → makeAnswer f ≡ accepted n → accepted 32 ≡ accepted n
 unfolding makeAnswer
@@ -104,9 +120,10 @@ ends f (openBundle b) n e = rw e (turns-end width (bodiesIn width b) f n (opened
 ends f (deliverHoldback r h) n e = rw e (accepted-says width f r h n e .end)
 ends f (deliverPage r p) n e = let h = page-delivered f r p n e in rw e (appended-end width f r n h ∙ h .end)
 ends f (issuePage out s q p) n e = let h = page-issued f out s q p n e in rw e (appended-end width f _ n h ∙ h .end)
+ends f (issueMoves out s ns p) n e = batch-ends f out s ns p n e
 
 keeps : (f : List ℕ) (c : Call) → ifAccepted (answer f c) true false ≡ false → bufferAfter f c ≡ f
-unfolding answer bufferAfter makeBuffer issueBuffer deliverBuffer openBuffer holdbackBuffer
+unfolding answer bufferAfter makeBuffer issueBuffer deliverBuffer openBuffer holdbackBuffer batchBuffer
 keeps f make e = if-not (makeAnswer f) _ f e
 keeps f (issue out s q) e = if-not (issueAnswer width f (length out) s q) _ f e
 keeps f (deliver r) e = if-not (deliverAnswer width f r) _ f e
@@ -114,6 +131,7 @@ keeps f (openBundle b) e = if-not (openAnswer width f b) _ f e
 keeps f (deliverHoldback r h) e = if-not (holdbackAnswer width f r h) _ f e
 keeps f (deliverPage r p) e = if-not (deliverPageAnswer width f r p) _ f e
 keeps f (issuePage out s q p) e = if-not (issuePageAnswer width f (length out) s q p) _ f e
+keeps f (issueMoves out s ns p) e = if-not (batchAnswer width f (length out) s ns p) _ f e
 
 pub calls-add : CallsAdd
 calls-add = record { adds = adds; ends = ends; keeps = keeps }
@@ -129,6 +147,7 @@ begun-is P x (openBundle b) m k = k
 begun-is P x (deliverHoldback r h) m k = k
 begun-is P x (deliverPage r p) m k = k
 begun-is P x (issuePage out s q p) m k = k
+begun-is P x (issueMoves out s ns p) m k = k
 
 pub begun-held : (x y : Site) (c : Call) → x .held ≡ y .held → begun x c .held ≡ begun y c .held
 unfolding begun
@@ -139,6 +158,7 @@ begun-held x y (openBundle b) e = e
 begun-held x y (deliverHoldback r h) e = e
 begun-held x y (deliverPage r p) e = e
 begun-held x y (issuePage out s q p) e = e
+begun-held x y (issueMoves out s ns p) e = e
 
 ---- the log and the buffer's length settle it
 
@@ -162,14 +182,10 @@ module _ (f g : List ℕ) (x : OneLog width f g) where
     unfolding pageWith
     page-alike = rw (with-alike, x .log)
 
-  issue-alike : (room s : ℕ) (q : Request) → issueAnswer width f room s q ≡ issueAnswer width g room s q
-  unfolding issueAnswer
-  issue-alike room s q = rw (x .first, x .second, one-end width f g (x .log), x .log, x .size)
-
   pub reply-alike : (c : Call) → reply f c ≡ reply g c
   unfolding reply answer takenBack outAfter pageAfter issueOut openAnswer deliverPageAnswer issuePageAnswer
   reply-alike make = make-alike f g (x .size)
-  reply-alike (issue out s q) = rw (issue-alike (length out) s q, x .log)
+  reply-alike (issue out s q) = rw (issue-alike width f g x (length out) s q, x .log)
   reply-alike (deliver r) = rw (deliver-alike width f g x r)
   reply-alike (openBundle b) = rw (x .first, x .second, turns-alike width (bodiesIn width b) f g x .0)
   reply-alike (deliverHoldback r h) = rw (answer-alike width f g x r h, after-alike width f g x r h)
@@ -177,18 +193,20 @@ module _ (f g : List ℕ) (x : OneLog width f g) where
       let e = deliver-alike width f g x r in
       rw (taken-alike p r _ _ e, page-alike p r _ _ e, with-alike p r _ _ e)
   reply-alike (issuePage out s q p) =
-      let e = issue-alike (length out) s q in
+      let e = issue-alike width f g x (length out) s q in
       let r : Op = issued (logOf width f) s q in
       rw (← x .log, taken-alike p r _ _ e, page-alike p r _ _ e, with-alike p r _ _ e)
+  reply-alike (issueMoves out s ns p) = let y = batch-alike f g x out s ns p in rw (y .0, y .1)
 
   pub added-alike : (c : Call) → added f c ≡ added g c
   unfolding added issueOut holdbackTaken issuePageAnswer
   added-alike make = refl
-  added-alike (issue out s q) = rw (issue-alike (length out) s q, x .log)
+  added-alike (issue out s q) = rw (issue-alike width f g x (length out) s q, x .log)
   added-alike (deliver r) = refl
   added-alike (openBundle b) = turns-alike width (bodiesIn width b) f g x .1
   added-alike (deliverPage r p) = refl
   added-alike (issuePage out s q p) =
-      let e = issue-alike (length out) s q in
+      let e = issue-alike width f g x (length out) s q in
       rw (← x .log, with-alike p (issued (logOf width f) s q) _ _ e)
+  added-alike (issueMoves out s ns p) = ap (chunks width (length ns)) (batch-alike f g x out s ns p .1)
   added-alike (deliverHoldback r h) = ap (λ (t : List Op). r ∷ t) (released-alike width f g x r h .same-taken)

@@ -9,13 +9,14 @@ use lib.Dec.{eqb}
 use Rattle.rules.specs.Answer.{Answer, accepted, ifAccepted}
 use Rattle.lists.specs.Lists.{upFrom, same, concat, any, filter}
 use Rattle.rules.specs.Op.{Op, replicas, replicaOf, seqOf}
-use Rattle.rules.specs.File.{Log, width, fileEnd, fileOf}
+use Rattle.rules.specs.File.{Log, width, fileEnd, fileOf, chunks}
 use Rattle.rules.specs.Deliver.{makeAnswer, makeBuffer, deliverAnswer, deliverBuffer}
 use Rattle.rules.specs.Issue.{Request, issueAnswer, issueBuffer, issueOut}
 use Rattle.rules.specs.Bundle.{bodiesIn, turnsTaken, openAnswer, openBuffer}
 use Rattle.rules.specs.Holdback.{holdbackAnswer, holdbackBuffer, holdbackAfter, holdbackTaken}
 use Rattle.page_rules.specs.Page.{Page, page}
 use Rattle.page_rules.specs.Page as pages
+use Rattle.batch_rules.specs.Batch as batches
 
 ---- a list of calls
 
@@ -29,6 +30,7 @@ pub data Call : Type 0 where
   deliverHoldback : (op holdback : List ℕ) → Call
   deliverPage : (op : List ℕ) (lent : Page) → Call
   issuePage : (out : List ℕ) (replica : ℕ) → Request → (lent : Page) → Call
+  issueMoves : (out : List ℕ) (replica : ℕ) (nodes : List ℕ) (parent : ℕ) → Call
 
 -- a buffer, and the ops held there, in the order in which they were accepted
 pub record Site : Type 0 where
@@ -43,6 +45,7 @@ answer f (openBundle b) = openAnswer width f b
 answer f (deliverHoldback r h) = holdbackAnswer width f r h
 answer f (deliverPage r p) = pages.deliverPage width f r p .answer
 answer f (issuePage out s q p) = pages.issuePage width f out s q p .answer
+answer f (issueMoves out s ns p) = batches.issueMoves width f out s ns p .answer
 
 unfoldable pub bufferAfter : List ℕ → Call → List ℕ
 bufferAfter f make = makeBuffer width f
@@ -52,6 +55,7 @@ bufferAfter f (openBundle b) = openBuffer width f b
 bufferAfter f (deliverHoldback r h) = holdbackBuffer width f r h
 bufferAfter f (deliverPage r p) = pages.deliverPage width f r p .buffer
 bufferAfter f (issuePage out s q p) = pages.issuePage width f out s q p .buffer
+bufferAfter f (issueMoves out s ns p) = batches.issueMoves width f out s ns p .buffer
 
 -- what an accepted call adds to: making begins with nothing held, every other call with what there was
 unfoldable pub begun : Site → Call → Site
@@ -62,10 +66,12 @@ begun x (openBundle b) = x
 begun x (deliverHoldback r h) = x
 begun x (deliverPage r p) = x
 begun x (issuePage out s q p) = x
+begun x (issueMoves out s ns p) = x
 
 -- the ops that an accepted call adds, in this order: the one that issuing put in the first lent bytes; the one that was delivered; the
 -- bodies of a bundle but those that are passed by; the one that was delivered with a holdback, and those that the search finds there,
--- whatever the holdback has; with a page the same as without, whatever the page has
+-- whatever the holdback has; with a page the same as without, whatever the page has; those that a batch put in the lent bytes, one behind
+-- the other
 unfoldable pub added : List ℕ → Call → List Op
 added f make = []
 added f (issue out s q) = take width (issueOut width f out s q) ∷ []
@@ -74,6 +80,7 @@ added f (openBundle b) = turnsTaken width f (bodiesIn width b)
 added f (deliverHoldback r h) = holdbackTaken width f r h
 added f (deliverPage r p) = r ∷ []
 added f (issuePage out s q p) = take width (pages.issuePage width f out s q p .out) ∷ []
+added f (issueMoves out s ns p) = chunks width (length ns) (batches.issueMoves width f out s ns p .out)
 
 unfoldable pub perform : Site → Call → Site
 perform x c = record {
@@ -94,7 +101,7 @@ lent f = record { buffer = f; held = [] }
 unfoldable pub run : List ℕ → List Call → Site
 run f calls = foldl perform (lent f) (make ∷ calls)
 
--- what a call hands back: its answer, how many ops it took back, and what it leaves in the bytes that it was lent for the op, or in the
+-- what a call hands back: its answer, how many ops it took back, and what it leaves in the bytes that it was lent for ops, or in the
 -- holdback, and in the page
 pub record Reply : Type 0 where
   pub answer : Answer
@@ -110,6 +117,7 @@ outAfter f (openBundle b) = []
 outAfter f (deliverHoldback r h) = holdbackAfter width f r h
 outAfter f (deliverPage r p) = []
 outAfter f (issuePage out s q p) = pages.issuePage width f out s q p .out
+outAfter f (issueMoves out s ns p) = batches.issueMoves width f out s ns p .out
 
 unfoldable pub takenBack : List ℕ → Call → ℕ
 takenBack f make = 0
@@ -119,6 +127,7 @@ takenBack f (openBundle b) = 0
 takenBack f (deliverHoldback r h) = 0
 takenBack f (deliverPage r p) = pages.deliverPage width f r p .taken
 takenBack f (issuePage out s q p) = pages.issuePage width f out s q p .taken
+takenBack f (issueMoves out s ns p) = 0
 
 -- no page was lent
 abbrev noPage : Page
@@ -132,6 +141,7 @@ pageAfter f (openBundle b) = noPage
 pageAfter f (deliverHoldback r h) = noPage
 pageAfter f (deliverPage r p) = pages.deliverPage width f r p .page
 pageAfter f (issuePage out s q p) = pages.issuePage width f out s q p .page
+pageAfter f (issueMoves out s ns p) = noPage
 
 unfoldable pub reply : List ℕ → Call → Reply
 reply f c = record { answer = answer f c; taken = takenBack f c; out = outAfter f c; page = pageAfter f c }

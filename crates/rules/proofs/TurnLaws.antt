@@ -17,6 +17,7 @@ use Rattle.rules.specs.Answer.{Answer, refused, hadIt, waiting, done, ac
 use Rattle.rules.specs.Bundle.{turnsAnswer, turnsBuffer, turnsTaken}
 use Rattle.rules.specs.Deliver.{deliverAnswer, deliverBuffer, admitAnswer, isHeld}
 use Rattle.rules.specs.File.{Log, opAt, countsOf, endOf, fileEnd, logOf, append, appended, within, Extends}
+use Rattle.rules.specs.Issue.{Request, issueAnswer}
 use Rattle.rules.specs.Log.{covered}
 use Rattle.rules.specs.Op.{Op, countIn, replicaOf, vectorOf, seqOf}
 use Rattle.rules.specs.Sound.{sound}
@@ -70,6 +71,10 @@ module _ (w : ℕ) where
       log = delivered-log;
       size = deliver-length w f r ∙ x .size ∙ sym (deliver-length w g r);
     }
+
+  pub issue-alike : (f g : List ℕ) → OneLog w f g → (room s : ℕ) (q : Request) → issueAnswer w f room s q ≡ issueAnswer w g room s q
+  unfolding issueAnswer
+  issue-alike f g x room s q = rw (x .first, x .second, one-end f g (x .log), x .log, x .size)
 
   pub turns-alike : (rs : List Op) (f g : List ℕ) → OneLog w f g
       → (turnsAnswer w f rs ≡ turnsAnswer w g rs) × (turnsTaken w f rs ≡ turnsTaken w g rs)
