@@ -3,7 +3,7 @@ use borrow.Author.Needs.{needs}
 use Rattle.delivery.specs.Adding.{Acceptable, lastTest}
 use Rattle.rules.specs.Answer.{Answer, accepted, refused, require}
 use Rattle.codec.proofs.AnswerLaws.{accepted-with}
-use Rattle.rules.specs.File.{countAt, fileEnd, headerCounts, startOf, width}
+use Rattle.rules.specs.File.{append, appended, chunks, countAt, fileEnd, headerCounts, startOf, width}
 use Rattle.oplog.proofs.FieldLaws.{counts-in}
 use Rattle.oplog.proofs.HeaderLaws.{end-is}
 use Rattle.codec.specs.Asked.{isAccepted}
@@ -19,8 +19,9 @@ use mathlib.Core.Path.{_∙_, _≡_, sym}
 use native.Mathlib.Omega.{arith}
 use borrow.Author.Tests.{le-leb, leb-true, lt-leb}
 use lib.ListN.{length}
+use lib.Seq.{take-all}
 use mathlib.Core.Bool.{true}
-use Rattle.oplog.specs.Append.{Appendable}
+use Rattle.oplog.specs.Append.{Appendable, appendAll, appendedAll}
 use Rattle.rules.specs.Op.{Vector}
 
 ---- the last test; e is where the file ends
@@ -46,25 +47,29 @@ has-room f a is h =
     let (n, e) = accepted-with a h in
     leb-true _ _ (required _ _ _ n (sym is ∙ e) .0)
 
----- an op that is added
+---- an op that is added; r is its replica, widened
 
-pub append-asks : (f : List ℕ) (v : Vector) (s : ℕ) (op : List ℕ) → Acceptable f v s op → (r : ℕ) → r ≡ s → Appendable width f v r op
-append-asks f v s op a r e =
-    let l = replica-low s (a .is-replica) in
-    let u = replica-high s (a .is-replica) in
-    let n : countAt f s < 255 = rw (← counts-in width f s l u) (a .count) in
-    record {
-      wide = omega arith;
-      narrow = omega arith;
-      is-laid = laid-of f (a .is-sound);
-      held = a .held;
-      origin = e ∙ a .origin;
-      low = omega arith;
-      high = omega arith;
-      below = rw e n;
-      long = a .long;
-      room = a .room;
-    }
+module _ (f : List ℕ) (v : Vector) (s : ℕ) (op : List ℕ) (a : Acceptable f v s op) (r : ℕ) (e : r ≡ s) where
+  pub append-asks : Appendable width f v r op 1
+  append-asks =
+      let l = replica-low s (a .is-replica) in
+      let u = replica-high s (a .is-replica) in
+      let n : countAt f s < 255 = rw (← counts-in width f s l u) (a .count) in
+      record {
+        wide = omega arith;
+        narrow = omega arith;
+        is-laid = laid-of f (a .is-sound);
+        held = a .held;
+        low = omega arith;
+        high = omega arith;
+        below = rw e (omega arith);
+        long = omega (arith, a .long);
+        room = omega (arith, a .room);
+      }
+
+  pub added-one : (b : List ℕ) → b ≡ appendedAll width f r (chunks width 1 op) → b ≡ appended width f op
+  unfolding appendedAll appendAll appended append chunks
+  added-one b is = is ∙ rw (take-all width op (omega (arith, a .long)), e, a .origin)
 
 ---- what the code of adding needs: search adding
-pub ruleset adding = (needs, tested, end-small, no-room, room-for)
+pub ruleset adding = (needs, tested, end-small, no-room, room-for, append-asks, added-one)

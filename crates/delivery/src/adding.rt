@@ -1,7 +1,7 @@
 use codec::Answer;
 use codec::Refusal;
 use codec::widen;
-use oplog::append_op;
+use oplog::append_ops;
 use oplog::end_of;
 use soundness::WIDTH;
 ghost use mathlib.Core.Path.{_≡_};
@@ -28,5 +28,5 @@ pub fn accept(buf: &mut [u8], counts: [u8; 8], replica: u8, op: &[u8])
     requires { ⌜ Acceptable (now buf) counts replica (now op) ⌝ }
     ensures { λ _. ⌜ now (buf .exit) ≡ appended width (now (buf .entry)) (now (op .entry)) ⌝ }
 {
-    append_op(buf, counts, widen(replica), op, WIDTH);
+    append_ops(buf, counts, widen(replica), op, 1, WIDTH);
 }

@@ -1,4 +1,4 @@
--- Laws of putting an op into a buffer: bytes moved up, the op in front of them, the header anew.
+-- Laws of putting ops into a buffer: bytes moved up, the ops in front of them, the header anew.
 use lib.ListN.{length-take, length-drop, length-append, length-set, List·getD-append, length, take, drop, getD, set}
 use lib.Seq.{take-all, take-length, take-suc, drop-cons, append-snoc, set-at, length-take-le, getD-take, slice, slice-cons, slice-empty, take-take, drop-drop, take-add, drop-at}
 use mathlib.Core.List.{append-nil, List, [], _∷_, _++_, map, append-assoc}
@@ -7,16 +7,16 @@ use mathlib.Core.Bool.{true}
 use Prim.Native.Nat.{ℕ, zero, suc, _+_, _*_, _-_, _^_, _≤_, _<_}
 use native.Mathlib.Omega.{arith}
 use native.Mathlib.Numerals.{add-one}
-use native.Mathlib.Nat.{mul-add, zero-add}
+use native.Mathlib.Nat.{le-of-suc-le-suc, mul-add, mul-zero, not-suc-le-zero, zero-add}
 use borrow.Author.Needs.{needs}
-use Rattle.rules.specs.File.{endOf, headerCounts, fileEnd, startOf, opsOf, Log, headerOf, countsOf, logOf, append, appended}
+use Rattle.rules.specs.File.{endOf, headerCounts, fileEnd, fileOf, startOf, opsOf, Log, headerOf, countsOf, logOf, chunks, chunksOf}
 use Rattle.rules.specs.Log.{laid, soundHeader}
-use Rattle.rules.specs.Op.{countIn, Op, Vector, replicaOf}
-use Rattle.lists.specs.Lists.{sum}
-use Rattle.rules.proofs.InsertLaws.{appended-bytes}
-use Rattle.rules.proofs.FileLaws.{counts-at, counts-logOf}
+use Rattle.rules.specs.Op.{countIn, Op, Vector}
+use Rattle.lists.specs.Lists.{concat, sum}
+use Rattle.lists.proofs.ListLaws.{concat-append}
+use Rattle.rules.proofs.FileLaws.{bodies-chunksOf, concat-chunks, counts-at, counts-logOf, length-chunks, length-logOf}
 use Rattle.rules.proofs.StructureLaws.{count-held, laid-reads}
-use Rattle.oplog.specs.Append.{Appendable, headedBy, inserted, shifted}
+use Rattle.oplog.specs.Append.{Appendable, appendAll, appendedAll, headedBy, inserted, shifted}
 use Rattle.oplog.proofs.HeaderLaws.{end-is, laid-header, laid-long, start-within}
 
 ---- moving up
@@ -102,13 +102,13 @@ module _ (r d : List ℕ) where
     pub front-last : end ≤ j → part ≡ r ++ drop (length r) d
     front-last h = let e : j ≡ length r = omega (arith, t .whole, t .few) in t .bytes ∙ rw (e, take-length)
 
--- the op in front of the bytes that were moved up
+-- the ops in front of the bytes that were moved up
 pub shift-front : (r p a b : List ℕ) → length r ≤ length p → a ≡ take (length r) p ++ take (length p - length r) p
     → b ≡ r ++ drop (length r) a → b ≡ shifted r p
 unfolding shifted
 shift-front r p a b h e i = i ∙ rw (e, drop-at (take (length r) p) _ (length r) (length-take-le (length r) p h))
 
--- a part with the op in front of its moved bytes, put back into its buffer
+-- a part with the ops in front of its moved bytes, put back into its buffer
 pub put-back : (r b ys : List ℕ) (place end : ℕ) → place ≤ end → end + length r ≤ length b
     → ys ≡ shifted r (take (end + length r - place) (drop place b))
     → take place b ++ (ys ++ drop (end + length r - place) (drop place b)) ≡ inserted r b place end (length r)
@@ -127,46 +127,96 @@ map-set [] i ops = refl
 map-set (x ∷ log) zero ops = refl
 map-set (x ∷ log) (suc i) ops = ap (_∷_ (length x)) (map-set log i ops)
 
--- the counts with one op more
-counts-append : (w : ℕ) (f : List ℕ) (r : Op) → 1 ≤ replicaOf r
-    → countsOf (append (logOf w f) r) ≡ set (headerCounts f) (replicaOf r - 1) (getD (headerCounts f) (replicaOf r - 1) 0 + 1)
-unfolding countsOf append countIn
-counts-append w f r l =
-    let c = counts-logOf w f in
-    let n : length (opsOf (logOf w f) (replicaOf r) ++ (r ∷ [])) ≡ getD (headerCounts f) (replicaOf r - 1) 0 + 1 =
-    length-append (opsOf (logOf w f) (replicaOf r)) (r ∷ []) ∙ ap (λ (k : ℕ). k + 1) (sym (count-held (logOf w f) (replicaOf r))
-    ∙ count-getD w f (replicaOf r)) in
-    map-set (logOf w f) (replicaOf r - 1) (opsOf (logOf w f) (replicaOf r) ++ (r ∷ []))
-    ∙ rw n (ap (λ v. set v (replicaOf r - 1) (getD (headerCounts f) (replicaOf r - 1) 0 + 1)) c)
-  where
-    count-getD : (w : ℕ) (f : List ℕ) (s : ℕ) → countIn (countsOf (logOf w f)) s ≡ getD (headerCounts f) (s - 1) 0
-    count-getD w f s = ap (λ v. getD v (s - 1) 0) (counts-logOf w f)
+take-chunksOf : (w k : ℕ) (ns bs : List ℕ) → take k (chunksOf w ns bs) ≡ chunksOf w (take k ns) bs
+unfolding chunksOf
+take-chunksOf w zero ns bs = refl
+take-chunksOf w (suc k) [] bs = refl
+take-chunksOf w (suc k) (n ∷ ns) bs = rw (take-chunksOf w k ns (drop (w * n) bs))
 
--- a new header over the inserted op: the buffer with one op more
-inserted-appended : (w : ℕ) (f : List ℕ) (r : Op) → laid w f ≡ true → 1 ≤ replicaOf r → replicaOf r ≤ 8
-    → headerOf w (countsOf (append (logOf w f) r)) ++ drop 32 (inserted r f (startOf w (headerCounts f) (replicaOf r + 1)) (fileEnd w f) w)
-    ≡ appended w f r
-unfolding startOf fileEnd endOf sum inserted
-inserted-appended w f r good l u =
-    let c : List ℕ = headerCounts f in
-    let s : ℕ = replicaOf r in
-    let k : s + 1 - 1 ≡ s = omega arith in
-    let p : ℕ = w * sum (take s c) in
-    let q : ℕ = w * sum (drop s c) in
-    let total : sum c ≡ sum (take s c) + sum (drop s c) = sum-split c s in
-    let whole : 32 + w * sum c ≡ 32 + p + q = omega (arith, ap (λ (n : ℕ). w * n) total, mul-add w (sum (take s c)) (sum (drop s c))) in
-    let e : 32 + w * sum c - (32 + p) ≡ q = omega arith in
-    let d : List ℕ = drop (32 + w * sum c + w) f in
-    let t : drop 32 (take (32 + p) f ++ (r ++ (take q (drop (32 + p) f) ++ d))) ≡ take p (drop 32 f)
-    ++ (r ++ (take q (drop p (drop 32 f)) ++ d)) =
-    rw (take-add 32 p f, append-assoc, drop-at (take 32 f) _ 32 (length-take-le 32 f (laid-reads w f good .header)), drop-drop p 32 f) in
-    rw (k, e, t) (sym (appended-bytes w f r l u))
-  where
-    sum-split : (c : List ℕ) (n : ℕ) → sum c ≡ sum (take n c) + sum (drop n c)
-    sum-split [] zero = omega arith
-    sum-split [] (suc n) = omega arith
-    sum-split (x ∷ c) zero = omega arith
-    sum-split (x ∷ c) (suc n) = omega (arith, sum-split c n)
+drop-chunksOf : (w k : ℕ) (ns bs : List ℕ) → drop k (chunksOf w ns bs) ≡ chunksOf w (drop k ns) (drop (w * sum (take k ns)) bs)
+unfolding chunksOf sum
+drop-chunksOf w zero ns bs = rw mul-zero
+drop-chunksOf w (suc k) [] bs = refl
+drop-chunksOf w (suc k) (n ∷ ns) bs = rw (drop-chunksOf w k ns (drop (w * n) bs), drop-drop, ← mul-add w n (sum (take k ns)))
+
+-- the bodies of a log with more ops last in its list i
+bodies-set : (log : Log) (i : ℕ) (ops : List Op) → i < length log
+    → concat (concat (set log i (getD log i [] ++ ops)))
+    ≡ concat (concat (take (suc i) log)) ++ (concat ops ++ concat (concat (drop (suc i) log)))
+unfolding concat
+bodies-set [] i ops h = absurd (not-suc-le-zero h)
+bodies-set (x ∷ log) zero ops h = simp (append-assoc, concat-append)
+bodies-set (x ∷ log) (suc i) ops h =
+    simp (concat-append, append-assoc) (ap (λ t. concat x ++ t) (bodies-set log i ops (le-of-suc-le-suc h)))
+
+module _ (w : ℕ) (f : List ℕ) (s : ℕ) (l : 1 ≤ s) (u : s ≤ 8) (ops : List Op) where
+  abbrev log : Log
+  log = logOf w f
+
+  -- what the bodies of the replicas up to s take, and those of the later ones
+  abbrev before : ℕ
+  before = w * sum (take s (headerCounts f))
+
+  abbrev after : ℕ
+  after = w * sum (drop s (headerCounts f))
+
+  bodies : concat (concat (appendAll log s ops)) ≡ take before (drop 32 f) ++ (concat ops ++ take after (drop before (drop 32 f)))
+  unfolding appendAll opsOf logOf
+  bodies =
+      let k : suc (s - 1) ≡ s = omega arith in
+      rw (
+        bodies-set (chunksOf w (headerCounts f) (drop 32 f)) (s - 1) ops (omega (arith, length-logOf w f)),
+        k,
+        take-chunksOf,
+        drop-chunksOf,
+        bodies-chunksOf,
+        bodies-chunksOf,
+      )
+
+  appended-bytes : appendedAll w f s ops ≡ headerOf w (countsOf (appendAll log s ops))
+      ++ (take before (drop 32 f) ++ (concat ops ++ (take after (drop before (drop 32 f)) ++ drop (fileEnd w f + w * length ops) f)))
+  unfolding appendedAll fileOf
+  appended-bytes = rw bodies (simp append-assoc)
+
+  -- the counts with so many ops more
+  counts-more : countsOf (appendAll log s ops) ≡ set (headerCounts f) (s - 1) (getD (headerCounts f) (s - 1) 0 + length ops)
+  unfolding countsOf appendAll countIn
+  counts-more =
+      let count-getD : countIn (countsOf log) s ≡ getD (headerCounts f) (s - 1) 0 = ap (λ v. getD v (s - 1) 0) (counts-logOf w f) in
+      let n : length (opsOf log s ++ ops) ≡ getD (headerCounts f) (s - 1) 0 + length ops =
+      length-append (opsOf log s) ops ∙ ap (λ (k : ℕ). k + length ops) (sym (count-held log s) ∙ count-getD) in
+      map-set log (s - 1) (opsOf log s ++ ops)
+      ∙ rw n (ap (λ v. set v (s - 1) (getD (headerCounts f) (s - 1) 0 + length ops)) (counts-logOf w f))
+
+  -- a new header over the inserted ops: the buffer with them
+  inserted-appended : laid w f ≡ true
+      → headerOf w (countsOf (appendAll log s ops))
+      ++ drop 32 (inserted (concat ops) f (startOf w (headerCounts f) (s + 1)) (fileEnd w f) (w * length ops))
+      ≡ appendedAll w f s ops
+  unfolding startOf fileEnd endOf sum inserted
+  inserted-appended good =
+      let c : List ℕ = headerCounts f in
+      let k : s + 1 - 1 ≡ s = omega arith in
+      let total : sum c ≡ sum (take s c) + sum (drop s c) = sum-split c s in
+      let whole : 32 + w * sum c ≡ 32 + before + after =
+      omega (arith, ap (λ (n : ℕ). w * n) total, mul-add w (sum (take s c)) (sum (drop s c))) in
+      let e : 32 + w * sum c - (32 + before) ≡ after = omega arith in
+      let d : List ℕ = drop (32 + w * sum c + w * length ops) f in
+      let t : drop 32 (take (32 + before) f ++ (concat ops ++ (take after (drop (32 + before) f) ++ d))) ≡ take before (drop 32 f)
+      ++ (concat ops ++ (take after (drop before (drop 32 f)) ++ d)) =
+      rw (
+        take-add 32 before f,
+        append-assoc,
+        drop-at (take 32 f) _ 32 (length-take-le 32 f (laid-reads w f good .header)),
+        drop-drop before 32 f,
+      ) in
+      rw (k, e, t) (sym appended-bytes)
+    where
+      sum-split : (c : List ℕ) (n : ℕ) → sum c ≡ sum (take n c) + sum (drop n c)
+      sum-split [] zero = omega arith
+      sum-split [] (suc n) = omega arith
+      sum-split (x ∷ c) zero = omega arith
+      sum-split (x ∷ c) (suc n) = omega (arith, sum-split c n)
 
 -- and then the header
 pub put-head : (w : ℕ) (v : Vector) (r b x y : List ℕ) (place end : ℕ) → x ≡ inserted r b place end (length r)
@@ -174,25 +224,25 @@ pub put-head : (w : ℕ) (v : Vector) (r b x y : List ℕ) (place end : ℕ) →
 unfolding headedBy
 put-head w v r b x y place end e i = i ∙ rw e
 
----- adding an op: v are the held counts
+---- adding n ops: v are the held counts
 
-module _ (v : Vector) (s : ℕ) where
-  pub more-fits : countIn v s < 255 → (n : ℕ) → n ≤ 1 → getD v (s - 1) 0 + n < 2 ^ 8
+module _ (v : Vector) (s n k : ℕ) (is : k ≡ getD v (s - 1) 0) where
+  pub more-fits : countIn v s + n ≤ 255 → k + n < 2 ^ 8
   unfolding countIn
-  more-fits h n l = omega arith
+  more-fits h = omega arith
 
-  pub more-is : set v (s - 1) (getD v (s - 1) 0 + 1) ≡ set v (s - 1) (countIn v s + 1)
+  pub more-is : set v (s - 1) (k + n) ≡ set v (s - 1) (countIn v s + n)
   unfolding countIn
-  more-is = refl
+  more-is = rw is
 
-module _ (w : ℕ) (f : List ℕ) (v : Vector) (s : ℕ) (r : Op) (t : Appendable w f v s r) where
+module _ (w : ℕ) (f : List ℕ) (v : Vector) (s : ℕ) (r : List ℕ) (n : ℕ) (t : Appendable w f v s r n) where
   pub append-long : 32 ≤ length f
   append-long = laid-long w f (t .is-laid)
 
   pub append-header : soundHeader w f ≡ true
   append-header = laid-header w f (t .is-laid)
 
-  pub append-below : countIn v s < 255
+  pub append-below : countIn v s + n ≤ 255
   append-below = rw (t .held, counts-at f s (t .low) (t .high)) (t .below)
 
   -- where the file ends, and where the replica's ops end
@@ -200,32 +250,28 @@ module _ (w : ℕ) (f : List ℕ) (v : Vector) (s : ℕ) (r : Op) (t : Appendabl
     end-there : end ≡ fileEnd w f
     end-there = ie ∙ end-is w f
 
-    pub op-fits : end + length r ≤ length f
-    op-fits = omega (arith, end-there, t .room, t .long)
-
-    pub end-small : length f < 2 ^ 64 → end + w < 2 ^ 64
-    end-small h = omega (arith, end-there, t .room)
-
-    pub end-after : end + w ≡ fileEnd w f + w
-    end-after = rw end-there
+    pub ops-fit : end + length r ≤ length f
+    ops-fit = omega (arith, end-there, t .room, t .long)
 
     module _ (place : ℕ) (is : place ≡ startOf w (headerCounts f) (s + 1)) where
       pub place-before : place ≤ end
       place-before = omega (arith, end-there, start-within w f s)
 
-      pub append-all : (c : Vector) → c ≡ set v (s - 1) (countIn v s + 1) → (b : List ℕ) → b ≡ headedBy w c r f place end
-          → b ≡ appended w f r
+      pub append-all : (c : Vector) → c ≡ set v (s - 1) (countIn v s + n) → (b : List ℕ) → b ≡ headedBy w c r f place end
+          → b ≡ appendedAll w f s (chunks w n r)
       unfolding countIn headedBy
       append-all c ic b ib =
-          let l : 1 ≤ replicaOf r = rw (← t .origin) (t .low) in
-          let u : replicaOf r ≤ 8 = rw (← t .origin) (t .high) in
-          let k : c ≡ countsOf (append (logOf w f) r) = ic ∙ rw (t .held, t .origin) (sym (counts-append w f r l)) in
-          let e : startOf w (headerCounts f) (s + 1) ≡ startOf w (headerCounts f) (replicaOf r + 1) = rw (t .origin) in
-          ib ∙ rw (k, is, e, end-there, t .long) (inserted-appended w f r (t .is-laid) l u)
+          let ops : List Op = chunks w n r in
+          let many : length ops ≡ n = length-chunks w n r in
+          let all : concat ops ≡ r = concat-chunks w n r ∙ take-all (w * n) r (omega (arith, t .long)) in
+          let k : c ≡ countsOf (appendAll (logOf w f) s ops) =
+          ic ∙ rw (t .held) (sym (counts-more w f s (t .low) (t .high) ops ∙ rw many)) in
+          let whole = inserted-appended w f s (t .low) (t .high) ops (t .is-laid) in
+          ib ∙ rw (k, is, end-there, t .long) (rw (all, many) at whole)
 
 ---- what the code of appending needs: search appending
 pub ruleset shifting = (move-first, move-next, move-last, front-first, front-next, front-last, shift-front, put-back, put-head)
 
-pub ruleset adding = (more-fits, more-is, append-long, append-header, append-below, place-before, op-fits, end-small, end-after, append-all)
+pub ruleset adding = (more-fits, more-is, append-long, append-header, append-below, place-before, ops-fit, append-all)
 
 pub ruleset appending = (needs, shifting, adding)

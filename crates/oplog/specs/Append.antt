@@ -1,31 +1,41 @@
--- Putting an op into a buffer: what it asks, and what it leaves.
-use Prim.Native.Nat.{ℕ, _+_, _-_, _≤_, _<_}
+-- Putting ops into a buffer: what it asks, and what it leaves.
+use Prim.Native.Nat.{ℕ, _+_, _*_, _-_, _≤_}
 use mathlib.Core.Path.{_≡_}
 use mathlib.Core.Bool.{true}
 use mathlib.Core.List.{List, _++_}
-use lib.ListN.{length, take, drop}
-use Rattle.rules.specs.Op.{Op, Vector, replicaOf}
-use Rattle.rules.specs.File.{countAt, fileEnd, headerCounts, headerOf}
+use lib.ListN.{length, take, drop, set}
+use Rattle.rules.specs.Op.{Op, Vector}
+use Rattle.rules.specs.File.{Log, countAt, fileEnd, fileOf, headerCounts, headerOf, logOf, opsOf}
 use Rattle.rules.specs.Log.{laid}
 
--- a laid-out buffer of these counts has room for an op of w bytes of replica s, and s has not issued all its ops
-pub record Appendable (w : ℕ) (f : List ℕ) (counts : Vector) (s : ℕ) (r : Op) : Type 0 where
+---- ops of one replica, put behind its others
+
+unfoldable pub appendAll : Log → (s : ℕ) → List Op → Log
+appendAll log s ops = set log (s - 1) (opsOf log s ++ ops)
+
+-- the buffer with them; what lies past the new file end stays
+unfoldable pub appendedAll : ℕ → List ℕ → (s : ℕ) → List Op → List ℕ
+appendedAll w f s ops = fileOf w (appendAll (logOf w f) s ops) ++ drop (fileEnd w f + w * length ops) f
+
+-- a laid-out buffer of these counts has room for n ops of w bytes of replica s, and s may issue so many
+pub record Appendable (w : ℕ) (f : List ℕ) (counts : Vector) (s : ℕ) (ops : List ℕ) (n : ℕ) : Type 0 where
   pub wide : 14 ≤ w
   pub narrow : w ≤ 16
   pub is-laid : laid w f ≡ true
   pub held : counts ≡ headerCounts f
-  pub origin : s ≡ replicaOf r
   pub low : 1 ≤ s
   pub high : s ≤ 8
-  pub below : countAt f s < 255
-  pub long : length r ≡ w
-  pub room : fileEnd w f + w ≤ length f
+  pub below : countAt f s + n ≤ 255
+  pub long : length ops ≡ w * n
+  pub room : fileEnd w f + w * n ≤ length f
 
--- bytes moved up by an op in front of them; what no longer fits is dropped
+---- the bytes
+
+-- bytes moved up by ops in front of them; what no longer fits is dropped
 unfoldable pub shifted : Op → List ℕ → List ℕ
 shifted r b = r ++ take (length b - length r) b
 
--- a buffer with an op at a place, and the bytes from there to the end moved up by it
+-- a buffer with ops at a place, and the bytes from there to the end moved up by them
 unfoldable pub inserted : List ℕ → List ℕ → ℕ → ℕ → ℕ → List ℕ
 inserted r b place end w = take place b ++ (r ++ (take (end - place) (drop place b) ++ drop (end + w) b))
 

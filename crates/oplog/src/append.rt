@@ -1,12 +1,13 @@
 use crate::header::end_of;
 use crate::header::write_header;
+use codec::widen;
 ghost use mathlib.Core.Path.{_≡_};
 ghost use mathlib.Core.List.{_++_};
-ghost use Prim.Native.Nat.{_+_, _-_, _≤_, _<_};
+ghost use Prim.Native.Nat.{_+_, _-_, _≤_};
 ghost use lib.ListN.{length, take, drop, set};
 ghost use Rattle.rules.specs.Op.{countIn};
-ghost use Rattle.rules.specs.File.{fileEnd, appended};
-ghost use Rattle.oplog.specs.Append.{Appendable, headedBy, inserted, shifted};
+ghost use Rattle.rules.specs.File.{chunks};
+ghost use Rattle.oplog.specs.Append.{Appendable, appendedAll, headedBy, inserted, shifted};
 
 // Moves the bytes of a part up by the width; what no longer fits is dropped.
 fn move_up(part: &mut [u8], width: usize)
@@ -20,7 +21,7 @@ fn move_up(part: &mut [u8], width: usize)
     }
 }
 
-// Stores an op at the front of a part.
+// Stores bytes at the front of a part.
 pub fn put_front(part: &mut [u8], op: &[u8])
     requires { ⌜ length (now op) ≤ length (now part) ⌝ }
     ensures { λ _. ⌜ now (part .exit) ≡ now (op .entry) ++ drop (length (now (op .entry))) (now (part .entry)) ⌝ }
@@ -30,7 +31,7 @@ pub fn put_front(part: &mut [u8], op: &[u8])
     }
 }
 
-// Moves the bytes of a part up by an op, and stores the op in front.
+// Moves the bytes of a part up by ops, and stores the ops in front.
 fn shift_in(part: &mut [u8], op: &[u8])
     requires { ⌜ length (now op) ≤ length (now part) ⌝ }
     ensures { λ _. ⌜ now (part .exit) ≡ shifted (now (op .entry)) (now (part .entry)) ⌝ }
@@ -39,7 +40,7 @@ fn shift_in(part: &mut [u8], op: &[u8])
     put_front(part, op);
 }
 
-// Puts an op at a place of a buffer whose file ends at end: the part from the place on is lent to
+// Puts ops at a place of a buffer whose file ends at end: the part from the place on is lent to
 // the function that shifts and writes.
 fn insert(buf: &mut [u8], place: usize, end: usize, op: &[u8])
     requires { ⌜ (place ≤ end) × (end + length (now op) ≤ length (now buf)) ⌝ }
@@ -49,8 +50,8 @@ fn insert(buf: &mut [u8], place: usize, end: usize, op: &[u8])
     shift_in(&mut buf[place..after], op);
 }
 
-// Puts an op at a place, and writes the header of the new counts.
-fn put_op(buf: &mut [u8], place: usize, end: usize, op: &[u8], counts: [u8; 8], width: usize)
+// Puts ops at a place, and writes the header of the new counts.
+fn put_ops(buf: &mut [u8], place: usize, end: usize, op: &[u8], counts: [u8; 8], width: usize)
     requires { ⌜ (place ≤ end) × (end + length (now op) ≤ length (now buf)) × (32 ≤ length (now buf)) × (width ≤ 16) ⌝ }
     ensures { λ _. ⌜ now (buf .exit) ≡ headedBy width counts (now (op .entry)) (now (buf .entry)) place end ⌝ }
 {
@@ -58,26 +59,30 @@ fn put_op(buf: &mut [u8], place: usize, end: usize, op: &[u8], counts: [u8; 8], 
     write_header(buf, counts, width);
 }
 
-// The counts with one op more of a replica.
-fn one_more(counts: [u8; 8], replica: usize) -> [u8; 8]
-    requires { ⌜ (1 ≤ replica) × (replica ≤ 8) × (countIn counts replica < 255) ⌝ }
-    ensures { λ r. ⌜ r ≡ set counts (replica - 1) (countIn counts replica + 1) ⌝ }
+// The counts with n ops more of a replica.
+fn with_more(counts: [u8; 8], replica: usize, n: usize) -> [u8; 8]
+    requires { ⌜ (1 ≤ replica) × (replica ≤ 8) × (countIn counts replica + n ≤ 255) ⌝ }
+    ensures { λ r. ⌜ r ≡ set counts (replica - 1) (countIn counts replica + n) ⌝ }
 {
     let mut more = counts;
-    more[replica - 1] += 1;
+    let held = widen(counts[replica - 1]);
+    more[replica - 1] = (held + n) as u8;
     more
 }
 
-// Adds an op to its replica's, and answers the new file end.
-pub fn append_op(buf: &mut [u8], counts: [u8; 8], replica: usize, op: &[u8], width: usize) -> usize
-    requires { ⌜ Appendable width (now buf) counts replica (now op) ⌝ }
-    ensures { λ r. ⌜
-        (r ≡ fileEnd width (now (buf .entry)) + width) × (now (buf .exit) ≡ appended width (now (buf .entry)) (now (op .entry)))
-        ⌝ }
+// Adds n ops, which stand one behind the other, to their replica's.
+pub fn append_ops(
+    buf: &mut [u8],
+    counts: [u8; 8],
+    replica: usize,
+    ops: &[u8],
+    n: usize,
+    width: usize,
+)
+    requires { ⌜ Appendable width (now buf) counts replica (now ops) n ⌝ }
+    ensures { λ _. ⌜ now (buf .exit) ≡ appendedAll width (now (buf .entry)) replica (chunks width n (now (ops .entry))) ⌝ }
 {
     let place = end_of(buf, replica, width);
     let end = end_of(buf, 8, width);
-    let after = end + width;
-    put_op(buf, place, end, op, one_more(counts, replica), width);
-    after
+    put_ops(buf, place, end, ops, with_more(counts, replica, n), width);
 }

@@ -1,11 +1,11 @@
 // The operation log (the document's collection) in a lent buffer: its header, the places of its ops,
-// a marker through them, and adding an op. Ops have `width` bytes.
+// a marker through them, and adding ops. Ops have `width` bytes.
 mod append;
 mod header;
 mod marker;
 mod places;
 
-pub use append::append_op;
+pub use append::append_ops;
 pub use append::put_front;
 pub use header::count_at;
 pub use header::counts_of;

@@ -12,7 +12,6 @@ pub mod LayerLaws
 pub mod SoundLaws
 pub mod FrontLaws
 pub mod DeliverLaws
-pub mod InsertLaws
 pub mod OfferLaws
 pub mod IssueLaws
 pub mod WayLaws

@@ -1,6 +1,6 @@
 -- `delivery::adding::accept` meets its contract.
 use borrow.Author.Needs.{needs}
-use Rattle.delivery.proofs.AddCases.{append-asks}
+use Rattle.delivery.proofs.AddCases.{adding}
 use Rattle.delivery.proofs.adding.accept.Statement.{statement}
 use Rattle.delivery.proofs.adding.accept.Tie as tie
 
@@ -9,6 +9,6 @@ accept-spec =
     tie.close
     (tie.spec
     (λ c κs. search needs)
-    (λ c κs. append-asks _ _ _ _ (search needs) _ (c .widen .ensures .0))
+    (λ c κs. search adding)
     (λ c. search needs)
-    (λ c. search needs))
+    (λ c. search adding))
