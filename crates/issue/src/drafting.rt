@@ -21,7 +21,7 @@ ghost use Rattle.request.specs.Requests.{requestOf};
 ghost use Rattle.issue.specs.Issuing.{movedIn, clearedOp, drafted, Issuer, KnownRequest, Movable, InTree};
 
 // Number 9: whether a replica has an op left to issue.
-fn has_left(counts: [u8; 8], replica: u8) -> bool
+pub fn has_left(counts: [u8; 8], replica: u8) -> bool
     requires { ⌜ isReplica replica ≡ true ⌝ }
     ensures { λ r. ⌜ r ≡ ltb (countIn counts replica) 255 ⌝ }
 {
@@ -38,7 +38,7 @@ fn next_node(counts: [u8; 8], replica: u8) -> u16
 }
 
 // Number 10 of a move in a tree, or the op to issue.
-fn draft_move(parents: &[u16], node: u16, parent: u16) -> Drafted
+pub fn draft_move(parents: &[u16], node: u16, parent: u16) -> Drafted
     requires { ⌜ InTree (now parents) node ⌝ }
     ensures { λ r. ⌜ r ≡ movedIn (now (parents .entry)) node parent ⌝ }
 {

@@ -13,7 +13,7 @@ ghost use Rattle.request.specs.Requests.{requestOf};
 ghost use Rattle.rules.specs.Issue as rules;
 
 // Whether a number is a replica's.
-fn is_replica(s: u8) -> bool
+pub fn is_replica(s: u8) -> bool
     ensures { λ r. ⌜ r ≡ isReplica s ⌝ }
 {
     if s < 1 {

@@ -17,7 +17,7 @@ ghost use Rattle.marks.specs.Knowing.{MarkedLog};
 ghost use Rattle.request.specs.Requests.{requestOf};
 
 // Number 7 of a move: node and parent are known, and are not the same.
-fn knows_move(file: &[u8], counts: [u8; 8], node: u16, parent: u16) -> bool
+pub fn knows_move(file: &[u8], counts: [u8; 8], node: u16, parent: u16) -> bool
     requires { ⌜ Tallied (now file) counts ⌝ }
     ensures { λ r. ⌜ r ≡ requestKnown (logOf width (now (file .entry))) (move node parent) ⌝ }
 {
@@ -64,17 +64,25 @@ fn add_unmarked(file: &[u8], counts: [u8; 8], parent: u16) -> bool
     takes_work(file, counts, &marks, parent)
 }
 
-// Number 11 of a move: node and parent.
+// Number 11 of a move by the table of marks: node and parent.
+pub fn move_takes_work(file: &[u8], counts: [u8; 8], marks: &[u8], node: u16, parent: u16) -> bool
+    requires { ⌜ MarkedLog (now file) counts (now marks) ⌝ }
+    ensures { λ r. ⌜ r ≡ requestUnmarked (logOf width (now (file .entry))) (move node parent) ⌝ }
+{
+    if !takes_work(file, counts, marks, node) {
+        return false;
+    }
+    takes_work(file, counts, marks, parent)
+}
+
+// Number 11 of a move.
 fn move_unmarked(file: &[u8], counts: [u8; 8], node: u16, parent: u16) -> bool
     requires { ⌜ Tallied (now file) counts ⌝ }
     ensures { λ r. ⌜ r ≡ requestUnmarked (logOf width (now (file .entry))) (move node parent) ⌝ }
 {
     let mut marks = [0u8; SLOTS];
     mark_ops(file, &mut marks);
-    if !takes_work(file, counts, &marks, node) {
-        return false;
-    }
-    takes_work(file, counts, &marks, parent)
+    move_takes_work(file, counts, &marks, node, parent)
 }
 
 // Number 11: whether what takes the work of a request is unmarked. A remove is no work.

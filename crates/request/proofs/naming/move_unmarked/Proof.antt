@@ -12,7 +12,4 @@ move-unmarked-spec =
     (λ c κs. search naming)
     (λ c. search needs)
     (λ c κs. search needs)
-    (λ c. search naming)
-    (λ c. search needs)
-    (λ c κs. search needs)
     (λ c. search naming))
