@@ -55,7 +55,17 @@ pub fn issue_move(
     parent: u16,
     out: &mut [u8],
 ) -> Answer {
-    answer(issue(buffer, replica, out, |_| (Kind::Down, node, parent)))
+    answer(try_issue_move(buffer, replica, node, parent, out))
+}
+
+pub(crate) fn try_issue_move(
+    buffer: &mut [u8],
+    replica: u8,
+    node: u16,
+    parent: u16,
+    out: &mut [u8],
+) -> Result<Answer, u8> {
+    issue(buffer, replica, out, |_| (Kind::Down, node, parent))
 }
 
 /// Tests 1, 2, 3, 9, 7, 11, 10, 8; `draft` gives kind, node and parent.

@@ -1,5 +1,6 @@
 //! The cases of the vectors, section by section. All are deterministic.
 
+mod batch;
 mod bundle;
 mod climb;
 pub mod damage;
@@ -113,6 +114,7 @@ impl Script {
             "holdback" => holdback::write(self),
             "climb" => climb::write(self),
             "page" => page::write(self),
+            "batch" => batch::write(self),
             _ => return false,
         }
         true

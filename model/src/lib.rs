@@ -5,6 +5,7 @@
 
 #![forbid(unsafe_code)]
 
+pub mod batch;
 pub mod bundle;
 pub mod calls;
 pub mod cases;
@@ -17,6 +18,7 @@ pub mod script;
 pub mod tree;
 pub mod view;
 
+pub use batch::{issue_moves, MAX_BATCH};
 pub use bundle::{make_bundle, open_bundle};
 pub use calls::{
     deliver, file_end, held_counts, is_sound, issue_add, issue_move, issue_remove, judge, make,

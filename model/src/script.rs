@@ -3,8 +3,9 @@
 
 use crate::{
     deliver, deliver_holdback, deliver_page, issue_add, issue_add_page, issue_move,
-    issue_move_page, issue_remove, issue_remove_page, judge, listing, make, make_bundle,
-    open_bundle, outline, path, refusal, Answer, Log, Page, Tables, Tree, Vector, View,
+    issue_move_page, issue_moves, issue_remove, issue_remove_page, judge, listing, make,
+    make_bundle, open_bundle, outline, path, refusal, Answer, Log, Page, Tables, Tree, Vector,
+    View,
 };
 
 /// Limits of the grammar.
@@ -15,6 +16,8 @@ pub const MAX_LISTING: u16 = 24_000;
 pub const MAX_RECORD: u8 = 40;
 pub const MAX_BUNDLE: u16 = 28_600;
 pub const MAX_HOLDBACK: usize = 600;
+pub const MAX_NODES: usize = 40;
+pub const MAX_RECORDS: u16 = 600;
 
 /// Bytes with at most this length are printed in full.
 const SHORT: usize = 64;
@@ -47,6 +50,8 @@ pub enum Case {
     AddPage(u8, u16, u8, Tables),
     RemovePage(u8, u16, u8, Tables),
     MovePage(u8, u16, u16, u8, Tables),
+    /// Of a replica to a parent, with so many bytes lent, of these nodes.
+    Batch(u8, u16, u16, Vec<u16>),
 }
 
 impl Case {
@@ -115,6 +120,12 @@ impl Case {
                 line.push(*room);
                 tables(&mut line, page);
             }
+            Case::Batch(replica, parent, room, nodes) => {
+                start(&mut line, 0x13, &[*replica]);
+                line.extend(parent.to_be_bytes());
+                line.extend(room.to_be_bytes());
+                line.extend(nodes.iter().flat_map(|node| node.to_be_bytes()));
+            }
         }
         line
     }
@@ -144,6 +155,7 @@ impl Case {
                 Case::AddPage(_, _, room, page)
                 | Case::RemovePage(_, _, room, page)
                 | Case::MovePage(_, _, _, room, page) => *room <= MAX_RECORD && page_fits(page),
+                Case::Batch(_, _, room, nodes) => *room <= MAX_RECORDS && nodes.len() <= MAX_NODES,
                 _ => true,
             }
     }
@@ -278,6 +290,9 @@ impl Machine {
                     issue_move_page(buffer, *replica, *node, *parent, out, page)
                 })
             }
+            Case::Batch(replica, parent, room, nodes) => with_bytes(*room, |out| {
+                issue_moves(buffer, *replica, nodes, *parent, out)
+            }),
         }
     }
 }

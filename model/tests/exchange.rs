@@ -43,6 +43,10 @@ struct Tally {
     /// Accepted calls with a page, and the ops that they took back.
     paged: usize,
     taken: usize,
+    /// Accepted batches, their moves, and batches that were refused.
+    batches: usize,
+    batched: usize,
+    refused: usize,
 }
 
 impl Side {
@@ -156,6 +160,21 @@ impl Side {
             self.held.push(op.clone());
             op
         })
+    }
+
+    /// A batch joins the list with all of its moves, or with none.
+    fn issue_moves(&mut self, replica: u8, parent: u16, nodes: &[u16]) -> Vec<Vec<u8>> {
+        let room = 14 * nodes.len();
+        let (answer, out) = batch_in(&mut self.buffer, replica, parent, nodes, room);
+        if !matches!(answer, Accepted(_)) {
+            self.tally.refused += 1;
+            return vec![];
+        }
+        self.tally.batches += 1;
+        self.tally.batched += nodes.len();
+        let ops: Vec<Vec<u8>> = out.chunks(14).map(<[u8]>::to_vec).collect();
+        self.held.extend(ops.clone());
+        ops
     }
 
     fn count(&self, replica: u8) -> usize {
@@ -293,7 +312,15 @@ impl Meeting {
             3 => Issue::Remove(node),
             _ => Issue::Move(node, parent),
         };
+        let nodes: Vec<u16> = (0..rng.below(5))
+            .map(|_| some_node(rng, &self.sides[at]))
+            .collect();
         let side = &mut self.sides[at];
+        if rng.one_in(6) {
+            self.issued
+                .extend(side.issue_moves(replica, parent, &nodes));
+            return;
+        }
         let issued = if rng.one_in(5) {
             side.call_with_page(&PageCall::Issue(replica, issue, 14))
         } else {
@@ -444,6 +471,9 @@ fn random_lists_then_rounds() {
             all.bad += tally.bad;
             all.paged += tally.paged;
             all.taken += tally.taken;
+            all.batches += tally.batches;
+            all.batched += tally.batched;
+            all.refused += tally.refused;
         }
         for i in 0..meeting.sides.len() {
             for j in 0..i {
@@ -467,6 +497,8 @@ fn random_lists_then_rounds() {
     assert!(all.waiting > 1000 && all.freed > 500, "{all:?}");
     assert!(all.bad > 50, "{all:?}");
     assert!(all.paged > 1000 && all.taken > 1000, "{all:?}");
+    assert!(all.batches > 300 && all.batched > 200, "{all:?}");
+    assert!(all.refused > 300, "{all:?}");
 }
 
 /// Parts of one large world, as two sides came to hold them.

@@ -402,6 +402,91 @@ fn issuing() {
     enough(9, 5);
 }
 
+/// The document's batch: one after another, each in the tree left by those before.
+/// The tests are those from 2 on, with so many bytes of output and so much room.
+fn batch(
+    bodies: &[Body],
+    replica: u8,
+    parent: u16,
+    nodes: &[u16],
+    output: usize,
+    room: usize,
+) -> Result<Vec<Body>, u8> {
+    if nodes.len() > 16 || output < 14 * nodes.len() {
+        return Err(2);
+    }
+    if !(1..=8).contains(&replica) {
+        return Err(3);
+    }
+    let mut all = bodies.to_vec();
+    for &node in nodes {
+        let left = room - 14 * (all.len() - bodies.len());
+        let tree = Naive::judge(&all);
+        let issue = Issue::Move(node, parent);
+        all.push(issued(&all, &tree, replica, issue, left)?);
+    }
+    Ok(all.split_off(bodies.len()))
+}
+
+/// Lists of any nodes, most of which can go under the parent.
+#[test]
+fn batches() {
+    let rng = &mut Rng::new(73);
+    let mut seen = [0; 12];
+    let mut moves = 0;
+    for round in 0..1200 {
+        let style = [world::Style::mixed, world::Style::moves][round % 2];
+        let mut style = style(1 + rng.below(8), 2 + rng.below(25));
+        style.remove_one_in = 20;
+        let ops = match round % 100 {
+            0 => adds(3, 254),
+            _ => world::World::random(rng, style).ops,
+        };
+        let bodies: Vec<Body> = ops.iter().map(|op| op.bytes().to_vec()).collect();
+        let mut numbers: Vec<u16> = ops.iter().map(|op| op.node).collect();
+        let tree = Naive::judge(&bodies);
+        let some = rng.pick(&numbers);
+        let parent = rng.pick(&[0, some, some, some, some, some, 9999]);
+        if !rng.one_in(5) {
+            let can_go = |node: &u16| *node != 0 && !tree.below(*node).contains(&parent);
+            numbers.retain(|node| can_go(node) && *node != parent);
+            numbers.push(rng.pick(&ops).node);
+        }
+        let count: usize = rng.pick(&[0, 1, 2, 3, 4, 4, 8, 16, 17]);
+        let nodes: Vec<u16> = (0..count).map(|_| rng.pick(&numbers)).collect();
+        let replica = rng.pick(&[0, 1, 2, 3, 3, 5, 8, 9]);
+        let output = match rng.below(12) {
+            0 => (14 * count).saturating_sub(1),
+            1 => 14 * count + 1,
+            _ => 14 * count,
+        };
+        let room = rng.pick(&[20, 60, 250, 250, 250]);
+        let file = file_of(&ops);
+        let mut buffer = in_buffer(&file, file.len() + room);
+        let (answer, out) = batch_in(&mut buffer, replica, parent, &nodes, output);
+        match (
+            answer,
+            batch(&bodies, replica, parent, &nodes, output, room),
+        ) {
+            (Accepted(end), Ok(issued)) => {
+                assert_eq!(end, file.len() + 14 * count);
+                assert_eq!(out[..14 * count], issued.concat());
+                seen[0] += 1;
+                moves += count;
+            }
+            (Refused(number), Err(expected)) => {
+                assert_eq!(number, expected);
+                seen[usize::from(number)] += 1;
+            }
+            other => panic!("{other:?}"),
+        }
+    }
+    for number in [0, 2, 3, 7, 8, 10, 11] {
+        assert!(seen[number] > 20, "{seen:?}");
+    }
+    assert!(moves > 500 && seen[9] > 0, "{moves} {seen:?}");
+}
+
 /// Vectors of ops, joins of them, and any counts up to what is held.
 #[test]
 fn three_outcomes() {

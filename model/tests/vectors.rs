@@ -1,12 +1,12 @@
 //! The vectors: their grammar, their size, and a few lines known by hand.
 
-use outline_model::cases::examples::{file_of, p1};
+use outline_model::cases::examples::{add, down, file_of, p1, up};
 use outline_model::cases::Script;
 use outline_model::script::{Case, Machine};
 use outline_model::{Tables, View};
 
-const SECTIONS: [&str; 8] = [
-    "deliver", "judge", "issue", "view", "bundle", "holdback", "climb", "page",
+const SECTIONS: [&str; 9] = [
+    "deliver", "judge", "issue", "view", "bundle", "holdback", "climb", "page", "batch",
 ];
 
 fn section(name: &str) -> Script {
@@ -54,7 +54,9 @@ fn lines_by_hand() {
     assert_eq!(issued, "r 1 0 66566 000102 0  17106951 00010002 0  4 03");
     let issued = run(Case::MovePage(1, 0, 0, 0, Tables::default()));
     assert_eq!(issued, "r 1 0 66566 000102 0  0  0  0 ");
+    assert_eq!(run(Case::Batch(1, 0, 1, vec![])), "r 1 66566 000102 239 ee");
     run(Case::Load(vec![]));
+    assert_eq!(run(Case::Batch(1, 0, 0, vec![257])), "r 1 0  0 ");
     assert_eq!(run(Case::Climb(0, 0)), "r 1 0 ");
 }
 
@@ -106,6 +108,56 @@ fn a_page_by_hand() {
         )
     );
     assert_eq!(machine.page, page);
+}
+
+/// Two adds, and then both moves of a batch under the first of three nodes.
+#[test]
+fn a_batch_by_hand() {
+    let mut machine = Machine::default();
+    let digest = |bytes: &[u8]| {
+        let step = |h: u64, &b: &u8| (h * 257 + u64::from(b) + 1) % 4_294_967_291;
+        bytes.iter().fold(0, step)
+    };
+    let ops = [add(1, 0, &[]), add(1, 0, &[1]), add(1, 258, &[2])];
+    let file = file_of(&ops);
+    machine.run(&Case::Load([&file[..], &[0xa5; 30]].concat()));
+    let before = digest(&machine.buffer);
+    // One byte too few, a node that is not known, and none at all.
+    let line = machine.run(&Case::Batch(2, 257, 27, vec![258, 259]));
+    let lent = [0xee; 27];
+    let written = format!("{} {}", digest(&lent), "ee".repeat(27));
+    assert_eq!(line, format!("r 2 {before} {written}"));
+    let line = machine.run(&Case::Batch(2, 257, 28, vec![258, 260]));
+    let lent = [0xee; 28];
+    let written = format!("{} {}", digest(&lent), "ee".repeat(28));
+    assert_eq!(line, format!("r 7 {before} {written}"));
+    let line = machine.run(&Case::Batch(2, 9999, 1, vec![]));
+    assert_eq!(line, format!("a 74 {before} 239 ee"));
+    let line = machine.run(&Case::Batch(2, 257, 30, vec![258, 259]));
+    let moves = [
+        down(2, 258, 257, &[3]).bytes(),
+        up(2, 259, 257, &[3, 1]).bytes(),
+    ];
+    let all = [
+        &ops[..],
+        &[down(2, 258, 257, &[3]), up(2, 259, 257, &[3, 1])],
+    ]
+    .concat();
+    let buffer = digest(&[file_of(&all), vec![0xa5; 2]].concat());
+    let written = [&moves.concat()[..], &[0xee; 2]].concat();
+    let digits: String = written.iter().map(|byte| format!("{byte:02x}")).collect();
+    assert_eq!(
+        line,
+        format!("a 102 {buffer} {} {digits}", digest(&written))
+    );
+}
+
+/// More than 40 nodes, or more than 600 bytes lent.
+#[test]
+fn batches_that_the_grammar_has_not() {
+    assert!(Case::Batch(1, 0, 600, vec![0; 40]).fits());
+    assert!(!Case::Batch(1, 0, 601, vec![0; 40]).fits());
+    assert!(!Case::Batch(1, 0, 600, vec![0; 41]).fits());
 }
 
 /// P1: 257 lies under 258. The buffer stays as it is.
@@ -242,6 +294,11 @@ fn case_bytes() {
             Case::MovePage(1, 257, 258, 40, Tables::default()),
             "12010101010228000000000000",
         ),
+        (Case::Batch(1, 257, 600, vec![]), "130101010258"),
+        (
+            Case::Batch(8, 0, 28, vec![258, 2303]),
+            "13080000001c010208ff",
+        ),
     ];
     for (case, line) in cases {
         assert_eq!(case.line(), line);
@@ -292,6 +349,7 @@ fn sections_are_of_good_size_and_repeat() {
         let bytes: usize = script.cases.iter().map(|line| line.len() + 1).sum();
         let most = match name {
             "deliver" | "holdback" | "page" => 1_500_000,
+            "batch" => 1_200_000,
             "bundle" | "climb" => 400_000,
             _ => 1_000_000,
         };
@@ -389,6 +447,47 @@ fn pages_reach_every_answer_often() {
     }
     // Issues take back all or none.
     assert!(taken[&("12".into(), 0)] > 30 && taken[&("12".into(), 7)] > 20);
+}
+
+/// Each number and each size up to 16 come, accepted and refused, and longer lists
+/// are refused. Moves of both kinds are issued.
+#[test]
+fn batches_reach_every_answer_often() {
+    let script = section("batch");
+    let mut seen = std::collections::BTreeMap::new();
+    let mut sizes = [[0; 2]; 41];
+    let mut kinds = [0; 2];
+    for (case, line) in script.cases.iter().zip(&script.answers) {
+        if !case.starts_with("13") {
+            continue;
+        }
+        let words: Vec<&str> = line.split(' ').collect();
+        let size = (case.len() - 12) / 4;
+        let accepted = words[0] == "a";
+        sizes[size][usize::from(accepted)] += 1;
+        let key = if accepted { "a" } else { words[1] };
+        *seen.entry(key).or_insert(0) += 1;
+        // Where little is lent it is printed in full, else there is the digest alone.
+        let ops = words[words.len() - 1];
+        if accepted && ops.len() >= 28 * size {
+            for op in 0..size {
+                kinds[usize::from(&ops[28 * op..28 * op + 2] == "04")] += 1;
+            }
+        }
+    }
+    let mut expected: Vec<&str> = "1 2 3 7 8 9 10 11 a".split(' ').collect();
+    expected.sort();
+    assert_eq!(seen.keys().copied().collect::<Vec<_>>(), expected);
+    assert!(seen.values().all(|&count| count > 100), "{seen:?}");
+    for (size, [refused, accepted]) in sizes.into_iter().enumerate() {
+        match size {
+            0..=2 | 15 | 16 => assert!(refused > 20 && accepted > 20, "{size}"),
+            3..=14 => assert!(refused > 0 && accepted > 1, "{size}"),
+            _ => assert_eq!(accepted, 0, "{size}"),
+        }
+    }
+    assert!(sizes[17][0] > 20 && sizes[40][0] > 5);
+    assert!(kinds.iter().all(|&count| count > 200), "{kinds:?}");
 }
 
 /// In chains of calls each is lent the page that the last one left.

@@ -9,7 +9,8 @@ use outline_model::cases::world::{self, full, orders, part, Style, World};
 use outline_model::cases::{damage, examples};
 use outline_model::rng::Rng;
 use outline_model::{
-    refusal, tree, Answer, Log, Op, Page, Tables, Tree, Vector, View, MAX_FILE, ORDER_LEN, SLOTS,
+    refusal, tree, Answer, Knowledge, Log, Op, Page, Tables, Tree, Vector, View, MAX_FILE,
+    ORDER_LEN, SLOTS,
 };
 
 fn both<T: Clone + PartialEq + std::fmt::Debug, U: Clone + PartialEq + std::fmt::Debug>(
@@ -99,6 +100,9 @@ fn all_calls(rng: &mut Rng, buffer: &[u8], ops: &[Op]) {
         examples::bundle_of(&ops[..ops.len().min(9)]),
     ] {
         open(buffer, &bundle);
+    }
+    for _ in 0..6 {
+        some_batch(rng, buffer, ops);
     }
     for holdback in [vec![], vec![0; 449], examples::holdback_of(&examples::p1())] {
         let op = ops.first().map_or(vec![1; 14], |op| op.bytes().to_vec());
@@ -585,6 +589,170 @@ fn chains() {
                 );
                 rng.shuffle(&mut waiting);
             }
+        }
+    }
+}
+
+/// Issues a batch at both, with so many bytes lent, and hands the answer and the
+/// buffer back.
+fn issue_moves(
+    buffer: &[u8],
+    replica: u8,
+    nodes: &[u16],
+    parent: u16,
+    room: usize,
+) -> (Answer, Vec<u8>) {
+    let mut answer = Answer::Done;
+    let (buffer, _) = both(
+        buffer,
+        &vec![7u8; room],
+        |b, o| careful::issue_moves(b, replica, nodes, parent, o),
+        |b, o| {
+            answer = outline_model::issue_moves(b, replica, nodes, parent, o);
+            answer
+        },
+    );
+    (answer, buffer)
+}
+
+/// A batch of which most nodes can go under the parent, with the right output or
+/// about that.
+fn some_batch(rng: &mut Rng, buffer: &[u8], ops: &[Op]) -> (Answer, Vec<u8>) {
+    let log = Log::open(buffer).unwrap_or_default();
+    let tree = Tree::judge(&log);
+    let mut nodes: Vec<u16> = tree.nodes().collect();
+    if !rng.one_in(6) {
+        nodes.retain(|&node| log.knowledge(&log.held(), node) == Knowledge::Unmarked);
+    }
+    let parent = match nodes[..] {
+        [] => 0,
+        _ if rng.one_in(5) => rng.pick(&[0, 0, 0, 513, 4000]),
+        _ => rng.pick(&nodes),
+    };
+    if !rng.one_in(6) && (parent == 0 || nodes.contains(&parent)) {
+        let path: Vec<u16> = tree.path(parent).collect();
+        nodes.retain(|node| !path.contains(node));
+    }
+    let count = rng.pick(&[0, 1, 2, 3, 4, 7, 15, 16, 16, 17]);
+    let mut list = vec![0; if nodes.is_empty() { 0 } else { count }];
+    list.fill_with(|| rng.pick(&nodes));
+    if rng.one_in(5) && !ops.is_empty() {
+        list.insert(rng.below(list.len() + 1), rng.pick(ops).node);
+    }
+    let exact = 14 * list.len();
+    let room = rng.pick(&[exact, exact, exact, exact + 9, exact.saturating_sub(1)]);
+    let replica = rng.pick(&[0, 1, 2, 3, 4, 5, 6, 7, 8, 9]);
+    issue_moves(buffer, replica, &list, parent, room)
+}
+
+/// Batches one after another in random logs, shallow and deep.
+#[test]
+fn batches() {
+    let mut rng = Rng::new(13);
+    let mut refused = [0; 12];
+    let [mut accepted, mut moves] = [0; 2];
+    for round in 0..2500 {
+        let style = [Style::moves, Style::mixed][round % 2](1 + round % 8, 1 + rng.below(50));
+        let deep = world::Deep {
+            chains: 1 + rng.below(3),
+            length: 3 + rng.below(20),
+            moves: rng.below(20),
+        };
+        let ops = match round % 3 {
+            0 => World::deep(&mut rng, deep).ops,
+            _ => World::random(&mut rng, style).ops,
+        };
+        let mut buffer = examples::file_of(&ops);
+        let room = rng.pick(&[0, 13, 14, 60, 224, 700, 700]);
+        buffer.resize(buffer.len() + room, 9);
+        if rng.one_in(25) {
+            buffer = damage::random(&mut rng, &buffer);
+        }
+        for _ in 0..4 {
+            let before = Log::open(&buffer).map_or(0, |log| log.ops().count());
+            let answer;
+            (answer, buffer) = some_batch(&mut rng, &buffer, &ops);
+            match answer {
+                Answer::Accepted(end) => {
+                    accepted += 1;
+                    moves += (end - 32) / 14 - before;
+                }
+                Answer::Refused(number) => refused[usize::from(number)] += 1,
+                other => panic!("{other:?}"),
+            }
+        }
+    }
+    for number in [1, 2, 3, 7, 8, 10, 11] {
+        assert!(refused[number] > 50, "{refused:?}");
+    }
+    assert!(accepted > 1000 && moves > 3000, "{accepted} {moves}");
+}
+
+/// Each of these in each place of a list, with room for so many moves, at replicas
+/// that have so many ops left.
+#[test]
+fn refused_batches() {
+    let mut seen = [0; 12];
+    for held in [5, 252, 253, 254, 255] {
+        let mut ops = examples::adds(1, held);
+        // 257 > 258, which is the parent; 259 is removed.
+        ops[1].parent = 257;
+        ops.push(examples::remove(2, 259, &[held as u8]));
+        for room in [0, 13, 14, 28, 41, 42, 56] {
+            let mut buffer = examples::file_of(&ops);
+            buffer.resize(buffer.len() + room, 9);
+            for parent in [258, 259, 0, 4000] {
+                for other in [260, 4000, 0, 258, 259, 257, 513, 769] {
+                    for count in 0..4 {
+                        for place in 0..count {
+                            let mut nodes = vec![261; count];
+                            nodes[place] = other;
+                            let (answer, _) = issue_moves(&buffer, 1, &nodes, parent, 56);
+                            match answer {
+                                Answer::Refused(number) => seen[usize::from(number)] += 1,
+                                _ => seen[0] += 1,
+                            }
+                            issue_moves(&buffer, 3, &nodes, parent, 14 * count);
+                        }
+                    }
+                    issue_moves(&buffer, 1, &[], parent, 0);
+                }
+            }
+        }
+    }
+    for number in [0, 7, 8, 9, 10, 11] {
+        assert!(seen[number] > 50, "{seen:?}");
+    }
+}
+
+/// 16 moves that fill a log, in one chain and across two, from above and from below.
+#[test]
+fn large_batches() {
+    let mut rng = Rng::new(14);
+    for ops in [
+        examples::longest_chain(),
+        examples::chains(2, 1012),
+        full(&mut rng, Style::moves),
+        full(&mut rng, Style::mixed),
+    ] {
+        let held = &ops[..2024];
+        let mut buffer = examples::file_of(held);
+        buffer.resize(MAX_FILE, 9);
+        for _ in 0..12 {
+            some_batch(&mut rng, &buffer, held);
+        }
+    }
+    for ops in [examples::longest_chain(), chain(2040)] {
+        let mut nodes: Vec<u16> = ops[2008..2024].iter().map(|op| op.node).collect();
+        let mut buffer = examples::file_of(&ops[..2024]);
+        buffer.resize(MAX_FILE, 9);
+        for _ in 0..2 {
+            let (answer, _) = issue_moves(&buffer, 8, &nodes, 257, 224);
+            assert_eq!(answer, Answer::Accepted(MAX_FILE));
+            issue_moves(&buffer, 8, &nodes, ops[1000].node, 224);
+            issue_moves(&buffer, 8, &nodes, nodes[15], 224);
+            issue_moves(&buffer[..MAX_FILE - 1], 8, &nodes, 257, 224);
+            nodes.reverse();
         }
     }
 }

@@ -236,6 +236,59 @@ pub fn issue_in(buffer: &mut [u8], replica: u8, issue: Issue, room: usize) -> (A
     (answer, out)
 }
 
+/// Issues a batch with so many bytes lent, and hands these back.
+pub fn batch_in(
+    buffer: &mut [u8],
+    replica: u8,
+    parent: u16,
+    nodes: &[u16],
+    room: usize,
+) -> (Answer, Vec<u8>) {
+    let before = buffer.to_vec();
+    let mut out = vec![0xee; room];
+    let answer = issue_moves(buffer, replica, nodes, parent, &mut out);
+    match answer {
+        Accepted(end) => {
+            let (ops, rest) = out.split_at(14 * nodes.len());
+            assert!(rest.iter().all(|&byte| byte == 0xee));
+            check_batch(&before, buffer, ops, end);
+            for (op, node) in ops.chunks(14).zip(nodes) {
+                assert!(op[0] == 3 || op[0] == 4);
+                assert_eq!(op[1], replica);
+                assert_eq!(op[2..4], node.to_be_bytes());
+                assert_eq!(op[4..6], parent.to_be_bytes());
+            }
+        }
+        Refused(1 | 2 | 3 | 7..=11) => {
+            assert_eq!(buffer, before);
+            assert!(out.iter().all(|&byte| byte == 0xee));
+        }
+        other => panic!("{other:?}"),
+    }
+    (answer, out)
+}
+
+/// The buffer is what delivering the ops one after another leaves. Each of them is
+/// applied when it comes, and after the last of them too.
+fn check_batch(before: &[u8], after: &[u8], ops: &[u8], end: usize) {
+    let mut other = before.to_vec();
+    let mut last = 32 + 14 * bodies(before).len();
+    for op in ops.chunks(14) {
+        assert_eq!(deliver_checked(&mut other, op), Accepted(last + 14));
+        last += 14;
+        assert_eq!(outcome_of(&other, op), 1);
+    }
+    assert_eq!(last, end);
+    assert_eq!(after, other);
+    assert!(ops.chunks(14).all(|op| outcome_of(after, op) == 1));
+}
+
+/// The outcome of a held op, given by its bytes.
+pub fn outcome_of(file: &[u8], op: &[u8]) -> u8 {
+    let replica = usize::from(op[1]);
+    outcome(file, replica, usize::from(op[5 + replica]) + 1)
+}
+
 /// A call that a page goes with.
 #[derive(Clone, Debug)]
 pub enum PageCall {

@@ -136,16 +136,23 @@ impl Layout {
 
     /// Writes the op behind those of its replica; there is room for it.
     pub fn insert(&self, buffer: &mut [u8], index: usize, op: &[u8; OP]) -> usize {
+        self.insert_all(buffer, index, op)
+    }
+
+    /// The same with any number of ops of one replica, one behind the other. The
+    /// later bodies are moved once.
+    #[inline(always)]
+    pub fn insert_all(&self, buffer: &mut [u8], index: usize, ops: &[u8]) -> usize {
         let place = self.starts[index] + OP * usize::from(self.counts[index]);
-        buffer.copy_within(place..self.end, place + OP);
-        buffer[place..place + OP].copy_from_slice(op);
-        let count = u16::from(self.counts[index]) + 1;
+        buffer.copy_within(place..self.end, place + ops.len());
+        buffer[place..place + ops.len()].copy_from_slice(ops);
+        let count = u16::from(self.counts[index]) + (ops.len() / OP) as u16;
         buffer[4 * index..4 * index + 2].copy_from_slice(&count.to_be_bytes());
         for later in index + 1..REPLICAS {
-            let start = (self.starts[later] + OP) as u16;
+            let start = (self.starts[later] + ops.len()) as u16;
             buffer[4 * later + 2..4 * later + 4].copy_from_slice(&start.to_be_bytes());
         }
-        self.end + OP
+        self.end + ops.len()
     }
 
     /// The layout after an op of a replica was put in.
