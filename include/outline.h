@@ -10,14 +10,14 @@
  * Words. A log lies at the front of a buffer that the caller lends: 32 bytes of
  * header, then 14 bytes for each op. A replica is a number from 1 to 8; it
  * issues at most 255 ops. An op adds, removes or moves a node. The root is node
- * 0; the node that is added by op q of replica s is node 256 * s + q. A bundle
- * has all ops of a log that another lacks, in one piece. A holdback has places
- * for 32 ops that came before what they count and wait for it. A page is what
- * judging a log says, kept beside it in three tables: the order in which the ops
- * are judged, the nodes' parents and the ops' outcomes. An op that has been
- * judged is taken back to be judged again after one that sorts before it. A
- * buffer of length 0 holds no log, though the programs print a file of no bytes
- * as one without ops.
+ * 0; the node that is added by op q of replica s is node 256 * s + q. A batch is
+ * up to 16 moves under one parent that are issued by one call. A bundle has all
+ * ops of a log that another lacks, in one piece. A holdback has places for 32 ops
+ * that came before what they count and wait for it. A page is what judging a log
+ * says, kept beside it in three tables: the order in which the ops are judged,
+ * the nodes' parents and the ops' outcomes. An op that has been judged is taken
+ * back to be judged again after one that sorts before it. A buffer of length 0
+ * holds no log, though the programs print a file of no bytes as one without ops.
  *
  * Memory. Lent memory is a pointer and a length, in elements (bytes, or
  * two-byte entries where the pointer is to uint16_t). The pointer must be valid
@@ -61,15 +61,15 @@ extern "C" {
 
 /* The version of this header; outline_version() answers that of the library. */
 #define OUTLINE_VERSION_MAJOR 0
-#define OUTLINE_VERSION_MINOR 5
+#define OUTLINE_VERSION_MINOR 6
 #define OUTLINE_VERSION_PATCH 0
-#define OUTLINE_VERSION_TEXT "0.5.0"
+#define OUTLINE_VERSION_TEXT "0.6.0"
 #define OUTLINE_VERSION \
     (10000 * OUTLINE_VERSION_MAJOR + 100 * OUTLINE_VERSION_MINOR + OUTLINE_VERSION_PATCH)
 
 /* Why a call is refused. */
 #define OUTLINE_UNSOUND 1        /* the buffer does not hold a sound log */
-#define OUTLINE_LENGTH 2         /* an op of not 14 bytes, or too little lent for one or a table */
+#define OUTLINE_LENGTH 2         /* not 14 bytes, over 16 moves, too little lent for ops or table */
 #define OUTLINE_MALFORMED 3      /* no replica from 1 to 8, or an op out of form */
 #define OUTLINE_CONFLICT 4       /* another op of this replica and sequence is held */
 #define OUTLINE_EARLY 5          /* the op counts ops that are not held yet: deliver those first */
@@ -94,6 +94,7 @@ extern "C" {
 #define OUTLINE_HEADER 32             /* bytes of an empty log */
 #define OUTLINE_OP 14                 /* bytes of an op */
 #define OUTLINE_MOST_OPS 2040         /* ops of the largest log */
+#define OUTLINE_MOST_MOVES 16         /* moves of the longest batch */
 #define OUTLINE_LARGEST 28592         /* bytes of the largest log */
 #define OUTLINE_TABLE 2041            /* entries of a table of parents or outcomes */
 #define OUTLINE_ORDER 2040            /* entries of the order of a page */
@@ -262,6 +263,29 @@ size_t outline_issue_move(uint8_t *buf, size_t buf_len, uint8_t replica, uint16_
                           uint16_t parent, uint8_t *out, size_t out_len);
 
 /*
+ * Issues a batch: moves of up to 16 nodes under one parent, one after another in
+ * the order of the list. Each is tested in the log and the tree that those before
+ * it left. If one is refused, none is issued.
+ *   value end    accepted: the log has `nodes_len` ops more and ends at `end`, and
+ *                the first 14 * nodes_len bytes of `out` are these ops, one behind
+ *                another in the order of the list, to be handed to others
+ *   1, 2, 3      unsound; more than 16 nodes, or `out` shorter than 14 bytes for
+ *                each; no such replica
+ *   9, 7, 11,    what outline_issue_move answers for the first move that is
+ *   10, 8        refused
+ * in this order. Bytes of the buffer past `end`, and of `out` past the ops, keep
+ * their content. If refused, the buffer and `out` are unchanged. The nodes are
+ * only read; one may stand in the list twice. With no nodes 1, 2 and 3 are tested
+ * and nothing else: whatever the parent is, and however full log and buffer are,
+ * `end` is answered, and nothing is written.
+ * The batch is whole at issue only. From then on each move is an op by itself,
+ * with an outcome of its own: once moves of other replicas have come, some moves
+ * of a batch may be applied and others not. Tell the users so.
+ */
+size_t outline_issue_moves(uint8_t *buf, size_t buf_len, uint8_t replica, const uint16_t *nodes,
+                           size_t nodes_len, uint16_t parent, uint8_t *out, size_t out_len);
+
+/*
  * Judges a log: replays its ops into two tables, by slot (outline_slot).
  *   129          done: the first 2,041 entries of both tables are written;
  *                parents: the node's parent, OUTLINE_NO_PARENT if the slot has
@@ -399,7 +423,7 @@ static inline const char *outline_text(size_t answer) {
     if (answer >= OUTLINE_VALUE) return "accepted";
     switch (answer) {
     case OUTLINE_UNSOUND: return "the buffer does not hold a sound log";
-    case OUTLINE_LENGTH: return "an op of not 14 bytes, or too little lent for an op or a table";
+    case OUTLINE_LENGTH: return "not 14 bytes, over 16 moves, too little lent for ops or a table";
     case OUTLINE_MALFORMED: return "no replica from 1 to 8, or an op out of form";
     case OUTLINE_CONFLICT: return "another op of this replica and sequence is held";
     case OUTLINE_EARLY: return "the op counts ops that are not held yet";

@@ -19,6 +19,7 @@ static uint8_t log_a[OUTLINE_LARGEST], log_b[OUTLINE_LARGEST];
 static uint16_t parents[OUTLINE_TABLE], path[OUTLINE_LONGEST_PATH], places[OUTLINE_MOST_OPS + 1];
 static uint8_t outcomes[OUTLINE_TABLE], text[OUTLINE_LONGEST_LISTING], op[OUTLINE_OP];
 static uint8_t bundle[OUTLINE_LARGEST_BUNDLE + 1], holdback[OUTLINE_HOLDBACK];
+static uint8_t moves[(OUTLINE_MOST_MOVES + 1) * OUTLINE_OP];
 static const uint8_t nothing[OUTLINE_REPLICAS] = {0};
 
 /* A page with an entry more behind each table, which no call may look at or change. */
@@ -35,6 +36,12 @@ static size_t add(uint8_t *log, uint8_t replica, uint16_t parent) {
 
 static size_t move(uint8_t *log, uint8_t replica, uint16_t node, uint16_t parent) {
     return outline_issue_move(log, OUTLINE_LARGEST, replica, node, parent, op, sizeof op);
+}
+
+static size_t move_all(uint8_t *log, size_t log_len, uint8_t replica, const uint16_t *nodes,
+                       size_t nodes_len, uint16_t parent) {
+    return outline_issue_moves(log, log_len, replica, nodes, nodes_len, parent, moves,
+                               sizeof moves);
 }
 
 static size_t deliver(uint8_t *log, const uint8_t *bytes) {
@@ -246,6 +253,148 @@ static void clashes(void) {
     deliver(log_a, op);
     outline_judge(log_a, sizeof log_a, parents, OUTLINE_TABLE, outcomes, OUTLINE_TABLE);
     EXPECT(outcomes[outline_slot(outline_node(1, 3))] == OUTLINE_WOULD_CLOSE_CIRCLE);
+}
+
+/*
+ * log_a with a heading 257, 258 to 261 as a chain below it, 262 to 277 under the
+ * root, and 278, which is removed; 9s behind it, and in moves.
+ */
+static void start_batches(void) {
+    memset(log_a, 9, sizeof log_a);
+    memset(moves, 9, sizeof moves);
+    outline_make(log_a, sizeof log_a);
+    add(log_a, 1, 0);
+    for (uint16_t node = 257; node < 261; node++) add(log_a, 1, node);
+    for (uint16_t node = 262; node <= 278; node++) add(log_a, 1, 0);
+    outline_issue_remove(log_a, sizeof log_a, 1, 278, op, sizeof op);
+    memcpy(log_b, log_a, sizeof log_b);
+}
+
+/* A batch is the same as its moves one by one: log_a by the one, log_b by the other. */
+static void expect_in_turn(uint8_t replica, const uint16_t *nodes, size_t nodes_len,
+                           uint16_t parent) {
+    static uint8_t expected[sizeof moves];
+    memset(expected, 9, sizeof expected);
+    size_t answer = outline_end(log_b, sizeof log_b);
+    for (size_t i = 0; i < nodes_len; i++) {
+        answer = move(log_b, replica, nodes[i], parent);
+        EXPECT(!outline_refused(answer));
+        memcpy(expected + OUTLINE_OP * i, op, sizeof op);
+    }
+    memset(moves, 9, sizeof moves);
+    EXPECT(move_all(log_a, sizeof log_a, replica, nodes, nodes_len, parent) == answer);
+    EXPECT(memcmp(log_a, log_b, sizeof log_a) == 0);
+    EXPECT(memcmp(moves, expected, sizeof moves) == 0);
+}
+
+/* Batches that are accepted. */
+static void batches(void) {
+    const uint16_t column[] = {262, 263, 264, 265, 266, 267, 268, 269,
+                               270, 271, 272, 273, 274, 275, 276, 277};
+    const uint16_t below[] = {258, 261, 258, 260, 259}, twice[] = {262, 262};
+    EXPECT(OUTLINE_MOST_MOVES == 16 && sizeof column / sizeof column[0] == OUTLINE_MOST_MOVES);
+    start_batches();
+    expect_in_turn(2, column, 16, 261);
+    EXPECT(outline_end(log_a, sizeof log_a) == VALUE(OUTLINE_HEADER + 39 * OUTLINE_OP));
+    expect_in_turn(1, column, 1, 0);
+    expect_in_turn(8, column + 3, 5, 277);
+    /* Nodes that lie below each other, and one that comes twice. */
+    expect_in_turn(1, below, 5, 0);
+    expect_in_turn(3, below, 5, 257);
+    expect_in_turn(3, below, 5, 262);
+    /* The kind is by the depth that the moves before have left: before them both would be down. */
+    start_batches();
+    expect_in_turn(1, twice, 2, 258);
+    EXPECT(outline_op_kind(moves) == OUTLINE_MOVE_DOWN);
+    EXPECT(outline_op_kind(moves + OUTLINE_OP) == OUTLINE_MOVE_UP);
+    /* Not a byte more lent than is needed. */
+    start_batches();
+    size_t end = OUTLINE_HEADER + 39 * OUTLINE_OP;
+    EXPECT(outline_issue_moves(log_a, end, 5, column, 16, 257, moves, 16 * OUTLINE_OP) ==
+           VALUE(end));
+    EXPECT(log_a[end] == 9 && moves[16 * OUTLINE_OP] == 9);
+    EXPECT(outline_op_sequence(moves) == 1 && outline_op_sequence(moves + 15 * OUTLINE_OP) == 16);
+}
+
+/* What is refused leaves all as it was, whichever move it was for. */
+static void refused_batches(void) {
+    static uint8_t before[OUTLINE_LARGEST];
+    uint16_t nodes[OUTLINE_MOST_MOVES + 1];
+    const size_t most = OUTLINE_MOST_MOVES, size = sizeof log_a;
+    start_batches();
+    for (int i = 0; i < 250; i++) add(log_a, 2, 0); /* five are left to replica 2 */
+    memcpy(before, log_a, sizeof before);
+    size_t end = outline_value(outline_end(log_a, size));
+    for (size_t i = 0; i <= most; i++) nodes[i] = (uint16_t)(262 + i % 16);
+    /* The first of two causes is answered. */
+    EXPECT(move_all(log_a, end - 1, 9, nodes, most + 1, 257) == OUTLINE_UNSOUND);
+    EXPECT(move_all(log_a, size, 9, nodes, most + 1, 257) == OUTLINE_LENGTH);
+    for (size_t n = 1; n <= most; n++)
+        EXPECT(outline_issue_moves(log_a, size, 9, nodes, n, 257, moves, OUTLINE_OP * n - 1) ==
+               OUTLINE_LENGTH);
+    EXPECT(move_all(log_a, size, 9, nodes, most, 1) == OUTLINE_MALFORMED);
+    EXPECT(move_all(log_a, size, 0, nodes, 0, 1) == OUTLINE_MALFORMED);
+    EXPECT(move_all(log_a, size, 1, nodes, most, 1) == OUTLINE_UNKNOWN);
+    EXPECT(move_all(log_a, end, 1, nodes, most, 278) == OUTLINE_MARKED);
+    EXPECT(move_all(log_a, end + 13, 1, nodes, 1, 257) == OUTLINE_NO_ROOM);
+    /* The last of six, of which five could be issued. */
+    EXPECT(move_all(log_a, size, 2, nodes, 6, 257) == OUTLINE_EXHAUSTED);
+    EXPECT(move_all(log_a, end + 5 * OUTLINE_OP, 1, nodes, 6, 257) == OUTLINE_NO_ROOM);
+    EXPECT(move_all(log_a, end + 5 * OUTLINE_OP, 2, nodes, 6, 257) == OUTLINE_EXHAUSTED);
+    /* One of sixteen, wherever it stands: unknown, the root, the parent, removed, above it. */
+    const uint16_t bad[] = {279, 0, 261, 278, 258};
+    const size_t why[] = {OUTLINE_UNKNOWN, OUTLINE_UNKNOWN, OUTLINE_UNKNOWN, OUTLINE_MARKED,
+                          OUTLINE_CYCLE};
+    for (size_t i = 0; i < most; i++)
+        for (size_t k = 0; k < 5; k++) {
+            uint16_t good = nodes[i];
+            nodes[i] = bad[k];
+            EXPECT(move_all(log_a, size, 1, nodes, most, 261) == why[k]);
+            nodes[i] = good;
+        }
+    /* Of two that are refused, the first in the list. */
+    nodes[2] = 258;
+    nodes[3] = 278;
+    nodes[4] = 279;
+    EXPECT(move_all(log_a, size, 1, nodes, most, 261) == OUTLINE_CYCLE);
+    EXPECT(move_all(log_a, size, 1, nodes + 3, 2, 261) == OUTLINE_MARKED);
+    EXPECT(memcmp(before, log_a, sizeof before) == 0);
+    for (size_t i = 0; i < sizeof moves; i++) EXPECT(moves[i] == 9);
+}
+
+/* A list of no nodes is accepted after 1, 2 and 3, whatever else there is. */
+static void empty_batches(void) {
+    uint16_t *no_nodes = NULL;
+    uint8_t *none = NULL;
+    start_batches();
+    for (int i = 0; i < 255; i++) add(log_a, 2, 0);
+    memcpy(log_b, log_a, sizeof log_b);
+    size_t answer = outline_end(log_a, sizeof log_a), end = outline_value(answer);
+    const uint16_t any_parent[] = {0, 257, 278, 279, 65535};
+    for (size_t i = 0; i < 5; i++) {
+        EXPECT(outline_issue_moves(log_a, end, 2, no_nodes, 0, any_parent[i], none, 0) == answer);
+        EXPECT(move_all(log_a, sizeof log_a, 1, no_nodes, 0, any_parent[i]) == answer);
+    }
+    EXPECT(outline_issue_moves(log_a, end - 1, 2, no_nodes, 0, 0, none, 0) == OUTLINE_UNSOUND);
+    EXPECT(outline_issue_moves(log_a, end, 9, no_nodes, 0, 0, none, 0) == OUTLINE_MALFORMED);
+    EXPECT(memcmp(log_a, log_b, sizeof log_a) == 0);
+    for (size_t i = 0; i < sizeof moves; i++) EXPECT(moves[i] == 9);
+}
+
+/* A batch is whole at issue only: of its moves one is applied in the end, and one is not. */
+static void batch_outcomes(void) {
+    const uint16_t column[] = {262, 263};
+    start_batches();
+    EXPECT(!outline_refused(move_all(log_a, sizeof log_a, 1, column, 2, 264)));
+    outline_judge(log_a, sizeof log_a, parents, OUTLINE_TABLE, outcomes, OUTLINE_TABLE);
+    EXPECT(parents[outline_slot(262)] == 264 && parents[outline_slot(263)] == 264);
+    /* Another has moved the heading below the first of the two, and is judged before. */
+    move(log_b, 2, 264, 262);
+    deliver(log_a, op);
+    outline_judge(log_a, sizeof log_a, parents, OUTLINE_TABLE, outcomes, OUTLINE_TABLE);
+    EXPECT(outcomes[outline_slot(outline_node(1, 24))] == OUTLINE_WOULD_CLOSE_CIRCLE);
+    EXPECT(outcomes[outline_slot(outline_node(1, 25))] == OUTLINE_APPLIED);
+    EXPECT(parents[outline_slot(262)] == 0 && parents[outline_slot(263)] == 264);
 }
 
 /* Soundness, end, counts and sizes of a log, whatever lies past it. */
@@ -793,6 +942,7 @@ static void nulls(void) {
     EXPECT(outline_issue_add(none, 0, 1, 0, none, 0) == OUTLINE_UNSOUND);
     EXPECT(outline_issue_remove(none, 0, 1, 257, none, 0) == OUTLINE_UNSOUND);
     EXPECT(outline_issue_move(none, 0, 1, 257, 0, none, 0) == OUTLINE_UNSOUND);
+    EXPECT(outline_issue_moves(none, 0, 1, no_entries, 0, 0, none, 0) == OUTLINE_UNSOUND);
     EXPECT(outline_judge(none, 0, no_entries, 0, none, 0) == OUTLINE_UNSOUND);
     EXPECT(outline_page_deliver(none, 0, none, 0, no_entries, 0, no_entries, 0, none, 0) ==
            OUTLINE_UNSOUND);
@@ -832,6 +982,8 @@ static void nulls(void) {
     EXPECT(outline_issue_add(log_a, sizeof log_a, 1, 0, none, 0) == OUTLINE_LENGTH);
     EXPECT(outline_issue_remove(log_a, sizeof log_a, 1, 257, none, 0) == OUTLINE_LENGTH);
     EXPECT(outline_issue_move(log_a, sizeof log_a, 1, 257, 0, none, 0) == OUTLINE_LENGTH);
+    EXPECT(outline_issue_moves(log_a, sizeof log_a, 1, path, 1, 0, none, 0) == OUTLINE_LENGTH);
+    EXPECT(outline_issue_moves(log_a, sizeof log_a, 1, no_entries, 0, 0, none, 0) == VALUE(46));
     EXPECT(outline_judge(log_a, sizeof log_a, no_entries, 0, none, 0) == OUTLINE_LENGTH);
     EXPECT(outline_judge(log_a, sizeof log_a, parents, OUTLINE_TABLE, none, 0) == OUTLINE_LENGTH);
     EXPECT(deliver_in(log_a, sizeof log_a, none, 0, whole) == OUTLINE_LENGTH);
@@ -895,6 +1047,10 @@ int main(void) {
     answers();
     removed();
     clashes();
+    batches();
+    refused_batches();
+    empty_batches();
+    batch_outcomes();
     measures();
     bundles();
     holdback_answers();

@@ -3,8 +3,9 @@
  * other gets them; then, apart, each moves a heading below the other's. They
  * meet, hand each other a bundle, and hold the same file and the same tree.
  * Then one heading is removed, and takes no new work. A third machine gets all
- * ops by post, the last first: those that come early wait. At last a fourth one,
- * which keeps a page for its screen, gets them one by one, and one of them late.
+ * ops by post, the last first: those that come early wait. A fourth one, which
+ * keeps a page for its screen, gets them one by one, and one of them late. At last
+ * it moves two nodes under one heading by one call.
  */
 #include "outline.h"
 
@@ -56,6 +57,19 @@ static void move(struct machine *m, uint16_t node, uint16_t parent) {
     size_t answer =
         outline_issue_move(m->log, sizeof m->log, m->replica, node, parent, op, sizeof op);
     printf("machine %d moves node %d under %d: %s\n", m->replica, node, parent,
+           outline_text(answer));
+    if (!outline_refused(answer)) m->end = outline_value(answer);
+}
+
+/*
+ * Moves nodes under one parent, up to 16 of them: all, or none. That is so at issue
+ * only; once moves of other machines come, each of these has an outcome of its own.
+ */
+static void move_all(struct machine *m, const uint16_t *nodes, size_t count, uint16_t parent) {
+    uint8_t ops[OUTLINE_MOST_MOVES * OUTLINE_OP];
+    size_t answer = outline_issue_moves(m->log, sizeof m->log, m->replica, nodes, count, parent,
+                                        ops, sizeof ops);
+    printf("machine %d moves %zu nodes under %d: %s\n", m->replica, count, parent,
            outline_text(answer));
     if (!outline_refused(answer)) m->end = outline_value(answer);
 }
@@ -207,5 +221,11 @@ int main(void) {
     uint16_t c = add_to_page(&four, a, &page);
     show_page(&page);
     printf("node %d is under %d\n", c, page.parents[outline_slot(c)]);
+
+    uint16_t d = add(&four, OUTLINE_ROOT);
+    const uint16_t with_removed[] = {c, b}, column[] = {c, a};
+    move_all(&four, with_removed, 2, d);
+    move_all(&four, column, 2, d);
+    show(&four);
     return same ? 0 : 1;
 }
