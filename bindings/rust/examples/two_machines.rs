@@ -2,8 +2,9 @@
 //! other gets them; then, apart, each moves a heading below the other's. They
 //! meet, hand each other a bundle, and hold the same file and the same tree.
 //! Then one heading is removed, and takes no new work. A third machine gets all
-//! ops by post, the last first: those that come early wait. At last a fourth one,
-//! which keeps a page for its screen, gets them one by one, and one of them late.
+//! ops by post, the last first: those that come early wait. A fourth one, which
+//! keeps a page for its screen, gets them one by one, and one of them late. At last
+//! it moves two nodes under one heading by one call.
 
 use outline::{Delivery, Holdback, Kind, Log, Node, Op, Outcome, Page, Refusal, Replica, View};
 
@@ -32,6 +33,18 @@ impl Machine {
         match self.log.move_to(self.replica, node, parent) {
             Ok(op) if op.kind() == Kind::MoveUp => println!("upward"),
             Ok(_) => println!("downward"),
+            Err(why) => println!("refused, {why}"),
+        }
+    }
+
+    /// Moves nodes under one parent, up to 16 of them: all, or none. That is so at
+    /// issue only; once moves of other machines come, each of these has an outcome
+    /// of its own.
+    fn put_all(&mut self, nodes: &[Node], parent: Node) {
+        let (replica, count) = (self.replica, nodes.len());
+        print!("machine {replica} moves {count} nodes under {parent}: ");
+        match self.log.issue_moves(replica, nodes, parent) {
+            Ok(moves) => println!("{} ops", moves.len()),
             Err(why) => println!("refused, {why}"),
         }
     }
@@ -160,5 +173,10 @@ fn main() -> Result<(), Refusal> {
         println!("op {sequence} of machine {replica}: {said}");
     }
     assert_eq!(page, four.log.page());
+
+    let (c, d) = (op.node(), four.add(Node::ROOT)?);
+    four.put_all(&[c, b], d);
+    four.put_all(&[c, a], d);
+    four.show();
     Ok(())
 }

@@ -13,8 +13,8 @@ use core::fmt;
 pub enum Refusal {
     /// The bytes do not hold a sound log.
     Unsound = 1,
-    /// The delivered op has not 14 bytes, or lent memory for an op or a table
-    /// is too short.
+    /// The delivered op has not 14 bytes, or a batch more than 16 moves, or lent
+    /// memory for ops or a table is too short.
     Length = 2,
     /// No replica from 1 to 8, or an op out of form.
     Malformed = 3,
@@ -90,7 +90,7 @@ impl fmt::Display for Refusal {
     fn fmt(&self, f: &mut fmt::Formatter<'_>) -> fmt::Result {
         f.write_str(match self {
             Refusal::Unsound => "the bytes do not hold a sound log",
-            Refusal::Length => "an op or lent memory has the wrong length",
+            Refusal::Length => "an op, a batch or lent memory has the wrong length",
             Refusal::Malformed => "no such replica, or an op out of form",
             Refusal::Conflict => "another op of this replica and sequence is held",
             Refusal::Early => "the op counts ops that are not held yet",

@@ -69,6 +69,16 @@ mod c {
             out: *mut u8,
             out_len: usize,
         ) -> usize;
+        pub fn outline_issue_moves(
+            buf: *mut u8,
+            buf_len: usize,
+            replica: u8,
+            nodes: *const u16,
+            nodes_len: usize,
+            parent: u16,
+            out: *mut u8,
+            out_len: usize,
+        ) -> usize;
         pub fn outline_judge(
             file: *const u8,
             file_len: usize,
@@ -228,6 +238,25 @@ pub fn issue_move(buf: &mut [u8], replica: u8, node: u16, parent: u16, out: &mut
     let (out, out_len) = (out.as_mut_ptr(), out.len());
     // SAFETY: pointers and lengths are those of slices, which do not overlap.
     Answer(unsafe { c::outline_issue_move(buf, buf_len, replica, node, parent, out, out_len) })
+}
+
+#[inline]
+pub fn issue_moves(
+    buf: &mut [u8],
+    replica: u8,
+    nodes: &[u16],
+    parent: u16,
+    out: &mut [u8],
+) -> Answer {
+    let (buf, buf_len) = (buf.as_mut_ptr(), buf.len());
+    let (nodes, nodes_len) = (nodes.as_ptr(), nodes.len());
+    let (out, out_len) = (out.as_mut_ptr(), out.len());
+    // SAFETY: pointers and lengths are those of slices, which do not overlap.
+    Answer(unsafe {
+        c::outline_issue_moves(
+            buf, buf_len, replica, nodes, nodes_len, parent, out, out_len,
+        )
+    })
 }
 
 #[inline]

@@ -38,6 +38,26 @@
 //! # Ok::<(), Refusal>(())
 //! ```
 //!
+//! # A column of articles
+//!
+//! An editor marks up to 16 articles and drags them under one heading: that is a
+//! [batch](Log::issue_moves), of which all moves are issued, or none. It is whole at
+//! issue only. Its moves are ops like any others, and once those of other machines
+//! come, each has an outcome of its own.
+//!
+//! ```
+//! use outline::{Log, Node, Refusal, Replica};
+//!
+//! let (me, mut log) = (Replica::try_from(1)?, Log::new());
+//! let sports = log.add(me, Node::ROOT)?.node();
+//! let rowing = log.add(me, Node::ROOT)?.node();
+//! let chess = log.add(me, rowing)?.node();
+//! let moves = log.issue_moves(me, &[rowing, chess], sports)?;
+//! assert_eq!(moves.len(), 2);
+//! assert!(log.children(sports).eq([rowing, chess]));
+//! # Ok::<(), Refusal>(())
+//! ```
+//!
 //! # Machines that meet
 //!
 //! Two logs in one place [`merge`](Log::merge). Over a wire, a machine sends the
@@ -108,6 +128,7 @@
 //! | [`Log::deliver`] | applying a change; an early op is refused and not kept |
 //! | [`Log::deliver_with_holdback`] | applying a change; an early op is kept in a [`Holdback`] until what it counts has come |
 //! | [`Log::deliver_with_page`], [`Log::add_with_page`] | applying or making a change, and the patch that brings a view up to date: here the view is a [`Page`] |
+//! | [`Log::issue_moves`] | a transaction of moves; here it is whole at issue only |
 //! | [`Log::merge`] | merging |
 //!
 //! # What is refused
@@ -133,6 +154,7 @@
 #![warn(missing_docs)]
 
 mod answer;
+mod batch;
 mod bundle;
 mod ffi;
 mod holdback;
@@ -146,6 +168,7 @@ mod tree;
 mod view;
 
 pub use answer::{Delivery, Refusal};
+pub use batch::Batch;
 pub use bundle::Bundle;
 pub use holdback::Holdback;
 pub use log::{Log, Ops};

@@ -1,8 +1,8 @@
 //! A log that is always sound.
 
-use crate::plain::{self, HEADER, LARGEST, TABLE};
-use crate::{Bundle, Children, Delivery, Descendants, Holdback, Lines, Listing, Node, Op};
-use crate::{Page, Path, Refusal, Replica, Tree, Vector, View};
+use crate::plain::{self, HEADER, LARGEST, MOST_MOVES, TABLE};
+use crate::{Batch, Bundle, Children, Delivery, Descendants, Holdback, Lines, Listing, Node};
+use crate::{Op, Page, Path, Refusal, Replica, Tree, Vector, View};
 use core::fmt;
 use core::iter::FusedIterator;
 
@@ -127,6 +127,58 @@ impl Log {
     pub fn move_to(&mut self, replica: Replica, node: Node, parent: Node) -> Result<Op, Refusal> {
         let (replica, node, parent) = (replica.number(), node.number(), parent.number());
         self.issue(|buf, out| plain::issue_move(buf, replica, node, parent, out))
+    }
+
+    /// Moves up to 16 nodes of the log under one parent, one after another in the
+    /// order of the list: all of them, or none. Each is tested in the tree that
+    /// those before it left. A node may stand in the list twice.
+    ///
+    /// The batch is whole at issue only. From then on each move is an op by itself,
+    /// with an outcome of its own: once moves of other replicas have come, some
+    /// moves of a batch may be applied and others not.
+    ///
+    /// # Errors
+    ///
+    /// [`Refusal::Length`] for more than 16 nodes; else what
+    /// [`move_to`](Log::move_to) answers for the first move that is refused. No
+    /// move has been issued then.
+    ///
+    /// ```
+    /// use outline::{Log, Node, Outcome, Refusal, Replica};
+    /// let (me, mut log) = (Replica::try_from(1)?, Log::new());
+    /// let heading = log.add(me, Node::ROOT)?.node();
+    /// let a = log.add(me, Node::ROOT)?.node();
+    /// let b = log.add(me, Node::ROOT)?.node();
+    /// let mut other = log.clone();
+    ///
+    /// let moves = log.issue_moves(me, &[a, b], heading)?;
+    /// assert!(log.children(heading).eq([a, b]));
+    /// assert_eq!(log.issue_moves(me, &[b, heading], a), Err(Refusal::Cycle));
+    /// assert_eq!(log.parent(b), Some(heading));
+    ///
+    /// // Another machine has moved the heading below one of the two: now the other
+    /// // one alone has come there.
+    /// log.deliver(other.move_to(Replica::try_from(2)?, heading, a)?)?;
+    /// let tree = log.tree();
+    /// let outcomes = moves.ops().map(|op| tree.outcome(&op));
+    /// assert!(outcomes.eq([Some(Outcome::WouldCloseCircle), Some(Outcome::Applied)]));
+    /// # Ok::<(), Refusal>(())
+    /// ```
+    pub fn issue_moves(
+        &mut self,
+        replica: Replica,
+        nodes: &[Node],
+        parent: Node,
+    ) -> Result<Batch, Refusal> {
+        let mut numbers = [0; MOST_MOVES];
+        let numbers = numbers.get_mut(..nodes.len()).ok_or(Refusal::Length)?;
+        for (number, node) in numbers.iter_mut().zip(nodes) {
+            *number = node.number();
+        }
+        let (replica, parent) = (replica.number(), parent.number());
+        Batch::new(nodes.len(), |out| {
+            plain::issue_moves(&mut self.bytes, replica, numbers, parent, out)
+        })
     }
 
     /// The same as [`add`](Log::add), with a page of this log, which has the new op

@@ -35,12 +35,14 @@
 //! ```
 
 use crate::answer::Answer;
-use crate::{ffi, Delivery, Node, Op, Refusal, Replica, View};
+use crate::{ffi, Batch, Delivery, Node, Op, Refusal, Replica, View};
 
 /// Bytes of an empty log.
 pub const HEADER: usize = 32;
 /// Bytes of an op.
 pub const OP: usize = Op::LENGTH;
+/// Moves of the longest batch.
+pub const MOST_MOVES: usize = Batch::MOST;
 /// Entries of a table of parents or outcomes.
 pub const TABLE: usize = 2041;
 /// Entries of the order of a page.
@@ -404,6 +406,55 @@ pub fn issue_move(
     out: &mut [u8],
 ) -> Result<usize, Refusal> {
     ffi::issue_move(buf, replica, node, parent, out).value()
+}
+
+/// Issues a batch: moves of up to 16 nodes under one parent, one after another in
+/// the order of the list. Each is tested in the log and the tree that those before
+/// it left. If one is refused, none is issued.
+///
+/// Answers where the log ends with the new ops; the first 14 bytes of `out` for
+/// each node are these ops, in the order of the list. A node may stand in the list
+/// twice. Without nodes nothing is written.
+///
+/// The batch is whole at issue only. From then on each move is an op by itself,
+/// with an outcome of its own: once moves of other replicas have come, some moves
+/// of a batch may be applied and others not.
+///
+/// # Errors
+///
+/// The first that applies, in this order: [`Unsound`](Refusal::Unsound),
+/// [`Length`](Refusal::Length) if there are more than 16 nodes, or `out` is shorter
+/// than 14 bytes for each, [`Malformed`](Refusal::Malformed), and then what
+/// [`issue_move`] answers for the first move that is refused. Neither buffer nor
+/// `out` has changed then. Without nodes only the first three are tested.
+///
+/// ```
+/// use outline::{plain, Refusal};
+/// let mut buf = [0; 200];
+/// plain::make(&mut buf)?;
+/// for parent in [plain::ROOT, 257, 258, plain::ROOT] {
+///     plain::issue_add(&mut buf, 1, parent, &mut [0; plain::OP])?;
+/// }
+/// let mut ops = [0; 2 * plain::OP];
+///
+/// // Node 257 lies above 258, so that node 260 is not moved either.
+/// let answer = plain::issue_moves(&mut buf, 1, &[260, 257], 258, &mut ops);
+/// assert_eq!((answer, ops), (Err(Refusal::Cycle), [0; 28]));
+///
+/// let answer = plain::issue_moves(&mut buf, 1, &[260, 258], 257, &mut ops);
+/// assert_eq!(answer, Ok(32 + 6 * plain::OP));
+/// assert_eq!(buf[88..116], ops);
+/// # Ok::<(), Refusal>(())
+/// ```
+#[inline]
+pub fn issue_moves(
+    buf: &mut [u8],
+    replica: u8,
+    nodes: &[u16],
+    parent: u16,
+    out: &mut [u8],
+) -> Result<usize, Refusal> {
+    ffi::issue_moves(buf, replica, nodes, parent, out).value()
 }
 
 /// Judges a log: replays its ops into two tables, by [`slot`].
