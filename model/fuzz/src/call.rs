@@ -27,6 +27,12 @@ pub enum Call {
         parent: u16,
         room: usize,
     },
+    Moves {
+        replica: u8,
+        nodes: Vec<u16>,
+        parent: u16,
+        room: usize,
+    },
     Judge {
         parents: usize,
         outcomes: usize,
@@ -81,12 +87,13 @@ pub enum Call {
     },
 }
 
-pub const NAMES: [&str; 19] = [
+pub const NAMES: [&str; 20] = [
     "make",
     "deliver",
     "issue_add",
     "issue_remove",
     "issue_move",
+    "issue_moves",
     "judge",
     "path",
     "listing",
@@ -112,20 +119,21 @@ impl Call {
             Call::Add { .. } => 2,
             Call::Remove { .. } => 3,
             Call::Move { .. } => 4,
-            Call::Judge { .. } => 5,
-            Call::Path { .. } => 6,
-            Call::Listing { .. } => 7,
-            Call::Size { .. } => 8,
-            Call::IsSound => 9,
-            Call::End => 10,
-            Call::Counts { .. } => 11,
-            Call::BundleMake { .. } => 12,
-            Call::BundleOpen(_) => 13,
-            Call::HoldbackDeliver { .. } => 14,
-            Call::PageDeliver { .. } => 15,
-            Call::PageAdd { .. } => 16,
-            Call::PageRemove { .. } => 17,
-            Call::PageMove { .. } => 18,
+            Call::Moves { .. } => 5,
+            Call::Judge { .. } => 6,
+            Call::Path { .. } => 7,
+            Call::Listing { .. } => 8,
+            Call::Size { .. } => 9,
+            Call::IsSound => 10,
+            Call::End => 11,
+            Call::Counts { .. } => 12,
+            Call::BundleMake { .. } => 13,
+            Call::BundleOpen(_) => 14,
+            Call::HoldbackDeliver { .. } => 15,
+            Call::PageDeliver { .. } => 16,
+            Call::PageAdd { .. } => 17,
+            Call::PageRemove { .. } => 18,
+            Call::PageMove { .. } => 19,
         }
     }
 
@@ -200,6 +208,13 @@ pub trait Side {
     fn issue_add(buf: &mut [u8], replica: u8, parent: u16, out: &mut [u8]) -> Outcome;
     fn issue_remove(buf: &mut [u8], replica: u8, node: u16, out: &mut [u8]) -> Outcome;
     fn issue_move(buf: &mut [u8], replica: u8, node: u16, parent: u16, out: &mut [u8]) -> Outcome;
+    fn issue_moves(
+        buf: &mut [u8],
+        replica: u8,
+        nodes: &[u16],
+        parent: u16,
+        out: &mut [u8],
+    ) -> Outcome;
     fn judge(file: &[u8], parents: &mut [u16], outcomes: &mut [u8]) -> Outcome;
     fn path(file: &[u8], node: u16, out: &mut [u16]) -> Outcome;
     fn listing(file: &[u8], view: View, out: &mut [u8]) -> Outcome;
@@ -301,6 +316,16 @@ impl Side for Library {
 
     fn issue_move(buf: &mut [u8], replica: u8, node: u16, parent: u16, out: &mut [u8]) -> Outcome {
         value(plain::issue_move(buf, replica, node, parent, out))
+    }
+
+    fn issue_moves(
+        buf: &mut [u8],
+        replica: u8,
+        nodes: &[u16],
+        parent: u16,
+        out: &mut [u8],
+    ) -> Outcome {
+        value(plain::issue_moves(buf, replica, nodes, parent, out))
     }
 
     fn judge(file: &[u8], parents: &mut [u16], outcomes: &mut [u8]) -> Outcome {
@@ -419,6 +444,16 @@ impl Side for Model {
 
     fn issue_move(buf: &mut [u8], replica: u8, node: u16, parent: u16, out: &mut [u8]) -> Outcome {
         outline_model::issue_move(buf, replica, node, parent, out).into()
+    }
+
+    fn issue_moves(
+        buf: &mut [u8],
+        replica: u8,
+        nodes: &[u16],
+        parent: u16,
+        out: &mut [u8],
+    ) -> Outcome {
+        outline_model::issue_moves(buf, replica, nodes, parent, out).into()
     }
 
     fn judge(file: &[u8], parents: &mut [u16], outcomes: &mut [u8]) -> Outcome {
@@ -631,6 +666,16 @@ pub fn run<S: Side>(call: &Call, buffer: &mut Lent<u8>, guards: Guards, salt: us
         } => {
             bytes.push(lender.bytes(room));
             S::issue_move(buf, replica, node, parent, bytes[0].get_mut())
+        }
+        Call::Moves {
+            replica,
+            ref nodes,
+            parent,
+            room,
+        } => {
+            words.push(lender.copy_words(nodes));
+            bytes.push(lender.bytes(room));
+            S::issue_moves(buf, replica, words[0].get(), parent, bytes[0].get_mut())
         }
         Call::Judge { parents, outcomes } => {
             words.push(lender.words(parents));

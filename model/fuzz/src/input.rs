@@ -2,12 +2,12 @@
 
 use crate::call::Call;
 use crate::page::Page;
-use outline::plain::{HOLDBACK, LARGEST_BUNDLE};
+use outline::plain::{HOLDBACK, LARGEST_BUNDLE, MOST_MOVES};
 use outline_model::cases::world::{full, holdback, part, Deep, Style, World};
 use outline_model::cases::{damage, examples};
 use outline_model::op::join;
 use outline_model::rng::Rng;
-use outline_model::{Kind, Log, Op, Vector, View};
+use outline_model::{Kind, Knowledge, Log, Op, Tree, Vector, View};
 use outline_model::{HOLDBACK_PLACES, MAX_FILE, MAX_SEQUENCE, OP_LEN, SLOTS};
 
 /// A buffer with a log at its front, and ops to call it with.
@@ -200,6 +200,9 @@ impl Input {
 
     /// A call on buffer, holdback and page as the calls before have left them.
     pub fn call(&self, rng: &mut Rng, buffer: &[u8], holdback: &[u8], page: &Page) -> Call {
+        if rng.one_in(15) {
+            return self.batch(rng, buffer);
+        }
         if rng.one_in(10) {
             let page = self.page(rng, buffer, page);
             return self.page_call(rng, buffer, page);
@@ -207,6 +210,33 @@ impl Input {
         match self.deep {
             Some(deep) if rng.one_in(2) => self.deep_call(rng, deep, buffer),
             _ => self.any_call(rng, buffer, holdback),
+        }
+    }
+
+    /// Moves to one parent. Mostly all of them can be made, or all but one. The model
+    /// takes as long for each as for an issue, so few are many at a large log.
+    fn batch(&self, rng: &mut Rng, buffer: &[u8]) -> Call {
+        let most = if self.is_large() && !rng.one_in(8) {
+            3
+        } else {
+            MOST_MOVES + 2
+        };
+        let count = rng.below(most + 1);
+        let log = Log::open(buffer);
+        let column = log.as_ref().and_then(|log| column(rng, log, count));
+        let (mut nodes, parent) = column.unwrap_or_else(|| {
+            let nodes = (0..count).map(|_| self.node(rng)).collect();
+            (nodes, self.node(rng))
+        });
+        if count > 0 && rng.one_in(3) {
+            let any = self.node(rng);
+            nodes[rng.below(count)] = log.map_or(any, |log| worse(rng, &log, parent, any));
+        }
+        Call::Moves {
+            replica: replica_for(rng, &held(buffer)),
+            nodes,
+            parent,
+            room: records_room(rng, count),
         }
     }
 
@@ -499,6 +529,54 @@ impl Input {
     }
 }
 
+/// A parent that takes new work, and so many nodes that can be moved there, some of
+/// them twice; none if there are no such nodes.
+fn column(rng: &mut Rng, log: &Log, count: usize) -> Option<(Vec<u16>, u16)> {
+    let tree = Tree::judge(log);
+    let held = log.held();
+    let unmarked = |&node: &u16| log.knowledge(&held, node) == Knowledge::Unmarked;
+    let nodes: Vec<u16> = tree.nodes().filter(unmarked).collect();
+    let parent = match nodes[..] {
+        [] => 0,
+        _ if rng.one_in(4) => 0,
+        _ => rng.pick(&nodes),
+    };
+    let above: Vec<u16> = tree.path(parent).collect();
+    let is_free = |node: &u16| !above.contains(node);
+    let free: Vec<u16> = nodes.into_iter().filter(is_free).collect();
+    if free.is_empty() {
+        return None;
+    }
+    Some(((0..count).map(|_| rng.pick(&free)).collect(), parent))
+}
+
+/// A node that cannot be moved to the parent: one above it, the parent itself, or a
+/// marked one; or any.
+fn worse(rng: &mut Rng, log: &Log, parent: u16, any: u16) -> u16 {
+    let (tree, held) = (Tree::judge(log), log.held());
+    let marked = |&node: &u16| log.knowledge(&held, node) == Knowledge::Marked;
+    let marked: Vec<u16> = tree.nodes().filter(marked).collect();
+    match rng.below(3) {
+        0 if log.knowledge(&held, parent).is_known() => {
+            let path: Vec<u16> = tree.path(parent).collect();
+            rng.pick(&path)
+        }
+        1 if !marked.is_empty() => rng.pick(&marked),
+        _ => any,
+    }
+}
+
+/// Often one that has ops left, where others have none.
+fn replica_for(rng: &mut Rng, held: &Vector) -> u8 {
+    let has_left = |&replica: &u8| usize::from(held[usize::from(replica) - 1]) < MAX_SEQUENCE;
+    let left: Vec<u8> = (1..=8).filter(has_left).collect();
+    match left[..] {
+        [] => replica(rng),
+        _ if rng.one_in(4) => replica(rng),
+        _ => rng.pick(&left),
+    }
+}
+
 /// An op of a replica that has met nothing since its last op, or one other op at
 /// most: it is judged before much of what is held. None if the log is not sound or
 /// the replica has no op left.
@@ -631,6 +709,16 @@ fn record_room(rng: &mut Rng) -> usize {
         rng.below(14)
     } else {
         14 + rng.below(6)
+    }
+}
+
+/// For so many ops.
+fn records_room(rng: &mut Rng, count: usize) -> usize {
+    let needed = OP_LEN * count;
+    match rng.below(20) {
+        0 => rng.below(needed + 1),
+        1 => needed.saturating_sub(1),
+        _ => needed + rng.below(6),
     }
 }
 

@@ -12,7 +12,7 @@ mod raw;
 use call::{run, After, Call, Library, Model, Outcome, NAMES};
 use input::{Input, Stock};
 use lent::{Guards, Lent};
-use outline::plain::HOLDBACK;
+use outline::plain::{HOLDBACK, MOST_MOVES};
 use outline_model::rng::Rng;
 use outline_model::{refusal, HEADER_LEN, OP_LEN};
 use page::Page;
@@ -74,6 +74,10 @@ struct Tally {
     full: u64,
     /// Issues, deliveries and judgings in deep chains.
     deep: u64,
+    /// Accepted batches of no move, of some, and of as many as there can be.
+    no_moves: u64,
+    some_moves: u64,
+    all_moves: u64,
     /// Acceptances with a page that took back no op, some, and all that were held.
     none_back: u64,
     some_back: u64,
@@ -90,6 +94,13 @@ impl Tally {
             Outcome::Value(_) => 18,
         };
         self.counts[call.index()][column] += 1;
+        if let (Call::Moves { nodes, .. }, Outcome::Value(_)) = (call, after.outcome) {
+            match nodes.len() {
+                0 => self.no_moves += 1,
+                MOST_MOVES => self.all_moves += 1,
+                _ => self.some_moves += 1,
+            }
+        }
         if let (true, Outcome::Value(end)) = (call.has_page(), after.outcome) {
             let held = (end - HEADER_LEN) / OP_LEN - 1;
             match after.taken_back {
@@ -209,6 +220,10 @@ fn compare_calls(options: &Options) -> u64 {
         }
     }
     tally.print();
+    println!(
+        "accepted batches: {} of no move, {} of 1 to 15, {} of 16",
+        tally.no_moves, tally.some_moves, tally.all_moves
+    );
     println!(
         "accepted with a page: {} took back no op, {} some, {} all that were held",
         tally.none_back, tally.some_back, tally.all_back
