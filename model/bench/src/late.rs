@@ -82,7 +82,7 @@ fn random(count: usize) -> Vec<Op> {
 
 /// A log of replicas 2 to 8. Where these are full, replica 1 has added the rest
 /// before them.
-fn log(count: usize, others: impl FnOnce(usize) -> Vec<Op>) -> Vec<Op> {
+pub fn log(count: usize, others: impl FnOnce(usize) -> Vec<Op>) -> Vec<Op> {
     let many = count.min(MAX_SEQUENCE * (REPLICAS - 1));
     let first = adds(1, count - many);
     let mut others = by_replicas_from(2, others(many));

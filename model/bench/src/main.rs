@@ -1,6 +1,7 @@
 //! Measures every call of the library against the same in safe Rust, or the
 //! programs, and writes docs/PERFORMANCE.md.
 
+mod batch;
 mod callgrind;
 mod distance;
 mod late;

@@ -11,8 +11,8 @@ Made by `model/bench/run`; do not edit.
 Every call of the library is measured beside the same call in safe Rust, written with equal care for speed over the same algorithms
 (model/bench/src/careful; its tests compare it with the model): no allocation, one pass for soundness, which looks up only those counts of a
 version vector that have changed since its replica's op before, vectors compared four or eight counts at a time, replay level by level, a
-linear listing, a bundle opened in one copy of the log, a holdback searched in place, a page compared with a replay of the log. Both are
-compiled by LLVM at the highest level for the same processor, the Rust with its bounds checks and without checks of overflow. One program calls
+linear listing, a bundle opened in one copy of the log, a holdback searched in place, a page compared with a replay of the log, a batch issued on
+one replay. Both are compiled by LLVM at the highest level for the same processor, the Rust with its bounds checks and without checks of overflow. One program calls
 both in turn, many times; the least time of each counts. It calls the library through the Rust crate, which makes a `Result` of the number that
 the library answers: at `make`, of eight instructions, that is most of the time.
 
@@ -27,6 +27,10 @@ with one leaf under the root beside it, and the new parent is the deepest node. 
 meets after one step; far moves the first node of the chain, which it meets at the top: both are refused, and passed over where they are
 judged. Beside moves the leaf, which it does not meet on its whole way to the root: this is accepted, and applied. Where they are judged, half
 of the ops are the chain and the leaf, and the others such a move again and again, each counting all before.
+
+A batch is 16 moves to one parent, by one call, and below it the same 16 by `issue_move` one after another. They move the deepest unmarked nodes,
+the very deepest first, to the parent of the other moves. At 2,040 means at 2,024: the 16 fill the log. So that one replica has 16 ops left there,
+the random log is one of the seven others, and at 2,040 it begins with 239 adds of replica 1 under the root, which all others count.
 
 A whole exchange delivers all ops of a log to an empty one, one by one, in causal order: none is early, and one pass is enough. Its log is
 **interleaved**: one chain in which the eight replicas take turns, the highest first. Offered in the order of the file until none is early, its

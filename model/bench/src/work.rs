@@ -1,12 +1,14 @@
 //! What is measured: every call on logs of each shape and size.
 
+use crate::batch::{self, Batch};
 use crate::callgrind;
 use crate::distance::{self, Distance};
 use crate::late::Late;
 use crate::meeting::{hand_over, Meeting};
 use crate::page::Page;
 use crate::pick::{last, names};
-use outline::{plain, Refusal};
+use outline::plain::{self, MOST_MOVES};
+use outline::Refusal;
 use outline_bench::careful;
 use outline_model::cases::examples;
 use outline_model::cases::world::{Style, World};
@@ -65,6 +67,10 @@ pub enum Call {
     Move,
     /// A move under the deepest node of a chain.
     MoveOver(Distance),
+    /// A batch of as many moves as there can be.
+    Moves,
+    /// The same moves one by one.
+    MovesInTurn,
     Judge,
     /// A log of which half are such moves.
     JudgeOver(Distance),
@@ -103,7 +109,7 @@ pub enum Call {
     PageMove,
 }
 
-pub const CALLS: [Call; 35] = [
+pub const CALLS: [Call; 37] = [
     Call::Make,
     Call::Deliver,
     Call::Add,
@@ -112,6 +118,8 @@ pub const CALLS: [Call; 35] = [
     Call::MoveOver(Distance::Near),
     Call::MoveOver(Distance::Far),
     Call::MoveOver(Distance::Beside),
+    Call::Moves,
+    Call::MovesInTurn,
     Call::Judge,
     Call::JudgeOver(Distance::Near),
     Call::JudgeOver(Distance::Far),
@@ -152,6 +160,8 @@ impl Call {
             Call::MoveOver(Distance::Near) => "issue_move, near",
             Call::MoveOver(Distance::Far) => "issue_move, far",
             Call::MoveOver(Distance::Beside) => "issue_move, beside",
+            Call::Moves => "issue_moves, 16",
+            Call::MovesInTurn => "the same 16 by issue_move",
             Call::Judge => "judge",
             Call::JudgeOver(Distance::Near) => "judge, near",
             Call::JudgeOver(Distance::Far) => "judge, far",
@@ -194,6 +204,11 @@ impl Call {
         self.brings_last() || issues
     }
 
+    /// Whether the call moves many nodes.
+    fn has_batch(self) -> bool {
+        matches!(self, Call::Moves | Call::MovesInTurn)
+    }
+
     /// Whether the call delivers the last op of the log.
     fn brings_last(self) -> bool {
         matches!(self, Call::Deliver | Call::Holdback) || self.late().is_some()
@@ -211,7 +226,8 @@ impl Call {
 
     /// Whether the call changes its buffer.
     fn changes(self) -> bool {
-        self.adds() || self.fills() || matches!(self, Call::Frees | Call::InTurn)
+        let adds_many = matches!(self, Call::Frees | Call::InTurn) || self.has_batch();
+        self.adds() || self.fills() || adds_many
     }
 
     /// Whether the call is lent a holdback.
@@ -264,6 +280,7 @@ pub struct Work {
     replica: u8,
     node: u16,
     parent: u16,
+    batch: Batch,
     out: Vec<u8>,
     words: Vec<u16>,
     bytes: Vec<u8>,
@@ -275,6 +292,7 @@ impl Work {
             (Call::MoveOver(_), _) => distance::chain(size),
             (Call::JudgeOver(distance), _) => distance.moves(size),
             (_, Some(late)) => late.ops(shape, size),
+            _ if call.has_batch() => batch::ops(shape, size),
             _ => shape.ops(size.max(1)),
         };
         let chain = if call.has_chain() {
@@ -307,10 +325,12 @@ impl Work {
             file = examples::file_of(&[]);
             file.resize(length, 0);
         }
-        let room = OP_LEN * chain.len().max(1);
+        let many = if call.has_batch() { MOST_MOVES } else { 1 };
+        let room = OP_LEN * chain.len().max(many);
         file.resize((file.len() + room).min(MAX_FILE), 0);
         let counts = log.held();
         let replica = counts.iter().position(|&count| count < 255).unwrap_or(0);
+        let replica = replica as u8 + 1;
         let (node, parent) = match call {
             Call::MoveOver(distance) => distance.names(&ops),
             _ => names(&log),
@@ -333,10 +353,15 @@ impl Work {
                 _ => Page::default(),
             },
             op: op.bytes().to_vec(),
-            replica: replica as u8 + 1,
+            replica,
             node,
             parent,
-            out: vec![0; OP_LEN],
+            batch: if call.has_batch() {
+                Batch::new(&log, replica, parent)
+            } else {
+                Batch::default()
+            },
+            out: vec![0; OP_LEN * many],
             words: vec![0; SLOTS],
             bytes: vec![0; plain::LARGEST_BUNDLE],
         }
@@ -388,6 +413,12 @@ impl Work {
                 let (replica, node, parent) = (self.replica, self.node, self.parent);
                 careful::issue_move(buffer, replica, node, parent, &mut self.out)
             }),
+            (Call::Moves, _) => {
+                callgrind::count(|| self.batch.at_once(buffer, &mut self.out, side))
+            }
+            (Call::MovesInTurn, _) => {
+                callgrind::count(|| self.batch.one_by_one(buffer, &mut self.out, side))
+            }
             (Call::Judge | Call::JudgeOver(_), _) => {
                 callgrind::count(|| judge(buffer, &mut self.words, &mut self.bytes, side))
             }
@@ -473,6 +504,7 @@ impl Work {
             ));
         }
         assert!(left[0] == left[1], "{name}: the sides differ");
+        assert!(left[0].0 || !self.call.has_batch(), "{name}: refused");
         // No other refusal than the one that is meant.
         if let Call::MoveOver(distance) = self.call {
             let (replica, node, parent) = (self.replica, self.node, self.parent);
@@ -521,7 +553,7 @@ pub fn all() -> impl Iterator<Item = (Call, Shape, usize)> {
                 (Call::MoveOver(_) | Call::JudgeOver(_), _) => shape == Shape::Deep && size > 0,
                 _ if call.has_chain() => shape == Shape::Interleaved && size > CHAIN,
                 _ if call.late().is_some_and(|late| size <= late.by()) => false,
-                _ if call.late().is_some() || call.has_page() => {
+                _ if call.late().is_some() || call.has_page() || call.has_batch() => {
                     matches!(shape, Shape::Deep | Shape::Random) && size > 0
                 }
                 (_, Shape::Interleaved) => false,
