@@ -155,7 +155,7 @@ unfolding movesAnswer movesBuffer unlessRefused
 taken-answer [] f s p t = refl
 taken-answer (n ∷ ns) f s p t = rw (t .0 .1) (taken-answer ns (moveBuffer width f s n p) s p (t .1))
 
--- in two parts
+-- in two parts, and back
 pub taken-parts : (xs ys : List ℕ) (f : List ℕ) (s p : ℕ) → AllTaken f s (xs ++ ys) p
     → AllTaken f s xs p × AllTaken (movesBuffer width f s xs p) s ys p
 unfolding movesBuffer
@@ -164,19 +164,36 @@ taken-parts (x ∷ xs) ys f s p t =
     let parts = taken-parts xs ys (moveBuffer width f s x p) s p (t .1) in
     ((t .0, parts .0), parts .1)
 
+pub taken-both : (xs ys : List ℕ) (f : List ℕ) (s p : ℕ) → AllTaken f s xs p → AllTaken (movesBuffer width f s xs p) s ys p
+    → AllTaken f s (xs ++ ys) p
+unfolding movesBuffer
+taken-both [] ys f s p t r = r
+taken-both (x ∷ xs) ys f s p t r = (t .0, taken-both xs ys (moveBuffer width f s x p) s p (t .1) r)
+
+-- the answer to moves after some that are accepted
+pub taken-first : (xs ys : List ℕ) (f : List ℕ) (s p : ℕ) → AllTaken f s xs p
+    → movesAnswer width f s (xs ++ ys) p ≡ movesAnswer width (movesBuffer width f s xs p) s ys p
+unfolding movesAnswer movesBuffer unlessRefused
+taken-first [] ys f s p t = refl
+taken-first (x ∷ xs) ys f s p t = rw (t .0 .1) (taken-first xs ys (moveBuffer width f s x p) s p (t .1))
+
 -- what f still is in g, a buffer after some of the moves
 pub record Carried (f g : List ℕ) : Type 0 where
   pub is-sound : sound width g ≡ true
   pub size : length g ≡ length f
   pub knows : (n : ℕ) → knowledge (logOf width g) (countsOf (logOf width g)) n ≡ knowledge (logOf width f) (countsOf (logOf width f)) n
 
-pub carried-on : (f g : List ℕ) (s n p m : ℕ) → issueAnswer width g width s (move n p) ≡ accepted m → Carried f g
-    → Carried f (moveBuffer width g s n p)
-carried-on f g s n p m e c = record {
-  is-sound = after-sound g s n p m e;
-  size = after-length g s n p m e ∙ c .size;
-  knows = λ k. knows-after g s n p m e k ∙ c .knows k;
-}
+pub taken-carried : (ns f : List ℕ) (s p : ℕ) → sound width f ≡ true → AllTaken f s ns p → Carried f (movesBuffer width f s ns p)
+unfolding movesBuffer
+taken-carried [] f s p a t = record { is-sound = a; size = refl; knows = λ n. refl }
+taken-carried (n ∷ ns) f s p a t =
+    let (m, e) = t .0 in
+    let rest = taken-carried ns (moveBuffer width f s n p) s p (after-sound f s n p m e) (t .1) in
+    record {
+      is-sound = rest .is-sound;
+      size = rest .size ∙ after-length f s n p m e;
+      knows = λ k. rest .knows k ∙ knows-after f s n p m e k;
+    }
 
 -- the tree
 pub taken-tree : (ns : List ℕ) (f : List ℕ) (s p : ℕ) → AllTaken f s ns p
@@ -205,6 +222,12 @@ pub ops-count : (ns f : List ℕ) (s p : ℕ) → length (movesOps width f s ns 
 unfolding movesOps
 ops-count [] f s p = refl
 ops-count (n ∷ ns) f s p = ap suc (ops-count ns (moveBuffer width f s n p) s p)
+
+pub ops-parts : (xs ys f : List ℕ) (s p : ℕ)
+    → movesOps width f s (xs ++ ys) p ≡ movesOps width f s xs p ++ movesOps width (movesBuffer width f s xs p) s ys p
+unfolding movesOps movesBuffer
+ops-parts [] ys f s p = refl
+ops-parts (x ∷ xs) ys f s p = ap (_∷_ (issued (logOf width f) s (move x p))) (ops-parts xs ys (moveBuffer width f s x p) s p)
 
 pub ops-wide : (ns f : List ℕ) (s p : ℕ) → AllTaken f s ns p → Wide width (movesOps width f s ns p)
 unfolding movesOps

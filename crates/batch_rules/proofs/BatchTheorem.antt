@@ -23,7 +23,7 @@ use Rattle.rules.specs.Tree.{slot, slots, slotOf}
 use Rattle.rules.proofs.DeliverLaws.{if-not, required, accepted-same}
 use Rattle.rules.proofs.FileLaws.{chunks-concat}
 use Rattle.rules.proofs.TurnLaws.{OneLog}
-use Rattle.batch_rules.specs.Batch.{batchAnswer, batchBuffer, batchOut, issueMoves, mostMoves, moveBuffer, movesAnswer, movesBuffer, movesOps}
+use Rattle.batch_rules.specs.Batch.{batchAnswer, batchBuffer, batchFits, batchOut, issueMoves, mostMoves, moveBuffer, movesAnswer, movesBuffer, movesOps}
 use Rattle.batch_rules.specs.Claims.{AppliedAtIssue, AsOneByOne, ByItsMoves, Decided, EmptyAccepted, OneByOne, RefusedLeaves, Tested, TooMany, WholeAtIssue, allAccepted, lastBuffer, singly}
 use Rattle.batch_rules.proofs.BatchLaws.{AllTaken, Settled, yes, no, all-taken, issue-settled, moves-alike, ops-count, ops-wide, outcomes-after, slot-in, slot-there, count-after, taken-answer, taken-outcome, taken-parts, taken-tree}
 
@@ -31,7 +31,7 @@ use Rattle.batch_rules.proofs.BatchLaws.{AllTaken, Settled, yes, no, al
 
 pub passed : (f : List ℕ) (room s : ℕ) (ns : List ℕ) (p end : ℕ) → batchAnswer width f room s ns p ≡ accepted end
     → Tested f room s ns × (movesAnswer width f s ns p ≡ accepted end)
-unfolding batchAnswer
+unfolding batchAnswer batchFits
 passed f room s ns p end e =
     let a = required _ _ _ end e in
     let b = required _ _ _ end (a .1) in
@@ -47,7 +47,7 @@ passed f room s ns p end e =
 
 pub on-to-moves : (f : List ℕ) (room s : ℕ) (ns : List ℕ) (p : ℕ) → Tested f room s ns
     → batchAnswer width f room s ns p ≡ movesAnswer width f s ns p
-unfolding batchAnswer require
+unfolding batchAnswer batchFits require
 on-to-moves f room s ns p t =
     rw (t .is-sound, le-leb (length ns) mostMoves (t .few), le-leb (width * length ns) room (t .space), t .is-replica)
 
@@ -218,11 +218,11 @@ refused-leaves f out s ns p e =
     (if-not (batchAnswer width f (length out) s ns p) _ f e, if-not (batchAnswer width f (length out) s ns p) _ out e)
 
 pub empty-accepted : EmptyAccepted
-unfolding batchAnswer batchBuffer batchOut movesAnswer movesBuffer movesOps require concat
+unfolding batchAnswer batchFits batchBuffer batchOut movesAnswer movesBuffer movesOps require concat
 empty-accepted f out s p a b = rw (a, le-leb (width * 0) (length out) (omega arith), b)
 
 pub too-many : TooMany
-unfolding batchAnswer require
+unfolding batchAnswer batchFits require
 too-many f out s ns p a (inl h) = rw (a, lt-leb (length ns) mostMoves h)
 too-many f out s ns p a (inr h) = rw (a, lt-leb (width * length ns) (length out) h, and-false)
 

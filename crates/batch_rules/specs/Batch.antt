@@ -1,7 +1,7 @@
 -- A batch (the document's column): up to 16 moves to one parent, which a replica issues by one call. Tests 1, 2, 3, and then for each move
 -- in turn those of issuing from 9 on.
 use Prim.Native.Nat.{ℕ, _*_}
-use mathlib.Core.Bool.{_&&_}
+use mathlib.Core.Bool.{Bool, _&&_}
 use mathlib.Core.List.{List, [], _∷_, _++_, foldl}
 use lib.ListN.{length, drop}
 use lib.Dec.{leb}
@@ -37,11 +37,15 @@ movesOps w f s (n ∷ ns) p = issued (logOf w f) s (move n p) ∷ movesOps w (mo
 
 ---- the call; room is the length of what is lent for the ops
 
--- "more than 16, or fewer than 14 bytes of output per move, is answered 2. After tests 1, 2 and 3 an empty list is accepted"
+-- number 2: neither "more than 16", nor "fewer than 14 bytes of output per move"
+unfoldable pub batchFits : ℕ → (moves room : ℕ) → Bool
+batchFits w n room = leb n mostMoves && leb (w * n) room
+
+-- "after tests 1, 2 and 3 an empty list is accepted"
 unfoldable pub batchAnswer : ℕ → (buffer : List ℕ) (room replica : ℕ) (nodes : List ℕ) (parent : ℕ) → Answer
 batchAnswer w f room s ns p =
     require (sound w f) 1
-    (require (leb (length ns) mostMoves && leb (w * length ns) room) 2
+    (require (batchFits w (length ns) room) 2
     (require (isReplica s) 3 (movesAnswer w f s ns p)))
 
 -- "if any is refused, its number is returned and no lent byte changes"

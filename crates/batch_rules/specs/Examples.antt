@@ -15,7 +15,7 @@ use Rattle.rules.specs.Op.{Op, replicas, isReplica, countIn, kindOf, replicaOf,
 use Rattle.rules.specs.Replay.{opsWithin, addedIn, removedIn, timestampIn, timestamp, stamp, stamped, ofReplica, ofKind, ofTime, byTime, ordered, start, outcomeSlot, outcomeOf, step, replay, parentsOf, outcomesOf}
 use Rattle.rules.specs.Sound.{sound}
 use Rattle.rules.specs.Examples.{ofOps, p10Adds, p12, pruned, siblings, three, vector}
-use Rattle.batch_rules.specs.Batch.{moveBuffer, movesBuffer, movesAnswer, movesOps, batchAnswer, batchBuffer, batchOut, issueMoves}
+use Rattle.batch_rules.specs.Batch.{moveBuffer, movesBuffer, movesAnswer, movesOps, batchFits, batchAnswer, batchBuffer, batchOut, issueMoves}
 
 -- the file of a log with so many sevens past it; so many nines lent for the ops
 abbrev fileThen : Log → ℕ → List ℕ
@@ -113,7 +113,7 @@ unfolding ofOps table siblingsThen p12 pruned require unlessRefused wordAt word 
     fileOf appended within covered closedAt closed isKnown isMarked marked nodeWithin knowledge knownParent namesKnown soundOp soundOps
     soundLog soundHeader laid structural sound slot slotOf parentIn climb path depth atOrBelow opsWithin addedIn removedIn timestampIn
     timestamp stamp stamped ofReplica ofKind ofTime byTime ordered start outcomeSlot outcomeOf step replay parentsOf outcomesOf opBytes
-    moveKind issued requestKnown requestUnmarked requestClear issueAnswer issueBuffer moveBuffer movesBuffer movesAnswer movesOps
+    moveKind issued requestKnown requestUnmarked requestClear issueAnswer issueBuffer moveBuffer movesBuffer movesAnswer movesOps batchFits
     batchAnswer batchBuffer batchOut
 table-holds =
     refl & refl & refl & refl & refl & refl & refl & refl & refl & refl & refl & refl & refl & refl & refl & refl

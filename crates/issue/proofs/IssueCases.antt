@@ -209,7 +209,7 @@ module _ (f : List ℕ) (s : ℕ) where
       (step (requestUnmarked (logOf width f) q) Marked _ _ (cleared-by q))))
 
 -- tests that end in an op
-passes : (b : Bool) (why : Refusal) (y : Drafted) (d : Draft) → cond (not b) (Refused why) y ≡ Op d → (b ≡ true) × (y ≡ Op d)
+pub passes : (b : Bool) (why : Refusal) (y : Drafted) (d : Draft) → cond (not b) (Refused why) y ≡ Op d → (b ≡ true) × (y ≡ Op d)
 passes true why y d e = (refl, e)
 passes false why y d e = let z : _≡_ {A = ℕ} 0 1 = cc in absurd (omega arith)
 
@@ -220,7 +220,16 @@ clear : (b : Bool) (s : ℕ) (v : Vector) (x d : Draft) → cond b (Refused Cycl
 clear false s v x d e = same-op s v x d e
 clear true s v x d e = cc
 
-op-of : (log : Log) (s : ℕ) (q : Request) (d : Draft) → clearedOp log s q ≡ Op d → issued log s q ≡ bytesOf s d (countsOf log)
+-- a drafted move is of its node, to its parent
+pub drafted-names : (t : List ℕ) (n p : ℕ) (d : Draft) → movedIn t n p ≡ Op d → (d .node ≡ n) × (d .parent ≡ p)
+unfolding movedIn
+drafted-names t n p d e = go (atOrBelow t p n) e
+  where
+    go : (b : Bool) → cond b (Refused Cycle) (Op (moveDraft (moveKind t n p) n p)) ≡ Op d → (d .node ≡ n) × (d .parent ≡ p)
+    go false e = let z : moveDraft (moveKind t n p) n p ≡ d = cc in (sym (ap (λ (x : Draft). x .node) z), sym (ap (λ (x : Draft). x .parent) z))
+    go true e = let z : _≡_ {A = ℕ} 0 1 = cc in absurd (omega arith)
+
+pub op-of : (log : Log) (s : ℕ) (q : Request) (d : Draft) → clearedOp log s q ≡ Op d → issued log s q ≡ bytesOf s d (countsOf log)
 unfolding clearedOp issued movedIn
 op-of log s (add p) d e = same-op s (countsOf log) _ d e
 op-of log s (remove n) d e = same-op s (countsOf log) _ d e

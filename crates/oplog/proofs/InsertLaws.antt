@@ -179,7 +179,7 @@ module _ (w : ℕ) (f : List ℕ) (s : ℕ) (l : 1 ≤ s) (u : s ≤ 8) (ops : L
   appended-bytes = rw bodies (simp append-assoc)
 
   -- the counts with so many ops more
-  counts-more : countsOf (appendAll log s ops) ≡ set (headerCounts f) (s - 1) (getD (headerCounts f) (s - 1) 0 + length ops)
+  pub counts-more : countsOf (appendAll log s ops) ≡ set (headerCounts f) (s - 1) (getD (headerCounts f) (s - 1) 0 + length ops)
   unfolding countsOf appendAll countIn
   counts-more =
       let count-getD : countIn (countsOf log) s ≡ getD (headerCounts f) (s - 1) 0 = ap (λ v. getD v (s - 1) 0) (counts-logOf w f) in

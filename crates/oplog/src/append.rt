@@ -60,7 +60,7 @@ fn put_ops(buf: &mut [u8], place: usize, end: usize, op: &[u8], counts: [u8; 8],
 }
 
 // The counts with n ops more of a replica.
-fn with_more(counts: [u8; 8], replica: usize, n: usize) -> [u8; 8]
+pub fn with_more(counts: [u8; 8], replica: usize, n: usize) -> [u8; 8]
     requires { ⌜ (1 ≤ replica) × (replica ≤ 8) × (countIn counts replica + n ≤ 255) ⌝ }
     ensures { λ r. ⌜ r ≡ set counts (replica - 1) (countIn counts replica + n) ⌝ }
 {

@@ -7,6 +7,7 @@ mod places;
 
 pub use append::append_ops;
 pub use append::put_front;
+pub use append::with_more;
 pub use header::count_at;
 pub use header::counts_of;
 pub use header::end_of;

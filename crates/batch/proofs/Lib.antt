@@ -1,0 +1,5 @@
+pub mod TakenLaws
+pub mod DraftCases
+pub mod PlanCases
+pub mod PutCases
+pub mod TestCases
