@@ -23,7 +23,10 @@ use Rattle.rules.specs.Op.{Vector}
 use Rattle.rules.specs.Issue.{Request, issueAnswer}
 use Rattle.rules.specs.Judge.{judge, judgeAnswer}
 use borrow.Author.Tests.{leb-true}
-use Rattle.rules.specs.File.{width, logOf}
+use Rattle.rules.specs.File.{fileEnd, width, logOf}
+use Rattle.batch_rules.specs.Batch.{batchAnswer, movesBuffer}
+use Rattle.batch_rules.proofs.BatchLaws.{taken-carried}
+use Rattle.batch_rules.proofs.BatchTheorem.{batch-buffer, batch-ends, passed, taken}
 
 -- an answer fits if what it accepts does
 fits-if : (a : Answer) → ((n : ℕ) → a ≡ accepted n → n ≤ 9223372036854775807) → fits a
@@ -115,6 +118,17 @@ open-fits f b h =
     let t : turnsAnswer width f ops ≡ accepted m = required _ _ _ m (c .1) .1 in
     let inside = sound-laid width (turnsBuffer width f ops) (turns-sound width ops f (c .0)) .fits in
     omega (arith, inside, turns-end width ops f m t, turns-length width ops f))
+
+pub batch-fits : (f out : List ℕ) (s : ℕ) (ns : List ℕ) (p : ℕ) → length f ≤ 9223372036854775807
+    → fits (batchAnswer width f (length out) s ns p)
+batch-fits f out s ns p h =
+    fits-if (batchAnswer width f (length out) s ns p)
+    (λ m e.
+    let a = passed f (length out) s ns p m e .0 .is-sound in
+    let last = taken-carried ns f s p a (taken f out s ns p m e) in
+    let inside = sound-laid width (movesBuffer width f s ns p) (last .is-sound) .fits in
+    let end : fileEnd width (movesBuffer width f s ns p) ≡ m = rw (batch-buffer f out s ns p m e) at (batch-ends f out s ns p m e) in
+    omega (arith, inside, end, last .size))
 
 pub holdback-fits : (f r h : List ℕ) → fits (holdbackAnswer width f r h)
 holdback-fits f r h =

@@ -16,11 +16,12 @@ use Rattle.rules.specs.File.{width}
 use Rattle.rules.specs.Measure.{countsCall, endAnswer}
 use Rattle.rules.specs.Path.{Written, pathCall}
 use Rattle.rules.specs.Views.{View}
+use Rattle.batch_rules.specs.Batch.{issueMoves}
 use Rattle.numbers.specs.Number.{number}
 use Rattle.outline_c.specs.Number.{ofResult, ofHoldback, ofIssued, ofJudgement, ofWritten}
 use Rattle.numbers.specs.Fits.{fits}
 use Rattle.outline_c.proofs.FitLaws.{make-fits, deliver-fits, issue-fits, judge-fits, path-fits, listing-fits}
-use Rattle.outline_c.proofs.FitLaws.{holdback-fits, size-fits, end-fits, counts-fits, bundle-fits, open-fits}
+use Rattle.outline_c.proofs.FitLaws.{holdback-fits, size-fits, end-fits, counts-fits, bundle-fits, open-fits, batch-fits}
 
 ---- what a call hands over; a is its answer and n the number of it
 
@@ -100,6 +101,11 @@ module _ (a : Answer) where
   pub held-fits :
       (f op h b k : List ℕ) → record { answer = a; buffer = b; holdback = k } ≡ deliverHoldback width f op h → fits a
   held-fits f op h b k e = rw (ap (λ (x : HoldbackResult). x .answer) e) (holdback-fits f op h)
+
+  pub batched-fits :
+      (f out b o : List ℕ) (s : ℕ) (ns : List ℕ) (p : ℕ) → record { answer = a; buffer = b; out = o } ≡ issueMoves width f out s ns p →
+      length f ≤ 9223372036854775807 → fits a
+  batched-fits f out b o s ns p e h = rw (ap (λ (x : Issued). x .answer) e) (batch-fits f out s ns p h)
 
 ---- what the code of numbers needs: search numbering
 pub ruleset handing = (result-over, holdback-over, issued-over, judgement-over, written-over, listing-over, answer-over, size-over)

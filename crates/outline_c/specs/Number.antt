@@ -33,9 +33,9 @@ ofPage x = (pageNumber (x .answer) (x .taken), x .buffer, x .page)
 abbrev pub ofPageIssued : PageIssued → ℕ × List ℕ × List ℕ × Page
 ofPageIssued x = (pageNumber (x .answer) (x .taken), x .buffer, x .out, x .page)
 
--- 0.5.0, as 10000 * major + 100 * minor + patch
+-- 0.6.0, as 10000 * major + 100 * minor + patch
 abbrev pub version : ℕ
-version = 500
+version = 600
 
 -- the view that a caller asks for
 unfoldable pub viewFor : Bool → View

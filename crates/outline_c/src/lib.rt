@@ -1,10 +1,12 @@
 // The calls of the library for programs in other languages: each answers one number, and lent
 // memory is a pointer and a length. include/outline.h declares them for C.
+mod batches;
 mod bundles;
 mod calls;
 mod holdbacks;
 mod pages;
 
+pub use batches::outline_issue_moves;
 pub use bundles::outline_bundle_make;
 pub use bundles::outline_bundle_open;
 pub use calls::outline_counts;

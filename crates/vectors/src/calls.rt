@@ -1,3 +1,4 @@
+use crate::batches;
 use crate::pages;
 use crate::print::answered;
 use crate::print::memory;
@@ -317,7 +318,8 @@ fn dispatch(call: u8, line: &[u8], lent: &mut [u8]) {
         13 => deliver_holdback(lent, line),
         14 => climb(lent, line),
         15..=18 => pages::run(lent, line),
-        0 | 10 | 19..=255 => loaded(lent),
+        19 => batches::run(lent, line),
+        0 | 10 | 20..=255 => loaded(lent),
     }
 }
 

@@ -1,5 +1,6 @@
 // Runs the cases of model/ (its README has the grammar): one call a line on standard input, its
 // answer and the lent bytes after it on standard output.
+mod batches;
 mod calls;
 mod pages;
 mod print;
