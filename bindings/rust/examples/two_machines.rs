@@ -43,7 +43,7 @@ impl Machine {
     fn put_all(&mut self, nodes: &[Node], parent: Node) {
         let (replica, count) = (self.replica, nodes.len());
         print!("machine {replica} moves {count} nodes under {parent}: ");
-        match self.log.issue_moves(replica, nodes, parent) {
+        match self.log.move_all_to(replica, nodes, parent) {
             Ok(moves) => println!("{} ops", moves.len()),
             Err(why) => println!("refused, {why}"),
         }

@@ -7,7 +7,7 @@ use core::iter::FusedIterator;
 /// The ops of a batch: up to 16 moves under one parent that were issued by one call
 /// (the document's column of articles).
 ///
-/// [`Log::issue_moves`](crate::Log::issue_moves) issues it, wholly or not at all. From
+/// [`Log::move_all_to`](crate::Log::move_all_to) issues it, wholly or not at all. From
 /// then on each move is an op by itself: it is handed to others alone or with the
 /// rest, and has an outcome of its own.
 ///
@@ -18,7 +18,7 @@ use core::iter::FusedIterator;
 /// let b = log.add(me, a)?.node();
 /// let c = log.add(me, b)?.node();
 /// let mut other = log.clone();
-/// let moves = log.issue_moves(me, &[c, b], Node::ROOT)?;
+/// let moves = log.move_all_to(me, &[c, b], Node::ROOT)?;
 /// assert!(moves.ops().all(|op| op.kind() == Kind::MoveUp));
 ///
 /// for op in moves.ops() {

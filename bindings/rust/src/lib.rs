@@ -41,7 +41,7 @@
 //! # A column of articles
 //!
 //! An editor marks up to 16 articles and drags them under one heading: that is a
-//! [batch](Log::issue_moves), of which all moves are issued, or none. It is whole at
+//! [batch](Log::move_all_to), of which all moves are issued, or none. It is whole at
 //! issue only. Its moves are ops like any others, and once those of other machines
 //! come, each has an outcome of its own.
 //!
@@ -52,7 +52,7 @@
 //! let sports = log.add(me, Node::ROOT)?.node();
 //! let rowing = log.add(me, Node::ROOT)?.node();
 //! let chess = log.add(me, rowing)?.node();
-//! let moves = log.issue_moves(me, &[rowing, chess], sports)?;
+//! let moves = log.move_all_to(me, &[rowing, chess], sports)?;
 //! assert_eq!(moves.len(), 2);
 //! assert!(log.children(sports).eq([rowing, chess]));
 //! # Ok::<(), Refusal>(())
@@ -128,7 +128,7 @@
 //! | [`Log::deliver`] | applying a change; an early op is refused and not kept |
 //! | [`Log::deliver_with_holdback`] | applying a change; an early op is kept in a [`Holdback`] until what it counts has come |
 //! | [`Log::deliver_with_page`], [`Log::add_with_page`] | applying or making a change, and the patch that brings a view up to date: here the view is a [`Page`] |
-//! | [`Log::issue_moves`] | a transaction of moves; here it is whole at issue only |
+//! | [`Log::move_all_to`] | a transaction of moves; here it is whole at issue only |
 //! | [`Log::merge`] | merging |
 //!
 //! # What is refused

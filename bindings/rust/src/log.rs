@@ -151,9 +151,9 @@ impl Log {
     /// let b = log.add(me, Node::ROOT)?.node();
     /// let mut other = log.clone();
     ///
-    /// let moves = log.issue_moves(me, &[a, b], heading)?;
+    /// let moves = log.move_all_to(me, &[a, b], heading)?;
     /// assert!(log.children(heading).eq([a, b]));
-    /// assert_eq!(log.issue_moves(me, &[b, heading], a), Err(Refusal::Cycle));
+    /// assert_eq!(log.move_all_to(me, &[b, heading], a), Err(Refusal::Cycle));
     /// assert_eq!(log.parent(b), Some(heading));
     ///
     /// // Another machine has moved the heading below one of the two: now the other
@@ -164,7 +164,7 @@ impl Log {
     /// assert!(outcomes.eq([Some(Outcome::WouldCloseCircle), Some(Outcome::Applied)]));
     /// # Ok::<(), Refusal>(())
     /// ```
-    pub fn issue_moves(
+    pub fn move_all_to(
         &mut self,
         replica: Replica,
         nodes: &[Node],

@@ -30,7 +30,7 @@ fn accepted() {
     for parent in [nodes[0], nodes[3], Node::ROOT, nodes[20]] {
         let mut singly = log.clone();
         let expected = in_turn(&mut singly, replica(2), column, parent).unwrap();
-        let moves = log.issue_moves(replica(2), column, parent).unwrap();
+        let moves = log.move_all_to(replica(2), column, parent).unwrap();
         assert_eq!(log, singly);
         assert_eq!((moves.len(), moves.is_empty()), (16, false));
         assert!(moves.ops().eq(expected.iter().copied()));
@@ -46,13 +46,13 @@ fn accepted() {
 #[test]
 fn one_node_twice() {
     let (mut log, nodes) = start();
-    let moves = log.issue_moves(replica(1), &[nodes[4], nodes[4]], nodes[1]);
+    let moves = log.move_all_to(replica(1), &[nodes[4], nodes[4]], nodes[1]);
     let kinds = moves.unwrap().ops().map(|op| op.kind()).collect::<Vec<_>>();
     assert_eq!(kinds, [Kind::MoveDown, Kind::MoveUp]);
     // So does that of a node below one that was moved.
     let (mut log, nodes) = start();
     log.move_to(replica(1), nodes[5], nodes[4]).unwrap();
-    let moves = log.issue_moves(replica(1), &[nodes[4], nodes[5]], nodes[1]);
+    let moves = log.move_all_to(replica(1), &[nodes[4], nodes[5]], nodes[1]);
     let kinds = moves.unwrap().ops().map(|op| op.kind()).collect::<Vec<_>>();
     assert_eq!(kinds, [Kind::MoveDown, Kind::MoveUp]);
 }
@@ -76,15 +76,15 @@ fn refused() {
         for (worse, why) in bad {
             let mut column = nodes[4..20].to_vec();
             column[place] = worse;
-            assert_eq!(log.issue_moves(me, &column, parent), Err(why));
+            assert_eq!(log.move_all_to(me, &column, parent), Err(why));
             // Of two that are refused the first counts.
             let first = [worse, removed, node(2049)];
-            assert_eq!(log.issue_moves(me, &first, parent), Err(why));
+            assert_eq!(log.move_all_to(me, &first, parent), Err(why));
         }
     }
     let column = &nodes[4..20];
-    assert_eq!(log.issue_moves(me, column, removed), Err(Refusal::Marked));
-    let nowhere = log.issue_moves(me, column, node(2049));
+    assert_eq!(log.move_all_to(me, column, removed), Err(Refusal::Marked));
+    let nowhere = log.move_all_to(me, column, node(2049));
     assert_eq!(nowhere, Err(Refusal::Unknown));
     assert_eq!(log, before);
 }
@@ -94,12 +94,12 @@ fn lengths() {
     let (mut log, nodes) = start();
     let before = log.clone();
     for count in 17..=20 {
-        let answer = log.issue_moves(replica(1), &nodes[4..4 + count], nodes[0]);
+        let answer = log.move_all_to(replica(1), &nodes[4..4 + count], nodes[0]);
         assert_eq!(answer, Err(Refusal::Length));
     }
     // Without nodes nothing is done, whatever the parent.
     for parent in [Node::ROOT, nodes[0], node(2049)] {
-        let moves = log.issue_moves(replica(1), &[], parent).unwrap();
+        let moves = log.move_all_to(replica(1), &[], parent).unwrap();
         assert!(moves.is_empty() && moves.ops().len() == 0);
         assert_eq!(moves.as_bytes(), []);
     }
@@ -116,15 +116,15 @@ fn exhausted() {
         log.add(me, Node::ROOT).unwrap();
     }
     let before = log.clone();
-    let six = log.issue_moves(me, &nodes[4..10], nodes[0]);
+    let six = log.move_all_to(me, &nodes[4..10], nodes[0]);
     assert_eq!((six, &log), (Err(Refusal::Exhausted), &before));
     assert_eq!(
-        log.issue_moves(me, &nodes[4..9], nodes[0]).unwrap().len(),
+        log.move_all_to(me, &nodes[4..9], nodes[0]).unwrap().len(),
         5
     );
-    let one = log.issue_moves(me, &nodes[9..10], nodes[0]);
+    let one = log.move_all_to(me, &nodes[9..10], nodes[0]);
     assert_eq!(one, Err(Refusal::Exhausted));
-    assert!(log.issue_moves(me, &[], nodes[0]).unwrap().is_empty());
+    assert!(log.move_all_to(me, &[], nodes[0]).unwrap().is_empty());
 }
 
 /// The plain call: the order of its tests, and what it leaves of lent memory.
@@ -189,7 +189,7 @@ fn random() {
             let parent = rng.pick(&nodes);
             let (before, mut singly) = (log.clone(), log.clone());
             let expected = in_turn(&mut singly, me, &column, parent);
-            match log.issue_moves(me, &column, parent) {
+            match log.move_all_to(me, &column, parent) {
                 Ok(moves) => {
                     assert_eq!(Ok(moves.ops().collect()), expected);
                     assert_eq!(log, singly);
@@ -211,7 +211,7 @@ fn outcomes() {
     let (mut log, nodes) = start();
     let (heading, column) = (nodes[10], &nodes[4..7]);
     let mut other = log.clone();
-    let moves = log.issue_moves(replica(1), column, heading).unwrap();
+    let moves = log.move_all_to(replica(1), column, heading).unwrap();
     let outcomes = |log: &Log| {
         let tree = log.tree();
         let outcomes = moves.ops().map(|op| tree.outcome(&op).unwrap());
@@ -237,7 +237,7 @@ fn outcomes() {
 fn pages() {
     let (mut log, nodes) = start();
     let mut page: Page = log.page();
-    log.issue_moves(replica(1), &nodes[4..20], nodes[0])
+    log.move_all_to(replica(1), &nodes[4..20], nodes[0])
         .unwrap();
     let held = log.len();
     assert_ne!(page, log.page());

@@ -1,5 +1,5 @@
 -- One move of a batch, as the code meets it: its tests, its op and the tree after it.
-use mathlib.Core.Path.{_≡_, refl, sym, ap, _∙_}
+use mathlib.Core.Path.{_≡_, sym, _∙_}
 use mathlib.Core.Bool.{true, false}
 use mathlib.Core.List.{List, [], _++_, append-nil}
 use mathlib.Core.Logic.{inr}
@@ -12,9 +12,9 @@ use borrow.Author.Tests.{le-leb, lt-leb}
 use mathlib.Core.Bool.{and-eq-true-iff}
 use Rattle.lists.proofs.BoolLaws.{tested}
 use Rattle.lists.proofs.ListLaws.{no-length}
-use Rattle.rules.specs.Answer.{Answer, accepted, refused, require, ifAccepted}
+use Rattle.rules.specs.Answer.{Answer, accepted, refused, require}
 use Rattle.rules.specs.File.{Log, countsOf, logOf, width}
-use Rattle.rules.specs.Issue.{move, opBytes, requestKnown, requestUnmarked}
+use Rattle.rules.specs.Issue.{move, requestKnown, requestUnmarked}
 use Rattle.rules.specs.Op.{Vector, countIn}
 use Rattle.rules.specs.Tree.{slotOf, slots}
 use Rattle.rules.proofs.KnownLaws.{named-valid}
@@ -27,8 +27,7 @@ use Rattle.issue.specs.declared.draft.Draft.{Draft}
 use Rattle.issue.specs.declared.draft.Drafted.{Drafted}
 use Rattle.issue.specs.declared.draft.Drafted.the-variants.{Op, Refused}
 use Rattle.issue.proofs.IssueCases.{drafted-names, known-small, passes}
-use Rattle.soundness.specs.Asked.{Tallied}
-use Rattle.batch.specs.Planning.{Drawable, Grounded, Next, Turn, draftedIn, nextBy, putNext, roomTest}
+use Rattle.batch.specs.Planning.{Drawable, Next, Turn, draftedIn, nextBy, putNext, roomTest}
 
 ---- the tests 9, 7, 11 and 10
 
@@ -73,7 +72,7 @@ module _ (log : Log) (u : Vector) (t : List ℕ) (s n p : ℕ) (d : Draft) (e : 
   draft-parent = drafted-names t n p d draft-moved .1
 
   -- its node has a slot
-  pub draft-slot : slotOf (d .node) < slots
+  draft-slot : slotOf (d .node) < slots
   unfolding requestKnown
   draft-slot =
       let names = simp and-eq-true-iff at (opened .0) in
@@ -120,4 +119,6 @@ drawable f u marks end t s op x v n p r is d e size l = record {
 }
 
 ---- what the code of one move needs: search drafting
-pub ruleset drafting = (needs, tested, exhausted, unknown, marked, drafts, in-tree, hung, no-room, put-there, next-refused, next-put, drawable)
+pub ruleset leaving = (hung, no-room, put-there, next-refused, next-put, drawable)
+
+pub ruleset drafting = (needs, tested, exhausted, unknown, marked, drafts, in-tree, leaving)

@@ -3,43 +3,37 @@ use mathlib.Core.Path.{_≡_, refl, sym, ap, _∙_}
 use mathlib.Core.Bool.{true, false}
 use mathlib.Core.List.{List, [], _∷_, _++_, append-assoc, append-nil, foldl-append}
 use Prim.Native.Nat.{ℕ, suc, _+_, _*_, _-_, _^_, _≤_, _<_}
-use native.Mathlib.Nat.{le-refl}
 use native.Mathlib.Numerals.{add-one}
 use native.Mathlib.Omega.{arith}
 use lib.ListN.{drop, getD, length, length-append, length-drop, length-take, set, take, take-append-drop}
-use lib.Seq.{drop-cons, length-take-le, take-add, take-all, take-at, take-suc}
+use lib.Seq.{drop-cons, length-take-le, take-all, take-at, take-suc}
 use borrow.Author.Needs.{needs}
-use borrow.Author.Tests.{le-leb}
 use Rattle.lists.specs.Lists.{concat}
 use Rattle.lists.proofs.BoolLaws.{never, tested}
 use Rattle.lists.proofs.ListLaws.{concat-append}
-use Rattle.rules.specs.Answer.{Answer, accepted, refused, require, unlessRefused, ifAccepted}
+use Rattle.rules.specs.Answer.{Answer, accepted, unlessRefused}
 use Rattle.rules.specs.File.{Log, countsOf, fileEnd, headerCounts, logOf, startOf, width}
-use Rattle.rules.specs.Issue.{move, issue, issueAnswer, issueBuffer, issueOut, issued, requestKnown, requestUnmarked, Issued}
+use Rattle.rules.specs.Issue.{move, issueAnswer, issued, requestKnown, requestUnmarked, Issued}
 use Rattle.rules.specs.Log.{knownParent}
 use Rattle.rules.specs.Op.{Vector, countIn, isReplica}
 use Rattle.rules.specs.Replay.{parentsOf}
-use Rattle.rules.specs.Sound.{sound}
 use Rattle.rules.specs.Tree.{slotOf, slots}
 use Rattle.rules.proofs.FileLaws.{counts-logOf}
 use Rattle.rules.proofs.IssueLaws.{issue-admitted}
 use Rattle.rules.proofs.ReplicaLaws.{replica-high, replica-low}
 use Rattle.rules.proofs.SoundLaws.{sound-good, sound-laid}
 use Rattle.rules.proofs.StepLaws.{tables-full}
-use Rattle.codec.specs.Answers.{numberOf}
 use Rattle.codec.specs.Asked.{isAccepted}
-use Rattle.codec.specs.declared.answer.Refusal.{Refusal}
 use Rattle.codec.proofs.AnswerLaws.{accepted-with, if-accepted}
 use Rattle.delivery.specs.Adding.{lastTest}
 use Rattle.oplog.proofs.HeaderLaws.{end-is}
 use Rattle.issue.specs.Issuing.{Lent, bytesOf, clearedOp, drafted, putOut}
-use Rattle.issue.specs.declared.draft.Draft.{Draft}
 use Rattle.issue.specs.declared.draft.Drafted.{Drafted}
 use Rattle.issue.specs.declared.draft.Drafted.the-variants.{Op, Refused}
 use Rattle.issue.proofs.IssueCases.{issue-put, issue-refused, op-of}
 use Rattle.marks.specs.Knowing.{MarkedLog}
 use Rattle.batch_rules.specs.Batch.{moveBuffer, movesAnswer, movesBuffer, movesOps, mostMoves}
-use Rattle.batch_rules.proofs.BatchLaws.{AllTaken, Carried, Settled, yes, no, issue-settled, ops-count, ops-parts, parents-after, taken-answer, taken-both, taken-carried, taken-first}
+use Rattle.batch_rules.proofs.BatchLaws.{AllTaken, Carried, Settled, yes, no, issue-settled, ops-parts, parents-after, taken-answer, taken-both, taken-carried, taken-first}
 use Rattle.batch.specs.Planning.{Next, Planned, Prepared, Turn, draftedIn, nextBy, putNext, roomTest}
 use Rattle.batch.proofs.DraftCases.{draft-moved, draft-node, draft-parent}
 use Rattle.batch.proofs.TakenLaws.{taken-count, taken-counts, taken-end}
@@ -89,20 +83,20 @@ module _ (f g : List ℕ) (c : Carried f g) (s : ℕ) (is : isReplica s ≡ true
 
     -- x is what the move left
     module _ (x : Next) (so : x ≡ left draft) where
-      pub turn-answer : x .answer ≡ issueAnswer width g width s (move n p)
+      turn-answer : x .answer ≡ issueAnswer width g width s (move n p)
       turn-answer = ap (λ (y : Next). y .answer) so ∙ answer-is draft same-draft
 
       module _ (a : isAccepted (x .answer) ≡ true) where
         turn-left : (left draft .op ≡ issued there s (move n p)) × (left draft .tree ≡ set (parentsOf there) (slotOf n) p)
         turn-left = left-by draft refl (ap (λ (y : Next). isAccepted (y .answer)) (sym so) ∙ a)
 
-        pub turn-op : x .op ≡ issued there s (move n p)
+        turn-op : x .op ≡ issued there s (move n p)
         turn-op = ap (λ (y : Next). y .op) so ∙ turn-left .0
 
-        pub turn-taken : (m : ℕ) × (issueAnswer width g width s (move n p) ≡ accepted m)
+        turn-taken : (m : ℕ) × (issueAnswer width g width s (move n p) ≡ accepted m)
         turn-taken = let (m, e) = accepted-with (x .answer) a in (m, sym turn-answer ∙ e)
 
-        pub turn-tree : x .tree ≡ parentsOf (logOf width (moveBuffer width g s n p))
+        turn-tree : x .tree ≡ parentsOf (logOf width (moveBuffer width g s n p))
         turn-tree =
             let (m, e) = turn-taken in
             ap (λ (y : Next). y .tree) so ∙ turn-left .1 ∙ sym (parents-after g s n p m e)
@@ -114,7 +108,8 @@ abbrev reached : (f : List ℕ) (s : ℕ) (ns : List ℕ) (p i : ℕ) → List �
 reached f s ns p i = movesBuffer width f s (take i ns) p
 
 -- i moves are planned: t is the tree that they leave of the first one, and their ops are the first bytes of ops
-pub record PlannedTo (f : List ℕ) (u : Vector) (marks : List ℕ) (s : ℕ) (ns : List ℕ) (p start k end : ℕ) (first t ops : List ℕ) (i : ℕ) : Type 0 where
+pub record PlannedTo (f : List ℕ) (u : Vector) (marks : List ℕ) (s : ℕ) (ns : List ℕ) (p start k end : ℕ)
+    (first t ops : List ℕ) (i : ℕ) : Type 0 where
   pub marked : MarkedLog f u marks
   pub is-replica : isReplica s ≡ true
   pub most : length ns ≤ mostMoves
@@ -180,7 +175,7 @@ module _ (f : List ℕ) (u : Vector) (marks : List ℕ) (s : ℕ) (ns : List ℕ
       let more = taken-count s p (x .is-replica) (take i ns) f (x .taken) in
       rw (x .wide, x .marked .tallied .counts) (low, high, omega (arith, few-taken))
 
-  pub plan-table : length t ≡ slots
+  plan-table : length t ≡ slots
   unfolding parentsOf
   plan-table = rw (x .tree) (tables-full (logOf width here) (countsOf (logOf width here)) .parents-full)
 
@@ -217,9 +212,11 @@ module _ (f : List ℕ) (u : Vector) (marks : List ℕ) (s : ℕ) (ns : List ℕ
     unfolding movesBuffer
     here-next = rw (nodes-to, foldl-append)
 
-    rest : movesAnswer width f s ns p
-        ≡ unlessRefused (issueAnswer width here width s (move node p)) (movesAnswer width (moveBuffer width here s node p) s (drop (suc i) ns) p)
-    unfolding movesAnswer
+    later : Answer
+    later = movesAnswer width (moveBuffer width here s node p) s (drop (suc i) ns) p
+
+    rest : movesAnswer width f s ns p ≡ unlessRefused (issueAnswer width here width s (move node p)) later
+    unfolding movesAnswer later
     rest =
         ap (λ ms. movesAnswer width f s ms p) (sym (take-append-drop i ns))
         ∙ taken-first (take i ns) (drop i ns) f s p (x .taken)
@@ -227,7 +224,8 @@ module _ (f : List ℕ) (u : Vector) (marks : List ℕ) (s : ℕ) (ns : List ℕ
 
     -- c are the counts there, and a, t′ and o what the move left
     module _ (c : Vector) (hc : c ≡ set u (k - 1) (countIn u k + i)) (a : Answer) (t′ o : List ℕ)
-        (e : record { answer = a; tree = t′; op = o } ≡ nextBy (length f) (start + at) c s t part (draftedIn (logOf width f) c t s node p)) where
+        (e : record { answer = a; tree = t′; op = o }
+        ≡ nextBy (length f) (start + at) c s t part (draftedIn (logOf width f) c t s node p)) where
       abbrev y : Next
       y = record { answer = a; tree = t′; op = o }
 
@@ -249,10 +247,7 @@ module _ (f : List ℕ) (u : Vector) (marks : List ℕ) (s : ℕ) (ns : List ℕ
         written = λ w. never (sym h ∙ w);
       }
         where
-          after : Answer
-          after = movesAnswer width (moveBuffer width here s node p) s (drop (suc i) ns) p
-
-          go : {b : Answer} → b ≡ a → Settled b → unlessRefused b after ≡ a
+          go : {b : Answer} → b ≡ a → Settled b → unlessRefused b later ≡ a
           go q (no m) = q
           go q (yes m) = never (sym h ∙ ap isAccepted (sym q))
 
@@ -314,4 +309,6 @@ module _ (f : List ℕ) (u : Vector) (marks : List ℕ) (s : ℕ) (ns : List ℕ
       }
 
 ---- what the code of planning needs: search planning
-pub ruleset planning = (plan-fits, plan-end-fits, needs, tested, plan-starts, plan-inside, plan-small, plan-counts, plan-node, plan-part, plan-asks, plan-refused, plan-on, plan-ends)
+pub ruleset turning = (plan-counts, plan-node, plan-part, plan-asks, plan-refused, plan-on)
+
+pub ruleset planning = (needs, tested, plan-starts, plan-inside, plan-fits, plan-end-fits, plan-small, turning, plan-ends)

@@ -1,23 +1,19 @@
 -- A batch at a sound log, as the code meets it: it is planned, added to the log and put out.
-use mathlib.Core.Path.{_≡_, refl, sym, ap, _∙_}
-use mathlib.Core.Bool.{Bool, true, false, _&&_}
+use mathlib.Core.Path.{_≡_, sym, ap, _∙_}
+use mathlib.Core.Bool.{true, false}
 use mathlib.Core.List.{List, [], _++_, append-nil}
-use Prim.Native.Nat.{ℕ, _+_, _*_, _≤_, _<_}
+use Prim.Native.Nat.{ℕ, _+_, _*_, _≤_}
 use native.Mathlib.Omega.{arith}
-use lib.Dec.{leb}
 use lib.ListN.{drop, length, length-replicate, length-take, replicate, take}
 use lib.Seq.{take-all}
 use borrow.Author.Needs.{needs}
-use borrow.Author.Tests.{le-leb, leb-true, lt-leb}
 use Rattle.lists.specs.Lists.{concat}
-use Rattle.lists.proofs.BoolLaws.{and-left, and-right, tested}
+use Rattle.lists.proofs.BoolLaws.{tested}
 use Rattle.lists.proofs.ListLaws.{no-length}
-use Rattle.rules.specs.Answer.{Answer, accepted, refused, require, ifAccepted}
-use Rattle.rules.specs.File.{chunks, countAt, countsOf, fileEnd, headerCounts, logOf, startOf, width}
-use Rattle.rules.specs.Issue.{Issued}
-use Rattle.rules.specs.Op.{Op, Vector, countIn, isReplica}
+use Rattle.rules.specs.Answer.{Answer, accepted}
+use Rattle.rules.specs.File.{chunks, countAt, headerCounts, logOf, startOf, width}
+use Rattle.rules.specs.Op.{Op, Vector}
 use Rattle.rules.specs.Replay.{parentsOf}
-use Rattle.rules.specs.Sound.{sound}
 use Rattle.rules.proofs.FileLaws.{chunks-concat, concat-chunks, length-chunks}
 use Rattle.rules.proofs.ReplicaLaws.{replica-high, replica-low}
 use Rattle.rules.proofs.SoundLaws.{sound-good, sound-laid, sound-structural}
@@ -27,9 +23,10 @@ use Rattle.oplog.specs.Append.{Appendable, appendedAll}
 use Rattle.oplog.proofs.FieldLaws.{counts-in}
 use Rattle.oplog.proofs.HeaderLaws.{end-is}
 use Rattle.soundness.proofs.SoundCases.{laid-of, tallied}
+use Rattle.issue.proofs.IssueCases.{handed}
 use Rattle.marks.specs.Marking.{marksOf}
 use Rattle.marks.proofs.MarkingCases.{fresh-marks}
-use Rattle.batch_rules.specs.Batch.{batchAnswer, batchBuffer, batchOut, mostMoves, movesAnswer, movesBuffer, movesOps}
+use Rattle.batch_rules.specs.Batch.{batchAnswer, batchBuffer, batchOut, movesBuffer, movesOps}
 use Rattle.batch_rules.specs.Claims.{Tested}
 use Rattle.batch_rules.proofs.BatchLaws.{AllTaken, all-taken, ops-count, ops-wide, taken-carried}
 use Rattle.batch_rules.proofs.BatchTheorem.{empty-accepted, on-to-moves}
@@ -37,10 +34,6 @@ use Rattle.batch.specs.Planning.{Plannable, Planned, Prepared}
 use Rattle.batch.specs.Putting.{Puttable, Some, withOps}
 use Rattle.batch.proofs.TakenLaws.{taken-bytes, taken-count, taken-end}
 use Rattle.batch_rules.specs.Batch as rules
-
--- what a call hands back
-abbrev handed : Answer → (buffer out : List ℕ) → Issued
-handed a b o = record { answer = a; buffer = b; out = o }
 
 ---- planning, with the counts, the marks and the tree of the log
 

@@ -3,16 +3,15 @@ use Prim.Native.Nat.{ℕ, suc, zero, _+_, _*_, _-_, _≤_, _<_}
 use mathlib.Core.Path.{_≡_, refl, sym, ap, _∙_}
 use mathlib.Core.Bool.{true}
 use mathlib.Core.List.{List, [], _∷_, _++_, append-assoc, append-nil}
-use lib.ListN.{drop, getD, length, set, take}
+use lib.ListN.{drop, getD, length, set}
 use lib.Seq.{getD-set-same}
 use native.Mathlib.Omega.{arith}
 use Rattle.lists.proofs.ListLaws.{drop-past}
-use Rattle.rules.specs.Answer.{accepted}
-use Rattle.rules.specs.File.{Log, append, countsOf, fileEnd, fileOf, headerCounts, logOf, opsOf, width}
-use Rattle.rules.specs.Issue.{move, issued, issueAnswer, opBytes}
-use Rattle.rules.specs.Op.{Op, Vector, countIn, isReplica, replicaOf}
+use Rattle.rules.specs.File.{Log, append, countsOf, fileEnd, headerCounts, logOf, opsOf, width}
+use Rattle.rules.specs.Issue.{move, issued, opBytes}
+use Rattle.rules.specs.Op.{Op, countIn, isReplica, replicaOf}
 use Rattle.rules.proofs.DeliverLaws.{appended-front, appended-past}
-use Rattle.rules.proofs.FileLaws.{InFront, counts-logOf, length-logOf}
+use Rattle.rules.proofs.FileLaws.{InFront, length-logOf}
 use Rattle.rules.proofs.IssueLaws.{issue-admitted}
 use Rattle.rules.proofs.ReplicaLaws.{replica-high, replica-low}
 use Rattle.oplog.specs.Append.{appendAll, appendedAll}
@@ -47,7 +46,7 @@ unfolding issued opBytes replicaOf
 origin log s n p = refl
 
 module _ (s p : ℕ) (is : isReplica s ≡ true) where
-  pub taken-log : (ns f : List ℕ) → AllTaken f s ns p
+  taken-log : (ns f : List ℕ) → AllTaken f s ns p
       → logOf width (movesBuffer width f s ns p) ≡ appendAll (logOf width f) s (movesOps width f s ns p)
   unfolding movesBuffer movesOps
   taken-log [] f t = sym (none-more (logOf width f) s)

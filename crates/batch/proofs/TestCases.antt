@@ -8,18 +8,14 @@ use lib.ListN.{length}
 use borrow.Author.Needs.{needs}
 use borrow.Author.Tests.{le-leb, leb-true, lt-leb}
 use Rattle.lists.proofs.BoolLaws.{and-left, and-right, tested}
-use Rattle.rules.specs.Answer.{Answer, refused, require}
+use Rattle.rules.specs.Answer.{refused, require}
 use Rattle.rules.specs.File.{width}
-use Rattle.rules.specs.Issue.{Issued}
 use Rattle.rules.specs.Op.{isReplica}
 use Rattle.rules.specs.Sound.{sound}
+use Rattle.issue.proofs.IssueCases.{handed}
 use Rattle.batch_rules.specs.Batch.{batchAnswer, batchBuffer, batchFits, batchOut, mostMoves}
 use Rattle.batch_rules.specs.Claims.{Tested}
 use Rattle.batch_rules.specs.Batch as rules
-
--- what a call hands back
-abbrev handed : Answer → (buffer out : List ℕ) → Issued
-handed a b o = record { answer = a; buffer = b; out = o }
 
 module _ (n room : ℕ) where
   pub too-many : 16 < n → false ≡ batchFits width n room
@@ -41,7 +37,8 @@ module _ (f out : List ℕ) (s : ℕ) (ns : List ℕ) (p : ℕ) where
     unfolding batchAnswer batchBuffer batchOut require
     batch-short b = rw (a, b)
 
-    pub batch-no-replica : batchFits width (length ns) (length out) ≡ true → isReplica s ≡ false → handed (refused 3) f out ≡ rules.issueMoves width f out s ns p
+    pub batch-no-replica : batchFits width (length ns) (length out) ≡ true → isReplica s ≡ false
+        → handed (refused 3) f out ≡ rules.issueMoves width f out s ns p
     unfolding batchAnswer batchBuffer batchOut require
     batch-no-replica b c = rw (a, b, c)
 

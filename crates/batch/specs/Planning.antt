@@ -2,12 +2,12 @@
 use Prim.Native.Nat.{ℕ, _+_, _*_, _≤_, _<_}
 use mathlib.Core.Path.{_≡_}
 use mathlib.Core.Bool.{true, cond, not}
-use mathlib.Core.List.{List, [], _++_}
+use mathlib.Core.List.{List}
 use lib.ListN.{length, set}
 use lib.Dec.{leb, ltb}
 use Rattle.lists.specs.Lists.{concat}
 use Rattle.rules.specs.Answer.{Answer, accepted, refused, require, ifAccepted}
-use Rattle.rules.specs.File.{Log, fileEnd, headerCounts, logOf, width}
+use Rattle.rules.specs.File.{Log, logOf, width}
 use Rattle.rules.specs.Issue.{move, requestKnown, requestUnmarked}
 use Rattle.rules.specs.Op.{Vector, countIn, isReplica}
 use Rattle.rules.specs.Replay.{parentsOf}

@@ -1,21 +1,20 @@
 -- Moves that are issued one after another: what each leaves, and what all of them do.
-use Prim.Native.Nat.{ℕ, zero, suc, _+_, _*_, _-_, _≤_, _<_}
-use lib.ListN.{drop, getD, length, set, take}
-use lib.Seq.{getD-set-other, getD-set-same}
+use Prim.Native.Nat.{ℕ, suc, _+_, _≤_, _<_}
+use lib.ListN.{getD, length, set}
+use lib.Seq.{getD-set-other}
 use borrow.Author.Tests.{not-true}
 use mathlib.Core.Bool.{Bool, true, false}
 use mathlib.Core.List.{List, [], _∷_, _++_, foldl}
 use mathlib.Core.Path.{_≡_, refl, sym, ap, _∙_}
 use native.Mathlib.Omega.{arith}
-use Rattle.lists.specs.Lists.{concat}
-use Rattle.rules.specs.Answer.{Answer, refused, hadIt, waiting, done, accepted, require, unlessRefused, ifAccepted}
+use Rattle.rules.specs.Answer.{Answer, refused, accepted, require, unlessRefused}
 use Rattle.rules.specs.File.{Log, append, appended, countsOf, fileEnd, logOf, width}
 use Rattle.rules.specs.Issue.{Request, move, issueAnswer, issueBuffer, issued, opBytes, requestClear}
 use Rattle.rules.specs.Marks.{knowledge}
 use Rattle.rules.specs.Op.{Op, countIn, isMove, nodeOf, parentOf, replicaOf, vectorOf}
 use Rattle.rules.specs.Replay.{outcomeSlot, outcomesOf, parentsOf}
 use Rattle.rules.specs.Sound.{sound}
-use Rattle.rules.specs.Tree.{atOrBelow, slot, slotOf, slots}
+use Rattle.rules.specs.Tree.{atOrBelow, slot, slotOf}
 use Rattle.rules.proofs.AppendLaws.{new-seq, own-count}
 use Rattle.rules.proofs.DeliverLaws.{Admitted, appended-end, appended-length, appended-log, appended-sound}
 use Rattle.rules.proofs.IssueLaws.{Allowed, allowed, bytes-node, bytes-parent, issue-admitted, issued-moves}
@@ -73,10 +72,10 @@ module _ (f : List ℕ) (s n p m : ℕ) (e : issueAnswer width f width s (move n
   pub after-log : logOf width after ≡ append log op
   after-log = rw after-is (appended-log width f op m passes)
 
-  pub after-sound : sound width after ≡ true
+  after-sound : sound width after ≡ true
   after-sound = rw after-is (appended-sound width f op m passes)
 
-  pub after-length : length after ≡ length f
+  after-length : length after ≡ length f
   after-length = rw after-is (appended-length width f op m passes)
 
   pub after-end : fileEnd width after ≡ fileEnd width f + width
@@ -100,7 +99,7 @@ module _ (f : List ℕ) (s n p m : ℕ) (e : issueAnswer width f width s (move n
   unfolding requestClear
   clear = rw (node, parent) (not-true _ (asked .clear))
 
-  pub knows-after : (k : ℕ) → knowledge (logOf width after) (countsOf (logOf width after)) k ≡ knowledge log (countsOf log) k
+  knows-after : (k : ℕ) → knowledge (logOf width after) (countsOf (logOf width after)) k ≡ knowledge log (countsOf log) k
   knows-after k = rw after-log (knowledge-still log good op (passes .admits) moves k)
 
   pub parents-after : parentsOf (logOf width after) ≡ set (parentsOf log) (slotOf n) p

@@ -1,30 +1,29 @@
 -- What a batch promises, proved.
-use Prim.Native.Nat.{ℕ, suc, _+_, _*_, _≤_, _<_}
+use Prim.Native.Nat.{ℕ, suc, _*_, _≤_}
 use borrow.Author.Tests.{le-leb, leb-true, lt-leb}
 use lib.Dec.{leb}
-use lib.ListN.{drop, getD, length, length-append, length-drop, length-take, set, take}
+use lib.ListN.{drop, getD, length, length-append, length-drop, take}
 use lib.Seq.{getD-set-same, length-take-le}
 use mathlib.Core.Bool.{Bool, true, false, _&&_}
-use mathlib.Core.List.{List, [], _∷_, _++_, append-nil, foldl, foldl-append, map}
-use mathlib.Core.Logic.{_⊎_, inl, inr}
+use mathlib.Core.List.{List, [], _∷_, _++_, append-nil, foldl-append, map}
+use mathlib.Core.Logic.{inl, inr}
 use mathlib.Core.Path.{_≡_, refl, sym, ap, _∙_}
 use native.Mathlib.Nat.{le-refl}
 use native.Mathlib.Omega.{arith}
 use Rattle.lists.specs.Lists.{all, concat}
-use Rattle.lists.proofs.BoolLaws.{and-both, and-left, and-right, and-false, never}
+use Rattle.lists.proofs.BoolLaws.{and-left, and-right, and-false, never}
 use Rattle.lists.proofs.ListLaws.{no-length}
 use Rattle.rules.specs.Answer.{Answer, accepted, refused, require, unlessRefused, ifAccepted}
 use Rattle.rules.specs.File.{chunks, countsOf, fileEnd, logOf, width}
-use Rattle.rules.specs.Issue.{Issued, move, issue, issued, issueAnswer, issueBuffer, issueOut}
-use Rattle.rules.specs.Op.{countIn, isReplica}
+use Rattle.rules.specs.Issue.{Issued, move, issued, issueAnswer, issueBuffer, issueOut}
+use Rattle.rules.specs.Op.{countIn}
 use Rattle.rules.specs.Replay.{outcomeSlot, outcomesOf, parentsOf}
-use Rattle.rules.specs.Sound.{sound}
-use Rattle.rules.specs.Tree.{slot, slots, slotOf}
+use Rattle.rules.specs.Tree.{slot}
 use Rattle.rules.proofs.DeliverLaws.{if-not, required, accepted-same}
 use Rattle.rules.proofs.FileLaws.{chunks-concat}
 use Rattle.rules.proofs.TurnLaws.{OneLog}
-use Rattle.batch_rules.specs.Batch.{batchAnswer, batchBuffer, batchFits, batchOut, issueMoves, mostMoves, moveBuffer, movesAnswer, movesBuffer, movesOps}
-use Rattle.batch_rules.specs.Claims.{AppliedAtIssue, AsOneByOne, ByItsMoves, Decided, EmptyAccepted, OneByOne, RefusedLeaves, Tested, TooMany, WholeAtIssue, allAccepted, lastBuffer, singly}
+use Rattle.batch_rules.specs.Batch.{batchAnswer, batchBuffer, batchFits, batchOut, mostMoves, moveBuffer, movesAnswer, movesBuffer, movesOps}
+use Rattle.batch_rules.specs.Claims.{AppliedAtIssue, AsOneByOne, ByItsMoves, EmptyAccepted, OneByOne, RefusedLeaves, Tested, TooMany, WholeAtIssue, allAccepted, lastBuffer, singly}
 use Rattle.batch_rules.proofs.BatchLaws.{AllTaken, Settled, yes, no, all-taken, issue-settled, moves-alike, ops-count, ops-wide, outcomes-after, slot-in, slot-there, count-after, taken-answer, taken-outcome, taken-parts, taken-tree}
 
 ---- what an accepted batch has passed

@@ -1,12 +1,12 @@
 -- Batches worked out on P10's siblings, P12's tree and a log with removes, as rows of one table that one theorem covers.
 use Prim.Native.Nat.{ℕ}
-use lib.ListN.{length, getD, replicate}
+use lib.ListN.{getD, replicate}
 use mathlib.Core.List.{List, [], _∷_, _++_}
 use mathlib.Core.Path.{_≡_, refl}
-use Rattle.rules.specs.Answer.{Answer, refused, accepted, require, unlessRefused}
+use Rattle.rules.specs.Answer.{refused, accepted, require, unlessRefused}
 use Rattle.rules.specs.Bytes.{wordAt, word}
 use Rattle.lists.specs.Lists.{upFrom, downFrom, sum, greatest, same, concat, all, any, filter, isIn}
-use Rattle.rules.specs.Issue.{move, opBytes, issued, requestKnown, requestUnmarked, requestClear, issueAnswer, issueBuffer}
+use Rattle.rules.specs.Issue.{opBytes, issued, requestKnown, requestUnmarked, requestClear, issueAnswer, issueBuffer}
 use Rattle.rules.specs.Tree.{moveKind, slot, slotOf, parentIn, climb, path, depth, atOrBelow}
 use Rattle.rules.specs.File.{Log, emptyLog, opsOf, opAt, countsOf, append, countAt, startAt, headerCounts, startOf, endOf, fileEnd, chunks, chunksOf, logOf, headerEntry, headerOf, fileOf, appended, within, width}
 use Rattle.rules.specs.Log.{covered, closedAt, closed, knownParent, namesKnown, soundOp, soundOps, soundLog, soundHeader, laid, structural}

@@ -10,7 +10,7 @@ use Rattle.rules.specs.Op.{Op}
 use Rattle.rules.specs.File.{logOf, fileEnd, appended, chunks, width}
 use Rattle.rules.specs.Answer.{Answer, refused, hadIt, waiting, done, accepted, ifAccepted, unlessRefused}
 use Rattle.rules.specs.Deliver.{makeAnswer, makeBuffer, deliverAnswer, deliverBuffer}
-use Rattle.rules.specs.Issue.{Request, move, issued, issueAnswer, issueBuffer, issueOut}
+use Rattle.rules.specs.Issue.{move, issued, issueAnswer, issueBuffer, issueOut}
 use Rattle.rules.specs.Bundle.{bodiesIn, turnsAnswer, turnsBuffer, turnsTaken, openAnswer, openBuffer}
 use Rattle.rules.proofs.DeliverLaws.{if-not, required, accepted-same, Admitted, admitted, delivered, appended-end}
 use Rattle.rules.proofs.IssueLaws.{issue-admitted}
@@ -23,7 +23,7 @@ use Rattle.convergence.specs.Exchange.{Call, make, issue, deliver, openB
 use Rattle.convergence.specs.Lists.{CallsAdd}
 use Rattle.page_rules.specs.Page.{Page, deliverPageAnswer, issuePageAnswer, pageWith, takenWith, withPage}
 use Rattle.page_rules.proofs.FewLaws.{page-delivered, page-issued}
-use Rattle.batch_rules.specs.Batch.{batchAnswer, batchBuffer, batchOut, moveBuffer, movesBuffer, movesOps}
+use Rattle.batch_rules.specs.Batch.{batchAnswer, batchBuffer, moveBuffer, movesBuffer, movesOps}
 use Rattle.batch_rules.proofs.BatchLaws.{AllTaken, after-is}
 use Rattle.batch_rules.proofs.BatchTheorem.{batch-alike, batch-ends, put-in, taken}
 
@@ -59,7 +59,8 @@ moves-add [] f s p t = refl
 moves-add (n ∷ ns) f s p t =
     let (m, e) = t .0 in
     let took = delivered width f _ m (issue-admitted f width s (move n p) m e) in
-    let same : deliverBuffer width f (issued (logOf width f) s (move n p)) ≡ moveBuffer width f s n p = rw took (sym (after-is f s n p m e)) in
+    let r : Op = issued (logOf width f) s (move n p) in
+    let same : deliverBuffer width f r ≡ moveBuffer width f s n p = rw took (sym (after-is f s n p m e)) in
     (m, took, rw same (moves-add ns (moveBuffer width f s n p) s p (t .1)))
 
 -- ops of a holdback, each found in its turn

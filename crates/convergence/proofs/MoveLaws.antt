@@ -1,9 +1,9 @@
 -- Moves that a log let through: the op of each, and what two of them do in the tree before them.
 use Prim.Native.Nat.{_≤_, _<_, _+_, ℕ}
 use borrow.Author.Tests.{not-true, leb-true}
-use lib.Dec.{ltb, eqb}
+use lib.Dec.{ltb}
 use lib.ListN.{length, length-set}
-use mathlib.Core.Bool.{Bool, true, cond, false, _||_, and-eq-true-iff, not}
+use mathlib.Core.Bool.{Bool, true, cond, false, and-eq-true-iff, not}
 use mathlib.Core.List.{List}
 use mathlib.Core.Logic.{inr}
 use mathlib.Core.Path.{refl, _≡_, _∙_}

@@ -40,7 +40,7 @@ use Rattle.rules.specs.Issue as rules
 use Rattle.request.specs.declared.request.Request as code
 
 -- what a call hands back
-abbrev handed : Answer → (buffer out : List ℕ) → Issued
+abbrev pub handed : Answer → (buffer out : List ℕ) → Issued
 handed a b o = record { answer = a; buffer = b; out = o }
 
 ---- number 10, and the op
@@ -226,7 +226,9 @@ unfolding movedIn
 drafted-names t n p d e = go (atOrBelow t p n) e
   where
     go : (b : Bool) → cond b (Refused Cycle) (Op (moveDraft (moveKind t n p) n p)) ≡ Op d → (d .node ≡ n) × (d .parent ≡ p)
-    go false e = let z : moveDraft (moveKind t n p) n p ≡ d = cc in (sym (ap (λ (x : Draft). x .node) z), sym (ap (λ (x : Draft). x .parent) z))
+    go false e =
+        let z : d ≡ moveDraft (moveKind t n p) n p = cc in
+        (ap (λ (x : Draft). x .node) z, ap (λ (x : Draft). x .parent) z)
     go true e = let z : _≡_ {A = ℕ} 0 1 = cc in absurd (omega arith)
 
 pub op-of : (log : Log) (s : ℕ) (q : Request) (d : Draft) → clearedOp log s q ≡ Op d → issued log s q ≡ bytesOf s d (countsOf log)

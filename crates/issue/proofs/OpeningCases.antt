@@ -6,18 +6,15 @@ use Prim.Native.Nat.{ℕ, _≤_, _<_}
 use lib.ListN.{length}
 use borrow.Author.Needs.{needs}
 use borrow.Author.Tests.{lt-leb, le-leb}
-use Rattle.rules.specs.Answer.{Answer, refused, require}
-use Rattle.rules.specs.Issue.{Request, Issued, issueAnswer, issueBuffer, issueOut}
+use Rattle.rules.specs.Answer.{refused, require}
+use Rattle.rules.specs.Issue.{Request, issueAnswer, issueBuffer, issueOut}
 use Rattle.rules.specs.File.{width}
 use Rattle.rules.specs.Op.{isReplica}
 use Rattle.rules.specs.Sound.{sound}
 use Rattle.lists.proofs.BoolLaws.{tested}
 use Rattle.issue.specs.Issuing.{Lent}
+use Rattle.issue.proofs.IssueCases.{handed}
 use Rattle.rules.specs.Issue as rules
-
--- what a call hands back
-abbrev handed : Answer → (buffer out : List ℕ) → Issued
-handed a b o = record { answer = a; buffer = b; out = o }
 
 module _ (f out : List ℕ) (s : ℕ) (q : Request) (a : sound width f ≡ true) where
   pub issue-short : length out < width → handed (refused 2) f out ≡ rules.issue width f out s q

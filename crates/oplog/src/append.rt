@@ -22,40 +22,40 @@ fn move_up(part: &mut [u8], width: usize)
 }
 
 // Stores bytes at the front of a part.
-pub fn put_front(part: &mut [u8], op: &[u8])
-    requires { ⌜ length (now op) ≤ length (now part) ⌝ }
-    ensures { λ _. ⌜ now (part .exit) ≡ now (op .entry) ++ drop (length (now (op .entry))) (now (part .entry)) ⌝ }
+pub fn put_front(part: &mut [u8], bytes: &[u8])
+    requires { ⌜ length (now bytes) ≤ length (now part) ⌝ }
+    ensures { λ _. ⌜ now (part .exit) ≡ now (bytes .entry) ++ drop (length (now (bytes .entry))) (now (part .entry)) ⌝ }
 {
-    for j in 0..op.len() {
-        part[j] = op[j];
+    for j in 0..bytes.len() {
+        part[j] = bytes[j];
     }
 }
 
 // Moves the bytes of a part up by ops, and stores the ops in front.
-fn shift_in(part: &mut [u8], op: &[u8])
-    requires { ⌜ length (now op) ≤ length (now part) ⌝ }
-    ensures { λ _. ⌜ now (part .exit) ≡ shifted (now (op .entry)) (now (part .entry)) ⌝ }
+fn shift_in(part: &mut [u8], ops: &[u8])
+    requires { ⌜ length (now ops) ≤ length (now part) ⌝ }
+    ensures { λ _. ⌜ now (part .exit) ≡ shifted (now (ops .entry)) (now (part .entry)) ⌝ }
 {
-    move_up(part, op.len());
-    put_front(part, op);
+    move_up(part, ops.len());
+    put_front(part, ops);
 }
 
 // Puts ops at a place of a buffer whose file ends at end: the part from the place on is lent to
 // the function that shifts and writes.
-fn insert(buf: &mut [u8], place: usize, end: usize, op: &[u8])
-    requires { ⌜ (place ≤ end) × (end + length (now op) ≤ length (now buf)) ⌝ }
-    ensures { λ _. ⌜ now (buf .exit) ≡ inserted (now (op .entry)) (now (buf .entry)) place end (length (now (op .entry))) ⌝ }
+fn insert(buf: &mut [u8], place: usize, end: usize, ops: &[u8])
+    requires { ⌜ (place ≤ end) × (end + length (now ops) ≤ length (now buf)) ⌝ }
+    ensures { λ _. ⌜ now (buf .exit) ≡ inserted (now (ops .entry)) (now (buf .entry)) place end (length (now (ops .entry))) ⌝ }
 {
-    let after = end + op.len();
-    shift_in(&mut buf[place..after], op);
+    let after = end + ops.len();
+    shift_in(&mut buf[place..after], ops);
 }
 
 // Puts ops at a place, and writes the header of the new counts.
-fn put_ops(buf: &mut [u8], place: usize, end: usize, op: &[u8], counts: [u8; 8], width: usize)
-    requires { ⌜ (place ≤ end) × (end + length (now op) ≤ length (now buf)) × (32 ≤ length (now buf)) × (width ≤ 16) ⌝ }
-    ensures { λ _. ⌜ now (buf .exit) ≡ headedBy width counts (now (op .entry)) (now (buf .entry)) place end ⌝ }
+fn put_ops(buf: &mut [u8], place: usize, end: usize, ops: &[u8], counts: [u8; 8], width: usize)
+    requires { ⌜ (place ≤ end) × (end + length (now ops) ≤ length (now buf)) × (32 ≤ length (now buf)) × (width ≤ 16) ⌝ }
+    ensures { λ _. ⌜ now (buf .exit) ≡ headedBy width counts (now (ops .entry)) (now (buf .entry)) place end ⌝ }
 {
-    insert(buf, place, end, op);
+    insert(buf, place, end, ops);
     write_header(buf, counts, width);
 }
 

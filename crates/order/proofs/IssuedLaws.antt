@@ -1,9 +1,9 @@
--- An op whose vector is the held counts, as an issued one's is: it is replayed last; and a move that is issued is applied, and changes nothing
+-- An op whose vector is the held counts, as an issued one has it, is replayed last; a move that is issued is applied, and changes nothing
 -- that the counts know of a node.
-use Prim.Native.Nat.{ℕ, zero, suc, _+_, _-_, _/_, _%_, _≤_, _<_}
+use Prim.Native.Nat.{ℕ, zero, suc, _+_, _-_, _/_, _%_, _≤_}
 use borrow.Author.Tests.{ne-eqb}
 use lib.Dec.{eqb}
-use lib.ListN.{getD, length, set}
+use lib.ListN.{getD, set}
 use mathlib.Core.Bool.{Bool, true, false, cond}
 use mathlib.Core.List.{List, [], _∷_, _++_, append-nil, foldl-append, map}
 use mathlib.Core.Path.{_≡_, refl, sym, ap, _∙_}
@@ -14,9 +14,9 @@ use Rattle.lists.proofs.BoolLaws.{both-ways, never}
 use Rattle.lists.proofs.FilterLaws.{filter-append}
 use Rattle.lists.proofs.RangeLaws.{map-upFrom, one-down}
 use Rattle.rules.specs.File.{Log, append, countsOf, opAt, opsOf}
-use Rattle.rules.specs.Marks.{isKnown, isMarked, knowledge, knownMarked, knownUnmarked, marked, nodeWithin, unknown}
+use Rattle.rules.specs.Marks.{isKnown, knowledge, marked}
 use Rattle.rules.specs.Op.{Op, Vector, countIn, isAdd, isMove, isRemove, kindOf, nodeOf, parentOf, replicaOf, seqOf, vectorOf}
-use Rattle.rules.specs.Replay.{Stamped, State, opsWithin, ordered, outcomeSlot, outcomesOf, parentsOf, removedIn, replay, step}
+use Rattle.rules.specs.Replay.{Stamped, State, ordered, outcomeSlot, outcomesOf, parentsOf, removedIn, replay, step}
 use Rattle.rules.specs.Tree.{atOrBelow, slotOf}
 use Rattle.rules.proofs.AppendLaws.{Admits, extends, good-append, in-range, new-seq, other-count, own-count, own-next}
 use Rattle.rules.proofs.InLaws.{new-in}

@@ -23,7 +23,7 @@ use Rattle.rules.proofs.AppendLaws.{Admits, closed-more, extends, good-append, 
 use Rattle.rules.proofs.CausalLaws.{total, total-sum, within-length}
 use Rattle.rules.proofs.ExtendLaws.{Alike, alike-more, ordered-alike, replay-alike}
 use Rattle.rules.proofs.IssueLaws.{counts-eight}
-use Rattle.rules.proofs.StructureLaws.{GoodLog, count-held, counts-closed, counts-covered, good-ops, held-in}
+use Rattle.rules.proofs.StructureLaws.{GoodLog, counts-closed, counts-covered, good-ops, held-in}
 use Rattle.order.specs.Undo.{FirstNew, noOp}
 use Rattle.order.proofs.LevelLaws.{Cut, whole-cut}
 use Rattle.order.proofs.OnceLaws.{ordered-length}

@@ -1,5 +1,5 @@
 -- What a call with a page promises, proved.
-use Prim.Native.Nat.{ℕ, suc, _+_, _-_, _≤_}
+use Prim.Native.Nat.{ℕ, suc, _≤_}
 use borrow.Author.Tests.{le-leb}
 use lib.ListN.{drop, getD, length, length-append, length-drop, length-map, length-replicate, List·getD-append}
 use lib.Seq.{take-at}
@@ -7,7 +7,7 @@ use lib.Dec.{leb}
 use mathlib.Core.Bool.{Bool, true, false, _&&_}
 use mathlib.Core.List.{List, _++_}
 use mathlib.Core.Path.{_≡_, refl, sym, ap, _∙_}
-use native.Mathlib.Decide.{decLe, ℕ-discrete}
+use native.Mathlib.Decide.{decLe}
 use native.Mathlib.Omega.{arith}
 use Rattle.lists.specs.Lists.{same, sum}
 use Rattle.lists.proofs.BoolLaws.{and-both, and-left, and-right, never}
@@ -15,7 +15,7 @@ use Rattle.lists.proofs.EachLaws.{Each, each-at}
 use Rattle.lists.proofs.FilterLaws.{first-fails}
 use Rattle.lists.proofs.ListLaws.{same-refl}
 use Rattle.rules.specs.Answer.{Answer, accepted, done, hadIt, ifAccepted, refused, require, waiting}
-use Rattle.rules.specs.Op.{Op, Vector, countIn, counted, replicaOf, seqOf, vectorOf}
+use Rattle.rules.specs.Op.{Op, Vector, countIn, counted, vectorOf}
 use Rattle.rules.specs.File.{Log, append, appended, countsOf, logOf, width}
 use Rattle.rules.specs.Tree.{mostOps, slots}
 use Rattle.rules.specs.Replay.{Stamped, orderOf, ordered, outcomesOf, parentsOf, stamp}
@@ -23,10 +23,9 @@ use Rattle.rules.specs.Sound.{sound}
 use Rattle.rules.specs.Judge.{judge, judgeAnswer}
 use Rattle.rules.specs.Deliver.{deliverAnswer, deliverBuffer}
 use Rattle.rules.specs.Issue.{Request, issueAnswer, issueBuffer, issueOut, issued}
-use Rattle.rules.proofs.AppendLaws.{Admits, extends, in-range, own-next}
+use Rattle.rules.proofs.AppendLaws.{Admits}
 use Rattle.rules.proofs.CausalLaws.{within-length}
 use Rattle.rules.proofs.DeliverLaws.{Admitted, appended-log, appended-sound, if-not, required}
-use Rattle.rules.proofs.InLaws.{new-in}
 use Rattle.rules.proofs.PutOutLaws.{issued-vector}
 use Rattle.rules.proofs.SoundLaws.{sound-good}
 use Rattle.rules.proofs.StepLaws.{tables-full}

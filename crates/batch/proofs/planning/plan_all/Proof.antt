@@ -9,7 +9,8 @@ use Rattle.batch.proofs.planning.plan_all.Statement.{statement}
 use Rattle.batch.proofs.planning.plan_all.Tie as tie
 
 abbrev Inv-loop : tie.InvT-loop
-Inv-loop file held marks parents₀ replica nodes parent ops₀ start s i₀ i-end parents ops i = PlannedTo file held marks replica nodes parent start s i-end parents₀ parents ops i
+Inv-loop file held marks parents₀ replica nodes parent ops₀ start s i₀ i-end parents ops i =
+    PlannedTo file held marks replica nodes parent start s i-end parents₀ parents ops i
 
 abbrev μ-loop : tie.MeasureT-loop
 μ-loop file held marks parents₀ replica nodes parent ops₀ start s i₀ i-end parents ops i = i-end - i

@@ -6,10 +6,10 @@ use Rattle.oplog.proofs.append.put_front.Statement.{statement}
 use Rattle.oplog.proofs.append.put_front.Tie as tie
 
 abbrev Inv-loop : tie.InvT-loop
-Inv-loop part₀ op j₀ j-end part j = Fronted op part₀ part j-end j
+Inv-loop part₀ bytes j₀ j-end part j = Fronted bytes part₀ part j-end j
 
 abbrev μ-loop : tie.MeasureT-loop
-μ-loop part₀ op j₀ j-end part j = length op - j
+μ-loop part₀ bytes j₀ j-end part j = length bytes - j
 
 pub put-front-spec : {M : Type 1} → statement M
 put-front-spec =

@@ -1,7 +1,6 @@
 -- `undo::along::take_back` meets its contract.
 use Rattle.undo.proofs.WalkLaws.{walking, Behind, behind-on, behind-sum}
 use native.Mathlib.Omega.{arith}
-use Prim.Native.Nat.{_-_}
 use Rattle.rules.specs.File.{logOf}
 use Rattle.undo.specs.Tables.{undoable}
 use Rattle.undo.proofs.along.take_back.Statement.{statement}
