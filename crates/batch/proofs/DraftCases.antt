@@ -113,7 +113,7 @@ pub drawable : (f : List ℕ) (u : Vector) (marks : List ℕ) (end : ℕ) (t : L
     → (v : Vector) (n p : ℕ) (r : Drafted) → r ≡ draftedIn (logOf width f) v t s n p → (d : Draft) → r ≡ Op d
     → (size : ℕ) → size ≡ length f → Drawable t op d end size
 drawable f u marks end t s op x v n p r is d e size l = record {
-  there = rw (x .grounded .size) (draft-slot (logOf width f) v t s n p d (sym is ∙ e));
+  there = rw (x .ground .size) (draft-slot (logOf width f) v t s n p d (sym is ∙ e));
   bytes = x .bytes;
   inside = rw l (x .inside);
 }

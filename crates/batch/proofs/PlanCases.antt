@@ -194,7 +194,7 @@ module _ (f : List ℕ) (u : Vector) (marks : List ℕ) (s : ℕ) (ns : List ℕ
 
     pub plan-asks : Turn f u marks (start + at) t s part
     plan-asks = record {
-      grounded = record { ground = record { marked = x .marked; is-replica = x .is-replica }; size = plan-table };
+      ground = record { marked = x .marked; size = plan-table; is-replica = x .is-replica };
       bytes = part-long;
       inside = omega (arith, plan-inside);
     }

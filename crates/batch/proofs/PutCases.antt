@@ -31,7 +31,7 @@ use Rattle.batch_rules.specs.Claims.{Tested}
 use Rattle.batch_rules.proofs.BatchLaws.{AllTaken, all-taken, ops-count, ops-wide, taken-carried}
 use Rattle.batch_rules.proofs.BatchTheorem.{empty-accepted, on-to-moves}
 use Rattle.batch.specs.Planning.{Plannable, Planned, Prepared}
-use Rattle.batch.specs.Putting.{Puttable, Some, withOps}
+use Rattle.batch.specs.Putting.{Puttable, SomeMoves, withOps}
 use Rattle.batch.proofs.TakenLaws.{taken-bytes, taken-count, taken-end}
 use Rattle.batch_rules.specs.Batch as rules
 
@@ -73,7 +73,7 @@ module _ (f : List ℕ) (s : ℕ) (ops : List ℕ) (n : ℕ) (out : List ℕ) (x
 
 ---- a batch of some moves; a is the answer of planning
 
-module _ (f : List ℕ) (s : ℕ) (ns ops out : List ℕ) (x : Some f s ns ops out) (p : ℕ) where
+module _ (f : List ℕ) (s : ℕ) (ns ops out : List ℕ) (x : SomeMoves f s ns ops out) (p : ℕ) where
   pub some-asks : Plannable f s ns ops
   some-asks = record {
     is-sound = x .tested .is-sound;
@@ -144,7 +144,7 @@ module _ (f out : List ℕ) (s : ℕ) (ns : List ℕ) (x : Tested f (length out)
       let none : ns ≡ [] = no-length ns (sym en ∙ z) in
       rw (none, ee ∙ end-is width f) (sym (empty-accepted f out s p (x .is-sound) (x .is-replica)))
 
-  pub some-issued : (n : ℕ) → n ≡ length ns → (n ≡ 0 → ⊥) → Some f s ns (take (width * n) (replicate 224 0)) out
+  pub some-issued : (n : ℕ) → n ≡ length ns → (n ≡ 0 → ⊥) → SomeMoves f s ns (take (width * n) (replicate 224 0)) out
   some-issued n en nz = record {
     tested = x;
     some = omega arith;

@@ -61,19 +61,15 @@ pub record Planned (f : List ℕ) (s : ℕ) (ns : List ℕ) (p : ℕ) (a : Answe
 
 ---- what the steps ask
 
--- a sound buffer, its counts and marks, and a replica
-pub record Ground (f : List ℕ) (u : Vector) (marks : List ℕ) (s : ℕ) : Type 0 where
+-- a sound buffer, its counts and marks, a table of parents, and a replica
+pub record Ground (f : List ℕ) (u : Vector) (marks t : List ℕ) (s : ℕ) : Type 0 where
   pub marked : MarkedLog f u marks
-  pub is-replica : isReplica s ≡ true
-
--- and a table of parents
-pub record Grounded (f : List ℕ) (u : Vector) (marks t : List ℕ) (s : ℕ) : Type 0 where
-  pub ground : Ground f u marks s
   pub size : length t ≡ slots
+  pub is-replica : isReplica s ≡ true
 
 -- and bytes for just one op, and where the file would end
 pub record Turn (f : List ℕ) (u : Vector) (marks : List ℕ) (end : ℕ) (t : List ℕ) (s : ℕ) (op : List ℕ) : Type 0 where
-  pub grounded : Grounded f u marks t s
+  pub ground : Ground f u marks t s
   pub bytes : length op ≡ width
   pub inside : end ≤ length f
 

@@ -25,7 +25,7 @@ pub record Puttable (f : List ℕ) (s : ℕ) (ops : List ℕ) (n : ℕ) (out : L
   pub space : width * n ≤ length out
 
 -- the tests 1, 2 and 3 passed; there are nodes, and bytes for just their ops
-pub record Some (f : List ℕ) (s : ℕ) (ns ops out : List ℕ) : Type 0 where
+pub record SomeMoves (f : List ℕ) (s : ℕ) (ns ops out : List ℕ) : Type 0 where
   pub tested : Tested f (length out) s ns
   pub some : 1 ≤ length ns
   pub bytes : length ops ≡ width * length ns

@@ -6,7 +6,7 @@ use request::knows_move;
 use request::move_takes_work;
 ghost use mathlib.Core.Path.{_≡_};
 ghost use Rattle.rules.specs.File.{width, logOf};
-ghost use Rattle.batch.specs.Planning.{Grounded, draftedIn};
+ghost use Rattle.batch.specs.Planning.{Ground, draftedIn};
 
 // The tests 9, 7, 11 and 10 of the next move of a batch, or the op to issue. The counts and the tree
 // are those that the moves before it leave; what is known of a node is what the log before the batch
@@ -21,7 +21,7 @@ pub(crate) fn draft_next(
     node: u16,
     parent: u16,
 ) -> Drafted
-    requires { ⌜ Grounded (now file) held (now marks) (now parents) replica ⌝ }
+    requires { ⌜ Ground (now file) held (now marks) (now parents) replica ⌝ }
     ensures { λ r. ⌜ r ≡ draftedIn (logOf width (now (file .entry))) counts (now (parents .entry)) replica node parent ⌝ }
 {
     if !has_left(counts, replica) {

@@ -15,7 +15,7 @@ use soundness::WIDTH;
 use tree::SLOTS;
 use tree::slot_of;
 ghost use mathlib.Core.Path.{_≡_};
-ghost use Prim.Native.Nat.{_<_, _≤_};
+ghost use Prim.Native.Nat.{_<_};
 ghost use lib.ListN.{length, set};
 ghost use Rattle.rules.specs.File.{width, logOf};
 ghost use Rattle.rules.specs.Tree.{slotOf};

@@ -11,7 +11,7 @@ ghost use mathlib.Core.Path.{_≡_};
 ghost use lib.ListN.{length};
 ghost use Rattle.rules.specs.File.{width, chunks};
 ghost use Rattle.codec.specs.Answers.{answerOf};
-ghost use Rattle.batch.specs.Putting.{Puttable, Some, withOps};
+ghost use Rattle.batch.specs.Putting.{Puttable, SomeMoves, withOps};
 ghost use Rattle.batch_rules.specs.Claims.{Tested};
 ghost use Rattle.batch_rules.specs.Batch as rules;
 
@@ -40,7 +40,7 @@ fn issue_some(
     ops: &mut [u8],
     out: &mut [u8],
 ) -> Answer
-    requires { ⌜ Some (now buf) replica (now nodes) (now ops) (now out) ⌝ }
+    requires { ⌜ SomeMoves (now buf) replica (now nodes) (now ops) (now out) ⌝ }
     ensures { λ r. ⌜ record { answer = answerOf r; buffer = now (buf .exit); out = now (out .exit) }
         ≡ rules.issueMoves width (now (buf .entry)) (now (out .entry)) replica (now (nodes .entry)) parent ⌝ }
 {
