@@ -22,12 +22,13 @@ use Rattle.rules.proofs.SlotLaws.{slot-below}
 use Rattle.codec.specs.Answers.{numberOf}
 use Rattle.codec.specs.declared.answer.Refusal.{Refusal}
 use Rattle.codec.specs.declared.answer.Refusal.the-variants.{Unknown, Exhausted, Marked}
+use Rattle.delivery.specs.Adding.{roomTest}
 use Rattle.issue.specs.Issuing.{InTree, bytesOf, movedIn}
 use Rattle.issue.specs.declared.draft.Draft.{Draft}
 use Rattle.issue.specs.declared.draft.Drafted.{Drafted}
 use Rattle.issue.specs.declared.draft.Drafted.the-variants.{Op, Refused}
 use Rattle.issue.proofs.IssueCases.{drafted-names, known-small, passes}
-use Rattle.batch.specs.Planning.{Drawable, Next, Turn, draftedIn, nextBy, putNext, roomTest}
+use Rattle.batch.specs.Planning.{Drawable, Next, Turn, draftedIn, nextBy, putNext}
 
 ---- the tests 9, 7, 11 and 10
 

@@ -25,7 +25,7 @@ use Rattle.rules.proofs.SoundLaws.{sound-good, sound-laid}
 use Rattle.rules.proofs.StepLaws.{tables-full}
 use Rattle.codec.specs.Asked.{isAccepted}
 use Rattle.codec.proofs.AnswerLaws.{accepted-with, if-accepted}
-use Rattle.delivery.specs.Adding.{lastTest}
+use Rattle.delivery.specs.Adding.{lastTest, roomTest}
 use Rattle.oplog.proofs.HeaderLaws.{end-is}
 use Rattle.issue.specs.Issuing.{Lent, bytesOf, clearedOp, drafted, putOut}
 use Rattle.issue.specs.declared.draft.Drafted.{Drafted}
@@ -34,7 +34,7 @@ use Rattle.issue.proofs.IssueCases.{issue-put, issue-refused, op-of}
 use Rattle.marks.specs.Knowing.{MarkedLog}
 use Rattle.batch_rules.specs.Batch.{moveBuffer, movesAnswer, movesBuffer, movesOps, mostMoves}
 use Rattle.batch_rules.proofs.BatchLaws.{AllTaken, Carried, Settled, yes, no, issue-settled, ops-parts, parents-after, taken-answer, taken-both, taken-carried, taken-first}
-use Rattle.batch.specs.Planning.{Next, Planned, Prepared, Turn, draftedIn, nextBy, putNext, roomTest}
+use Rattle.batch.specs.Planning.{Next, Planned, Prepared, Turn, draftedIn, nextBy, putNext}
 use Rattle.batch.proofs.DraftCases.{draft-moved, draft-node, draft-parent}
 use Rattle.batch.proofs.TakenLaws.{taken-count, taken-counts, taken-end}
 

@@ -1,12 +1,12 @@
 -- Planning a batch, as the code goes about it: every move is tested and its op written before any byte of the caller's changes.
-use Prim.Native.Nat.{ℕ, _+_, _*_, _≤_, _<_}
+use Prim.Native.Nat.{ℕ, _*_, _≤_, _<_}
 use mathlib.Core.Path.{_≡_}
 use mathlib.Core.Bool.{true, cond, not}
 use mathlib.Core.List.{List}
 use lib.ListN.{length, set}
-use lib.Dec.{leb, ltb}
+use lib.Dec.{ltb}
 use Rattle.lists.specs.Lists.{concat}
-use Rattle.rules.specs.Answer.{Answer, accepted, refused, require, ifAccepted}
+use Rattle.rules.specs.Answer.{Answer, refused, ifAccepted}
 use Rattle.rules.specs.File.{Log, logOf, width}
 use Rattle.rules.specs.Issue.{move, requestKnown, requestUnmarked}
 use Rattle.rules.specs.Op.{Vector, countIn, isReplica}
@@ -17,6 +17,7 @@ use Rattle.batch_rules.specs.Batch.{mostMoves, movesAnswer, movesOps}
 use Rattle.codec.specs.Answers.{numberOf}
 use Rattle.codec.specs.Asked.{isAccepted}
 use Rattle.codec.specs.declared.answer.Refusal.the-variants.{Unknown, Exhausted, Marked}
+use Rattle.delivery.specs.Adding.{roomTest}
 use Rattle.issue.specs.Issuing.{bytesOf, movedIn}
 use Rattle.issue.specs.declared.draft.Draft.{Draft}
 use Rattle.issue.specs.declared.draft.Drafted.{Drafted}
@@ -31,10 +32,6 @@ draftedIn log u t s n p =
     cond (not (ltb (countIn u s) 255)) (drafts.Refused Exhausted)
     (cond (not (requestKnown log (move n p))) (drafts.Refused Unknown)
     (cond (not (requestUnmarked log (move n p))) (drafts.Refused Marked) (movedIn t n p)))
-
--- number 8 in a buffer of so many bytes whose file would end there
-unfoldable pub roomTest : (size end : ℕ) → Answer
-roomTest size end = require (leb (end + width) size) 8 (accepted (end + width))
 
 -- what a move leaves: the answer, the tree and the bytes of its op
 pub record Next : Type 0 where

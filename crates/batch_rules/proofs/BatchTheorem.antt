@@ -15,16 +15,18 @@ use Rattle.lists.proofs.BoolLaws.{and-left, and-right, and-false, never}
 use Rattle.lists.proofs.ListLaws.{no-length}
 use Rattle.rules.specs.Answer.{Answer, accepted, refused, require, unlessRefused, ifAccepted}
 use Rattle.rules.specs.File.{chunks, countsOf, fileEnd, logOf, width}
-use Rattle.rules.specs.Issue.{Issued, move, issued, issueAnswer, issueBuffer, issueOut}
+use Rattle.rules.specs.Log.{knownParent}
+use Rattle.rules.specs.Issue.{Issued, move, requestClear, requestKnown, requestUnmarked, issued, issueAnswer, issueBuffer, issueOut}
 use Rattle.rules.specs.Op.{countIn}
 use Rattle.rules.specs.Replay.{outcomeSlot, outcomesOf, parentsOf}
-use Rattle.rules.specs.Tree.{slot}
+use Rattle.rules.specs.Tree.{atOrBelow, slot}
 use Rattle.rules.proofs.DeliverLaws.{if-not, required, accepted-same}
 use Rattle.rules.proofs.FileLaws.{chunks-concat}
 use Rattle.rules.proofs.TurnLaws.{OneLog}
 use Rattle.batch_rules.specs.Batch.{batchAnswer, batchBuffer, batchFits, batchOut, mostMoves, moveBuffer, movesAnswer, movesBuffer, movesOps}
-use Rattle.batch_rules.specs.Claims.{AppliedAtIssue, AsOneByOne, ByItsMoves, EmptyAccepted, OneByOne, RefusedLeaves, Tested, TooMany, WholeAtIssue, allAccepted, lastBuffer, singly}
-use Rattle.batch_rules.proofs.BatchLaws.{AllTaken, Settled, yes, no, all-taken, issue-settled, moves-alike, ops-count, ops-wide, outcomes-after, slot-in, slot-there, count-after, taken-answer, taken-outcome, taken-parts, taken-tree}
+use Rattle.batch_rules.specs.Claims.{AppliedAtIssue, AsOneByOne, ByItsMoves, EmptyAccepted, OneByOne, ParentStays, RefusedLeaves, Tested, TooMany, WholeAtIssue, allAccepted, lastBuffer, singly}
+use Rattle.batch_rules.proofs.BatchLaws.{AllTaken, Settled, all-taken, count-after, issue-settled, moves-alike, no, ops-count, ops-wide, outcomes-after, slot-in, slot-there, taken-answer, taken-carried, taken-outcome, taken-parts, taken-tree, yes}
+use Rattle.batch_rules.proofs.StayLaws.{taken-stays}
 
 ---- what an accepted batch has passed
 
@@ -208,6 +210,20 @@ applied-at-issue f out s before n after p end e =
     let (m, q) = parts .1 .0 in
     let ended = batch-buffer f out s ns p end e ∙ foldl-append (λ g k. moveBuffer width g s k p) f before (n ∷ after) in
     rw (single-buffer s p before f out room, first, ended) (at-once then s n p m q, at-end then s n p m q after (parts .1 .1))
+
+pub parent-stays : ParentStays
+unfolding requestKnown requestUnmarked requestClear knownParent atOrBelow
+parent-stays f out s ns p end e =
+    let t = taken f out s ns p end e in
+    let is-sound = passed f (length out) s ns p end e .0 .is-sound in
+    let c = taken-carried ns f s p is-sound t in
+    let way = taken-stays ns f s p t in
+    rw (batch-buffer f out s ns p end e) (record {
+      way = way;
+      known = λ n. rw (c .knows n, c .knows p);
+      unmarked = λ n. rw (c .knows n, c .knows p);
+      clear = λ n. rw way;
+    })
 
 ---- refusals, and the empty batch
 

@@ -1,2 +1,3 @@
 pub mod BatchLaws
+pub mod StayLaws
 pub mod BatchTheorem

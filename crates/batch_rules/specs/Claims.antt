@@ -9,10 +9,10 @@ use Rattle.lists.specs.Lists.{concat, all}
 use Rattle.rules.specs.Answer.{accepted, refused, ifAccepted}
 use Rattle.rules.specs.Op.{isReplica}
 use Rattle.rules.specs.File.{fileEnd, logOf, width}
-use Rattle.rules.specs.Tree.{slotOf}
+use Rattle.rules.specs.Tree.{path, slotOf}
 use Rattle.rules.specs.Replay.{outcomeSlot, outcomesOf, parentsOf}
 use Rattle.rules.specs.Sound.{sound}
-use Rattle.rules.specs.Issue.{Issued, move, issue, issued}
+use Rattle.rules.specs.Issue.{Issued, move, issue, issued, requestClear, requestKnown, requestUnmarked}
 use Rattle.batch_rules.specs.Batch.{issueMoves, mostMoves}
 
 -- the moves issued by calls of their own: each is lent the buffer that the one before left, and the next bytes of what is lent for the ops
@@ -76,6 +76,19 @@ WholeAtIssue =
     (f out : List ℕ) (s : ℕ) (ns : List ℕ) (p end : ℕ) → issueMoves width f out s ns p .answer ≡ accepted end
     → parentsOf (logOf width (issueMoves width f out s ns p .buffer))
     ≡ foldl (λ t n. set t (slotOf n) p) (parentsOf (logOf width f)) ns
+
+-- what moves of a batch cannot change for those after them: all go to one parent, and none that is accepted moves what is above it. So its
+-- path stays, and the tests 7, 11 and 10 of a move are answered as in the log before the batch
+pub record SameTests (f g : List ℕ) (p : ℕ) : Type 0 where
+  pub way : path (parentsOf (logOf width g)) p ≡ path (parentsOf (logOf width f)) p
+  pub known : (n : ℕ) → requestKnown (logOf width g) (move n p) ≡ requestKnown (logOf width f) (move n p)
+  pub unmarked : (n : ℕ) → requestUnmarked (logOf width g) (move n p) ≡ requestUnmarked (logOf width f) (move n p)
+  pub clear : (n : ℕ) → requestClear (logOf width g) (move n p) ≡ requestClear (logOf width f) (move n p)
+
+abbrev pub ParentStays : Type 0
+ParentStays =
+    (f out : List ℕ) (s : ℕ) (ns : List ℕ) (p end : ℕ) → issueMoves width f out s ns p .answer ≡ accepted end
+    → SameTests f (issueMoves width f out s ns p .buffer) p
 
 -- "no lent byte changes"
 abbrev pub RefusedLeaves : Type 0

@@ -1,6 +1,6 @@
 -- The last test of an op, and its addition.
 use borrow.Author.Needs.{needs}
-use Rattle.delivery.specs.Adding.{Acceptable, lastTest}
+use Rattle.delivery.specs.Adding.{Acceptable, lastTest, roomTest}
 use Rattle.rules.specs.Answer.{Answer, accepted, refused, require}
 use Rattle.codec.proofs.AnswerLaws.{accepted-with}
 use Rattle.rules.specs.File.{append, appended, chunks, countAt, fileEnd, headerCounts, startOf, width}
@@ -34,15 +34,15 @@ module _ (f : List ℕ) (e : ℕ) (is : e ≡ startOf width (headerCounts f) 9) 
   end-small a = rw end-by (sound-laid width f a .fits)
 
   pub no-room : length f < e + width → refused 8 ≡ lastTest f
-  unfolding lastTest require
+  unfolding lastTest roomTest require
   no-room h = rw (← end-by, lt-leb (e + width) (length f) h)
 
   pub room-for : e + width ≤ length f → accepted (e + width) ≡ lastTest f
-  unfolding lastTest require
+  unfolding lastTest roomTest require
   room-for h = rw (← end-by, le-leb (e + width) (length f) h)
 
 pub has-room : (f : List ℕ) (a : Answer) → a ≡ lastTest f → isAccepted a ≡ true → fileEnd width f + width ≤ length f
-unfolding lastTest
+unfolding lastTest roomTest
 has-room f a is h =
     let (n, e) = accepted-with a h in
     leb-true _ _ (required _ _ _ n (sym is ∙ e) .0)

@@ -34,7 +34,7 @@ use Rattle.codec.specs.declared.op.Read.{Read}
 use Rattle.codec.specs.declared.op.Read.the-variants.{Op, Refused}
 use Rattle.codec.proofs.AnswerLaws.{accepted-with, if-accepted, if-not-accepted}
 use Rattle.codec.proofs.ReadLaws.{reads}
-use Rattle.delivery.specs.Adding.{lastTest, Acceptable}
+use Rattle.delivery.specs.Adding.{lastTest, roomTest, Acceptable}
 use Rattle.delivery.specs.Delivering.{namesIn, Readable, Again, Fresh, Counting}
 use Rattle.soundness.proofs.SoundCases.{laid-of, tallied}
 
@@ -168,7 +168,7 @@ module _ (f op : List ℕ) (x : Fields) (u : Vector) (d : Fresh f op x u) (v : V
       unknown e = sym (new-by ∙ rw (covered-by true a, names-as, ← vector-is, b, e))
 
       pub last : namesIn (logOf width f) v x ≡ true → (r : Answer) → r ≡ lastTest f → r ≡ deliverAnswer width f op
-      unfolding admitAnswer lastTest require
+      unfolding admitAnswer lastTest roomTest require
       last k r e = e ∙ sym (new-by ∙ rw (covered-by true a, names-as, ← vector-is, b, k))
 
 ---- the whole

@@ -10,9 +10,12 @@ use Rattle.rules.specs.Answer.{Answer, accepted, require}
 use Rattle.rules.specs.Op.{countIn, isReplica, replicaOf, Vector}
 use Rattle.rules.specs.Sound.{sound}
 
--- number 8: room for one op more; the answer is the new file end
+-- number 8: room for one op more in a buffer of so many bytes, of which a file takes the first; the answer is the new file end
+unfoldable pub roomTest : (size end : ℕ) → Answer
+roomTest size end = require (leb (end + width) size) 8 (accepted (end + width))
+
 unfoldable pub lastTest : List ℕ → Answer
-lastTest f = require (leb (fileEnd width f + width) (length f)) 8 (accepted (fileEnd width f + width))
+lastTest f = roomTest (length f) (fileEnd width f)
 
 -- a sound buffer of these counts with room, and an op of replica s, which may have one more
 pub record Acceptable (f : List ℕ) (v : Vector) (s : ℕ) (op : List ℕ) : Type 0 where

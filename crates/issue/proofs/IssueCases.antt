@@ -27,7 +27,7 @@ use Rattle.codec.specs.declared.answer.Refusal.{Refusal}
 use Rattle.codec.specs.declared.answer.Refusal.the-variants.{Unknown, Exhausted, Cycle, Marked}
 use Rattle.codec.proofs.AnswerLaws.{if-accepted, if-not-accepted}
 use Rattle.tree.specs.Climb.{moveOrCycle}
-use Rattle.delivery.specs.Adding.{lastTest, Acceptable}
+use Rattle.delivery.specs.Adding.{lastTest, roomTest, Acceptable}
 use Rattle.issue.specs.Issuing.{bytesOf, movedIn, clearedOp, drafted, withOp, putOut, Lent, Ready, Writable, KnownRequest}
 use Rattle.issue.specs.declared.draft.Draft.{Draft}
 use Rattle.issue.specs.declared.draft.Drafted.{Drafted}
@@ -201,7 +201,7 @@ module _ (f : List ℕ) (s : ℕ) where
   cleared-by (move n p) = move-by (atOrBelow (parentsOf (logOf width f)) p n) _
 
   answer-by : (room : ℕ) → Lent f room s → (q : Request) → issueAnswer width f room s q ≡ byDraft f (drafted (logOf width f) s q)
-  unfolding issueAnswer drafted require lastTest
+  unfolding issueAnswer drafted require lastTest roomTest
   answer-by room l q =
       rw (l .issuer .is-sound, le-leb width room (l .space), l .issuer .is-replica)
       (step (ltb (countIn (countsOf (logOf width f)) s) 255) Exhausted _ _
