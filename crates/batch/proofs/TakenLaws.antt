@@ -1,18 +1,19 @@
 -- Some of a batch's moves, taken in turn: the log, the counts and the end they lead to, and the bytes that all of them leave.
-use Prim.Native.Nat.{ℕ, suc, zero, _+_, _*_, _-_, _≤_, _<_}
+use Prim.Native.Nat.{ℕ, suc, _+_, _*_, _-_, _≤_, _<_}
 use mathlib.Core.Path.{_≡_, refl, sym, ap, _∙_}
 use mathlib.Core.Bool.{true}
 use mathlib.Core.List.{List, [], _∷_, _++_, append-assoc, append-nil}
 use lib.ListN.{drop, getD, length, set}
-use lib.Seq.{getD-set-same}
+use lib.Seq.{getD-set-same, set-getD, set-set}
 use native.Mathlib.Omega.{arith}
 use Rattle.lists.proofs.ListLaws.{drop-past}
 use Rattle.rules.specs.File.{Log, append, countsOf, fileEnd, headerCounts, logOf, opsOf, width}
-use Rattle.rules.specs.Issue.{move, issued, opBytes}
+use Rattle.rules.specs.Issue.{move}
 use Rattle.rules.specs.Op.{Op, countIn, isReplica, replicaOf}
 use Rattle.rules.proofs.DeliverLaws.{appended-front, appended-past}
 use Rattle.rules.proofs.FileLaws.{InFront, length-logOf}
 use Rattle.rules.proofs.IssueLaws.{issue-admitted}
+use Rattle.rules.proofs.PutOutLaws.{issued-origin}
 use Rattle.rules.proofs.ReplicaLaws.{replica-high, replica-low}
 use Rattle.oplog.specs.Append.{appendAll, appendedAll}
 use Rattle.oplog.proofs.InsertLaws.{counts-more}
@@ -21,29 +22,15 @@ use Rattle.batch_rules.proofs.BatchLaws.{AllTaken, after-end, after-is, after-l
 
 ---- the log
 
-set-twice : {A : Type 0} (xs : List A) (i : ℕ) (a b : A) → set (set xs i a) i b ≡ set xs i b
-set-twice [] i a b = refl
-set-twice (x ∷ xs) zero a b = refl
-set-twice (x ∷ xs) (suc i) a b = ap (_∷_ x) (set-twice xs i a b)
-
-set-own : {A : Type 0} (xs : List A) (i : ℕ) (d : A) → set xs i (getD xs i d) ≡ xs
-set-own [] i d = refl
-set-own (x ∷ xs) zero d = refl
-set-own (x ∷ xs) (suc i) d = ap (_∷_ x) (set-own xs i d)
-
 none-more : (log : Log) (s : ℕ) → appendAll log s [] ≡ log
 unfolding appendAll opsOf
-none-more log s = rw append-nil (set-own log (s - 1) [])
+none-more log s = rw append-nil (set-getD log (s - 1) [])
 
 one-first : (log : Log) (r : Op) (s : ℕ) (ops : List Op) → replicaOf r ≡ s → s - 1 < length log
     → appendAll (append log r) s ops ≡ appendAll log s (r ∷ ops)
 unfolding appendAll append opsOf
 one-first log r s ops e h =
-    rw (e, getD-set-same log (s - 1) (getD log (s - 1) [] ++ (r ∷ [])) [] h, set-twice, append-assoc)
-
-origin : (log : Log) (s n p : ℕ) → replicaOf (issued log s (move n p)) ≡ s
-unfolding issued opBytes replicaOf
-origin log s n p = refl
+    rw (e, getD-set-same log (s - 1) (getD log (s - 1) [] ++ (r ∷ [])) [] h, set-set, append-assoc)
 
 module _ (s p : ℕ) (is : isReplica s ≡ true) where
   taken-log : (ns f : List ℕ) → AllTaken f s ns p
@@ -55,7 +42,7 @@ module _ (s p : ℕ) (is : isReplica s ≡ true) where
       let h : s - 1 < length (logOf width f) = omega (arith, length-logOf width f, replica-low s is, replica-high s is) in
       taken-log ns (moveBuffer width f s n p) (t .1)
       ∙ ap (λ log. appendAll log s (movesOps width (moveBuffer width f s n p) s ns p)) (after-log f s n p m e)
-      ∙ one-first (logOf width f) _ s _ (origin (logOf width f) s n p) h
+      ∙ one-first (logOf width f) _ s _ (issued-origin (logOf width f) s (move n p)) h
 
   pub taken-counts : (ns f : List ℕ) → AllTaken f s ns p
       → countsOf (logOf width (movesBuffer width f s ns p)) ≡ set (headerCounts f) (s - 1) (countIn (headerCounts f) s + length ns)

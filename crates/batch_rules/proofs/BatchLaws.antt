@@ -9,7 +9,7 @@ use mathlib.Core.Path.{_≡_, refl, sym, ap, _∙_}
 use native.Mathlib.Omega.{arith}
 use Rattle.rules.specs.Answer.{Answer, refused, accepted, require, unlessRefused}
 use Rattle.rules.specs.File.{Log, append, appended, countsOf, fileEnd, logOf, width}
-use Rattle.rules.specs.Issue.{Request, move, issueAnswer, issueBuffer, issued, opBytes, requestClear}
+use Rattle.rules.specs.Issue.{Request, move, issueAnswer, issueBuffer, issued, requestClear}
 use Rattle.rules.specs.Marks.{knowledge}
 use Rattle.rules.specs.Op.{Op, countIn, isMove, nodeOf, parentOf, replicaOf, vectorOf}
 use Rattle.rules.specs.Replay.{outcomeSlot, outcomesOf, parentsOf}
@@ -18,7 +18,7 @@ use Rattle.rules.specs.Tree.{atOrBelow, slot, slotOf}
 use Rattle.rules.proofs.AppendLaws.{new-seq, own-count}
 use Rattle.rules.proofs.DeliverLaws.{Admitted, appended-end, appended-length, appended-log, appended-sound}
 use Rattle.rules.proofs.IssueLaws.{Allowed, allowed, bytes-node, bytes-parent, issue-admitted, issued-moves}
-use Rattle.rules.proofs.PutOutLaws.{issued-vector}
+use Rattle.rules.proofs.PutOutLaws.{issued-origin, issued-vector}
 use Rattle.rules.proofs.ReplicaLaws.{replica-high, replica-low}
 use Rattle.rules.proofs.SoundLaws.{sound-good}
 use Rattle.rules.proofs.StepLaws.{tables-full}
@@ -109,8 +109,7 @@ module _ (f : List ℕ) (s n p m : ℕ) (e : issueAnswer width f width s (move n
   outcomes-after = ap outcomesOf after-log ∙ outcomes-moved log good op (passes .admits) vector moves clear
 
   origin : replicaOf op ≡ s
-  unfolding issued opBytes replicaOf
-  origin = refl
+  origin = issued-origin log s (move n p)
 
   -- the counts, and where the op's outcome stands
   pub count-after : countIn (countsOf (logOf width after)) s ≡ suc (countIn (countsOf log) s)

@@ -15,6 +15,7 @@ use Rattle.order.proofs.GrowLaws.{Tree}
 use Rattle.order.proofs.LevelLaws.{whole-cut}
 use Rattle.order.proofs.RunLaws.{replay-run}
 use Rattle.rules.proofs.IssueLaws.{counts-eight, bytes-parent, bytes-vector, bytes-node, issued-moves, Allowed}
+use Rattle.rules.proofs.PutOutLaws.{issued-origin}
 use Rattle.rules.proofs.StructureLaws.{GoodLog}
 use Rattle.rules.proofs.SlotLaws.{Valid}
 use Rattle.rules.proofs.ClimbLaws.{Reaches, short}
@@ -73,8 +74,7 @@ module _ (log : Log) (good : GoodLog log) (x : Move) where
   kind-is = refl
 
   origin-is : replicaOf (opOf log x) ≡ x .replica
-  unfolding issued opBytes replicaOf
-  origin-is = refl
+  origin-is = issued-origin log (x .replica) (request x)
 
   vector-is : vectorOf (opOf log x) ≡ countsOf log
   unfolding issued

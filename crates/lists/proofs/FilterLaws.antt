@@ -11,7 +11,7 @@ use native.Mathlib.Nat.{add-zero, le-of-suc-le-suc, le-refl, not-suc-le-zero}
 use native.Mathlib.Omega.{arith}
 use borrow.Author.Tests.{eq-eqb, le-ltb, leb-true, lt-ltb, ltb-false, ltb-true, ne-eqb}
 use lib.Dec.{eqb, leb, leb·suc-suc, ltb}
-use lib.ListN.{getD, length, length-append, take}
+use lib.ListN.{getD, length, length-append, set, take}
 use native.Mathlib.Decide.{ℕ-discrete}
 
 module _ {A : Type 0} (p : A → Bool) where
@@ -185,6 +185,14 @@ pub filter-concat : {A : Type 0} (p : A → Bool) (F : ℕ → List A) (ns : Lis
 unfolding concat filter
 filter-concat p F [] = refl
 filter-concat p F (n ∷ ns) = rw (filter-append p (F n) (concat (map F ns)), filter-concat p F ns)
+
+-- a list of lists with one more element, which does not pass
+pub filter-set : {A : Type 0} (p : A → Bool) (x : A) → p x ≡ false → (log : List (List A)) (i : ℕ)
+    → filter p (concat (set log i (getD log i [] ++ (x ∷ [])))) ≡ filter p (concat log)
+unfolding concat filter
+filter-set p x e [] i = refl
+filter-set p x e (ys ∷ log) zero = rw (filter-append, filter-append, filter-append, e, append-nil)
+filter-set p x e (ys ∷ log) (suc i) = rw (filter-append, filter-append, filter-set p x e log i)
 
 pub map-filter-concat : {A B : Type 0} (f : A → B) (p : A → Bool) (F : ℕ → List A) (ns : List ℕ)
     → map f (filter p (concat (map F ns))) ≡ concat (map (λ s. map f (filter p (F s))) ns)

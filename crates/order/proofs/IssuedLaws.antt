@@ -5,13 +5,13 @@ use borrow.Author.Tests.{ne-eqb}
 use lib.Dec.{eqb}
 use lib.ListN.{getD, set}
 use mathlib.Core.Bool.{Bool, true, false, cond}
-use mathlib.Core.List.{List, [], _∷_, _++_, append-nil, foldl-append, map}
+use mathlib.Core.List.{List, [], _∷_, _++_, foldl-append, map}
 use mathlib.Core.Path.{_≡_, refl, sym, ap, _∙_}
 use native.Mathlib.Decide.{ℕ-discrete, decLe}
 use native.Mathlib.Omega.{arith}
-use Rattle.lists.specs.Lists.{concat, filter, downFrom, upFrom}
+use Rattle.lists.specs.Lists.{concat, downFrom, upFrom}
 use Rattle.lists.proofs.BoolLaws.{both-ways, never}
-use Rattle.lists.proofs.FilterLaws.{filter-append}
+use Rattle.lists.proofs.FilterLaws.{filter-set}
 use Rattle.lists.proofs.RangeLaws.{map-upFrom, one-down}
 use Rattle.rules.specs.File.{Log, append, countsOf, opAt, opsOf}
 use Rattle.rules.specs.Marks.{isKnown, knowledge, marked}
@@ -121,14 +121,6 @@ module _ (log : Log) (good : GoodLog log) (r : Op) (h : Admits log r) (whole : v
     outcomes-moved = ap (λ (st : State). st .outcomes) moved
 
 ---- what the counts know of a node
-
--- a list of lists with one more element, which does not pass
-filter-set : {A : Type 0} (p : A → Bool) (x : A) → p x ≡ false → (log : List (List A)) (i : ℕ)
-    → filter p (concat (set log i (getD log i [] ++ (x ∷ [])))) ≡ filter p (concat log)
-unfolding concat filter
-filter-set p x e [] i = refl
-filter-set p x e (ys ∷ log) zero = rw (filter-append, filter-append, filter-append, e, append-nil)
-filter-set p x e (ys ∷ log) (suc i) = rw (filter-append, filter-append, filter-set p x e log i)
 
 module _ (log : Log) (good : GoodLog log) (r : Op) (h : Admits log r) (m : isMove r ≡ true) where
   no-add : isAdd r ≡ false

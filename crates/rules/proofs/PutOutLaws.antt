@@ -17,7 +17,7 @@ use Rattle.rules.proofs.IssueLaws.{counts-eight, issue-admitted, bytes-
 use Rattle.rules.proofs.SoundLaws.{sound-good}
 use Rattle.rules.proofs.StructureLaws.{GoodLog}
 
-issued-origin : (log : Log) (s : ℕ) (q : Request) → replicaOf (issued log s q) ≡ s
+pub issued-origin : (log : Log) (s : ℕ) (q : Request) → replicaOf (issued log s q) ≡ s
 unfolding issued opBytes replicaOf
 issued-origin log s (add p) = refl
 issued-origin log s (remove n) = refl
