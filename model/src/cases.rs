@@ -10,6 +10,7 @@ mod holdback;
 mod issue;
 mod judge;
 mod page;
+mod tidy_up;
 mod view;
 pub mod world;
 
@@ -115,6 +116,7 @@ impl Script {
             "climb" => climb::write(self),
             "page" => page::write(self),
             "batch" => batch::write(self),
+            "tidy" => tidy_up::write(self),
             _ => return false,
         }
         true

@@ -3,10 +3,15 @@
 use outline_model::cases::examples::{add, down, file_of, p1, up};
 use outline_model::cases::Script;
 use outline_model::script::{Case, Machine};
-use outline_model::{Tables, View};
+use outline_model::tree::timestamps;
+use outline_model::{
+    deliver, deliver_holdback, held_counts, issue_add, issue_move, issue_remove, open_bundle,
+    slot_of, Answer, Log, Op, Tables, View,
+};
+use std::collections::{BTreeMap, BTreeSet};
 
-const SECTIONS: [&str; 9] = [
-    "deliver", "judge", "issue", "view", "bundle", "holdback", "climb", "page", "batch",
+const SECTIONS: [&str; 10] = [
+    "deliver", "judge", "issue", "view", "bundle", "holdback", "climb", "page", "batch", "tidy",
 ];
 
 fn section(name: &str) -> Script {
@@ -351,6 +356,7 @@ fn sections_are_of_good_size_and_repeat() {
             "deliver" | "holdback" | "page" => 1_500_000,
             "batch" => 1_200_000,
             "bundle" | "climb" => 400_000,
+            "tidy" => 500_000,
             _ => 1_000_000,
         };
         assert!(bytes < most && script.cases.len() > 1000);
@@ -400,6 +406,12 @@ fn sections_reach_every_answer() {
         "climb",
         &[
             "r 1 ", "r 10 ", "r 11 ", "y 0 ", "y 2040 ", "n 0 ", "n 2039 ",
+        ],
+    );
+    reaches(
+        "tidy",
+        &[
+            "a ", "h ", "w ", "d ", "o ", "r 4 ", "r 5 ", "r 10 ", "r 11 ",
         ],
     );
 }
@@ -631,6 +643,221 @@ fn bundles_reach_every_answer_often() {
         assert!(count("0c", &answer) > 20, "opening: {answer}");
         assert_eq!(count("0b", &answer), 0);
     }
+}
+
+/// What the section `tidy` has when a judge line comes.
+struct Judged {
+    log: Log,
+    /// What the buffer held when it was last set.
+    held: [u8; 8],
+    /// The ops that came since then, in this order.
+    arrived: Vec<Op>,
+    /// The line to print.
+    answer: String,
+}
+
+/// Follows the section line by line. Beside what it judges: the upward moves that were
+/// issued somewhere in it.
+fn follow_tidy_up() -> (Vec<Judged>, BTreeSet<Vec<u8>>) {
+    let script = section("tidy");
+    let bytes = |hex: &str| -> Vec<u8> {
+        let byte = |at: usize| u8::from_str_radix(&hex[at..at + 2], 16).unwrap();
+        (0..hex.len()).step_by(2).map(byte).collect()
+    };
+    let (mut judged, mut upward) = (vec![], BTreeSet::new());
+    let (mut buffer, mut held, mut arrived) = (vec![], [0; 8], vec![]);
+    for (case, answer) in script.cases.iter().zip(&script.answers) {
+        let line = bytes(case);
+        let number = |at: usize| u16::from_be_bytes([line[at], line[at + 1]]);
+        let before = Log::open(&buffer);
+        let out = &mut [0; 14];
+        match line[0] {
+            0x00 => {
+                buffer = line[1..].to_vec();
+                assert_eq!(held_counts(&buffer, &mut held), Answer::Count(8));
+                arrived = vec![];
+                continue;
+            }
+            0x02 => {
+                deliver(&mut buffer, &line[1..]);
+            }
+            0x04 => {
+                issue_add(&mut buffer, line[1], number(2), out);
+            }
+            0x05 => {
+                issue_remove(&mut buffer, line[1], number(2), out);
+            }
+            0x06 => {
+                issue_move(&mut buffer, line[1], number(2), number(4), out);
+                if out[0] == 3 {
+                    upward.insert(out.to_vec());
+                }
+            }
+            0x0c => {
+                open_bundle(&mut buffer, &line[1..]);
+            }
+            0x0d => {
+                deliver_holdback(&mut buffer, &line[2..16], &mut line[16..].to_vec());
+            }
+            0x0f => {
+                deliver(&mut buffer, &line[2..16]);
+            }
+            0x03 => judged.push(Judged {
+                log: before.clone().expect("a sound log"),
+                held,
+                arrived: arrived.clone(),
+                answer: answer.clone(),
+            }),
+            0x08 | 0x09 => {}
+            other => panic!("{other}"),
+        }
+        let old: Vec<Op> = before.iter().flat_map(Log::ops).copied().collect();
+        let new = Log::open(&buffer).expect("a sound log");
+        arrived.extend(new.ops().filter(|op| !old.contains(op)));
+    }
+    (judged, upward)
+}
+
+/// A mistake that a program could make in judging.
+#[derive(Clone, Copy, PartialEq)]
+enum Slip {
+    None,
+    LowerReplicaFirst,
+    DownwardFirst,
+    ByArrival,
+    LastOneWins,
+    UpwardNeverLoses,
+    RivalsAtAnyTimestamp,
+}
+
+/// The line to print, judged with such a mistake, and the outcomes of what arrived.
+fn judge_with(judged: &Judged, slip: Slip) -> (String, Vec<u8>) {
+    let times = timestamps(&judged.log);
+    let own_slot = |op: &Op| 255 * op.index() + op.sequence();
+    let mut order: Vec<&Op> = judged.log.ops().collect();
+    order.sort_by_key(|op| {
+        let time = times[own_slot(op)];
+        let (kind, replica) = (op.kind as usize, usize::from(op.replica));
+        let place = judged.arrived.iter().position(|other| other == *op);
+        match slip {
+            Slip::LowerReplicaFirst => (time, kind, replica),
+            Slip::DownwardFirst if kind > 2 => (time, 10 - kind, 8 - replica),
+            Slip::ByArrival => match place {
+                Some(place) => (usize::MAX, place, 0),
+                None => (time, kind, 8 - replica),
+            },
+            _ => (time, kind, 8 - replica),
+        }
+    });
+    let (mut parents, mut outcomes) = (vec![65535; 2041], vec![0; 2041]);
+    let mut moved_at = vec![0; 2041];
+    parents[0] = 0;
+    for op in order {
+        let (slot, own) = (slot_of(op.node), own_slot(op));
+        outcomes[own] = 1;
+        if op.kind as u8 == 1 {
+            parents[slot] = op.parent;
+        }
+        if !op.kind.is_move() {
+            continue;
+        }
+        let time = match slip {
+            Slip::RivalsAtAnyTimestamp => 1,
+            _ => times[own],
+        };
+        // A mistake may have closed a circle: no climb has more steps than this.
+        let mut at = op.parent;
+        let above = (0..2041).find_map(|_| match at {
+            0 => Some(false),
+            _ if at == op.node => Some(true),
+            _ => {
+                at = parents[slot_of(at)];
+                None
+            }
+        });
+        if moved_at[slot] == time && slip != Slip::LastOneWins {
+            outcomes[own] = 2;
+        } else if above != Some(false) && !(slip == Slip::UpwardNeverLoses && op.kind as u8 == 3) {
+            outcomes[own] = 3;
+        } else {
+            (parents[slot], moved_at[slot]) = (op.parent, time);
+        }
+    }
+    let digest = |bytes: &mut dyn Iterator<Item = u8>| {
+        bytes.fold(0, |h: u64, b| (h * 257 + u64::from(b) + 1) % 4_294_967_291)
+    };
+    let parents = digest(&mut parents.iter().flat_map(|entry| entry.to_be_bytes()));
+    let of_arrived = judged.arrived.iter().map(|op| outcomes[own_slot(op)]);
+    let of_arrived = of_arrived.collect();
+    let outcomes = digest(&mut outcomes.into_iter());
+    (format!("{parents} {outcomes}"), of_arrived)
+}
+
+/// Tidy-ups of two to eight replicas, up to eight of which move one node, keep their
+/// promise on the way too. Where a condition is not met there is outcome 3 for moves of
+/// both kinds, and a node of which two upward moves are applied.
+#[test]
+fn tidy_ups_are_kept_and_lost() {
+    let (judged, issued) = follow_tidy_up();
+    let (mut movers, mut rivals) = ([0; 9], [0; 9]);
+    let (mut lost, mut twice) = ([0; 2], 0);
+    for judged in &judged {
+        let (_, outcomes) = judge_with(judged, Slip::None);
+        let is_tidy = |op: &Op| op.vector == judged.held && issued.contains(&op.bytes()[..]);
+        let of_node = |node: u16| judged.arrived.iter().filter(move |op| op.node == node);
+        let applied = |node: u16| {
+            let arrived = judged.arrived.iter().zip(&outcomes);
+            let moved = arrived.filter(|(op, _)| op.node == node && op.kind as u8 == 3);
+            moved.filter(|&(_, &outcome)| outcome == 1).count()
+        };
+        if judged.arrived.iter().all(is_tidy) {
+            movers[judged.arrived.len()] += 1;
+            for op in &judged.arrived {
+                rivals[of_node(op.node).count()] += 1;
+                assert_eq!(applied(op.node), 1);
+            }
+            assert!(!outcomes.contains(&3));
+        } else {
+            let with_outcome = judged.arrived.iter().zip(&outcomes);
+            for (op, _) in with_outcome.filter(|&(_, &outcome)| outcome == 3) {
+                lost[op.kind as usize - 3] += 1;
+            }
+            twice += judged
+                .arrived
+                .iter()
+                .filter(|op| applied(op.node) > 1)
+                .count();
+        }
+    }
+    assert!(movers[1..].iter().all(|&count| count > 5), "{movers:?}");
+    assert!(rivals[1..].iter().all(|&count| count > 10), "{rivals:?}");
+    assert!(
+        lost.iter().all(|&count| count > 15) && twice > 15,
+        "{lost:?} {twice}"
+    );
+}
+
+/// A program with any of these mistakes prints other lines.
+#[test]
+fn tidy_ups_show_mistakes() {
+    let (judged, _) = follow_tidy_up();
+    let differ = |slip| {
+        let other = |judged: &&Judged| !judged.answer.ends_with(&judge_with(judged, slip).0);
+        judged.iter().filter(other).count()
+    };
+    assert_eq!(differ(Slip::None), 0);
+    let mut seen = BTreeMap::new();
+    for (name, slip) in [
+        ("lower", Slip::LowerReplicaFirst),
+        ("downward", Slip::DownwardFirst),
+        ("arrival", Slip::ByArrival),
+        ("last", Slip::LastOneWins),
+        ("upward", Slip::UpwardNeverLoses),
+        ("rivals", Slip::RivalsAtAnyTimestamp),
+    ] {
+        seen.insert(name, differ(slip));
+    }
+    assert!(seen.values().all(|&count| count > 20), "{seen:?}");
 }
 
 #[test]

@@ -2,37 +2,36 @@
 use Prim.Native.Nat.{_≤_, _<_, _+_, _*_, ℕ, suc}
 use borrow.Author.Tests.{eq-eqb, ne-eqb, lt-ltb, ltb-false}
 use lib.Dec.{ltb, eqb}
-use lib.ListN.{getD, set, length, length-set, drop}
-use lib.Seq.{getD-set-same, getD-set-other, take-at}
+use lib.ListN.{getD, set, length, length-set}
+use lib.Seq.{getD-set-same, getD-set-other}
 use mathlib.Core.Bool.{Bool, true, cond, false, and-eq-true-iff}
 use mathlib.Core.List.{foldl-append, [], _∷_, List}
-use mathlib.Core.Logic.{⊎-elim}
+use mathlib.Core.Logic.{_⊎_, inl, inr, ⊎-elim}
 use mathlib.Core.Path.{refl, ap, _≡_, _∙_, sym}
 use native.Mathlib.Decide.{ℕ-discrete}
 use native.Mathlib.Omega.{arith}
-use Rattle.convergence.proofs.AddedLaws.{has-swap, two-extends, one-of-two, first-count, first-op, rest-same}
+use Rattle.convergence.proofs.AddedLaws.{new-extends, one-of-new, none-new, new-op, new-count}
+use Rattle.convergence.proofs.HasLaws.{has-head, has-tail, has-none, has-cases}
 use Rattle.convergence.proofs.ArriveLaws.{AddsOp, issue-adds, op-adds, arrives, arrives-back}
 use Rattle.convergence.proofs.ClashLaws.{winner-first}
 use Rattle.rules.proofs.StepLaws.{passed-over, placed-already, applied, blocked, applies, tables-full}
 use Rattle.convergence.proofs.MoveLaws.{opOf, upward, Asked, asked, Drawn, drawn, slot-in, valid-node, y-blocked, circle-is}
-use Rattle.convergence.specs.Clash.{Move, nextSlot, request, beats, circle, clash, Wins, hang, BothIssued, putOut, BothAdded, Arrives, Arrivals, ClashDecided, BothArrive, CircleCutsOff}
+use Rattle.convergence.specs.Clash.{Move, nextSlot, request, beats, circle, clash, Wins, hang, BothIssued, putOut, OnlyAdded, Arrives, Arrivals, ClashDecided, BothArrive, CircleCutsOff}
 use Rattle.convergence.specs.Exchange.{Call, deliver, has}
 use Rattle.order.proofs.LateLaws.{Late, ordered-late, late-empty, late-ready, top}
 use Rattle.order.proofs.PlacedLaws.{placed-by}
 use Rattle.order.specs.Levels.{readyOp, level, readyOps, levelKind}
 use Rattle.rules.proofs.AppendLaws.{extends}
 use Rattle.lists.proofs.BoolLaws.{and-both, never}
-use Rattle.rules.proofs.IssueLaws.{issue-admitted, allowed}
-use Rattle.rules.proofs.PutOutLaws.{NextOp, put-out-next}
+use Rattle.rules.proofs.IssueLaws.{allowed}
+use Rattle.rules.proofs.PutOutLaws.{NextOp, put-out, put-out-next}
 use Rattle.rules.proofs.SoundLaws.{sound-good}
 use Rattle.rules.proofs.StructureLaws.{GoodLog}
 use Rattle.rules.proofs.SlotLaws.{slot-below, slot-injective}
 use Rattle.rules.specs.Tree.{moveKind, slot, slots, slotOf}
-use Rattle.rules.specs.Issue.{issueOut, issueAnswer}
 use Rattle.rules.specs.File.{Log, countsOf, opAt, logOf, width, fileEnd}
-use Rattle.rules.specs.Op.{Op, countIn, nodeOf}
+use Rattle.rules.specs.Op.{Op, countIn, nodeOf, replicaOf}
 use Rattle.rules.specs.Replay.{parentsOf, State, Stamped, replay, step, outcomesOf, outcomeOf}
-use Rattle.rules.specs.Answer.{accepted}
 use Rattle.lists.specs.Lists.{concat}
 use Rattle.rules.specs.Sound.{sound}
 
@@ -222,36 +221,46 @@ module _ (log more : Log) (good : GoodLog log) (good-more : GoodLog more) (x y :
   abbrev ry : Op
   ry = opOf log y
 
-  ops-back : (z : Op) → has (concat more) z ≡ has (ry ∷ rx ∷ concat log) z
-  ops-back z = ops z ∙ has-swap rx ry (concat log) z
+  abbrev two : List Op
+  two = rx ∷ ry ∷ []
 
-  both-held : Both log more x y
-  both-held =
-      let dx = drawn log good x in
-      let dy = drawn log good y in
-      record {
-        late = record {
-          extends = two-extends log more good good-more rx ry ops;
-          vector = λ s q l u lo hi.
-              ⊎-elim (λ e. rw e (dx .vector)) (λ e. rw e (dy .vector)) (one-of-two log more good good-more rx ry ops s q l u lo hi);
-        };
-        good = good-more;
-        count-x = first-count log more good good-more rx ry ops _ _ (dx .origin) (dy .origin) apart (dx .next);
-        count-y = first-count log more good good-more ry rx ops-back _ _ (dy .origin) (dx .origin) (apart-back x y apart) (dy .next);
-        rest = rest-same log more good good-more rx ry ops _ _ (dx .origin) (dy .origin) apart;
-        op-x = first-op log more good good-more rx ry ops _ _ (dx .origin) (dy .origin) apart (dx .next);
-        op-y = first-op log more good good-more ry rx ops-back _ _ (dy .origin) (dx .origin) (apart-back x y apart) (dy .next);
-      }
+  one-of-two : (z : Op) → has two z ≡ true → (z ≡ rx) ⊎ (z ≡ ry)
+  one-of-two z h = ⊎-elim
+      (λ (e : z ≡ rx). inl e)
+      (λ (e : has (ry ∷ []) z ≡ true). ⊎-elim (λ (q : z ≡ ry). inr q) (λ q. has-none z q) (has-cases ry [] z e))
+      (has-cases rx (ry ∷ []) z h)
+
+  module _ (dx : Drawn log x) (dy : Drawn log y) where
+    alone-x : (z : Op) → has two z ≡ true → replicaOf z ≡ x .replica → z ≡ rx
+    alone-x z h e = ⊎-elim
+        (λ (q : z ≡ rx). q) (λ (q : z ≡ ry). absurd (apart (sym e ∙ ap replicaOf q ∙ dy .origin))) (one-of-two z h)
+
+    alone-y : (z : Op) → has two z ≡ true → replicaOf z ≡ y .replica → z ≡ ry
+    alone-y z h e = ⊎-elim
+        (λ (q : z ≡ rx). absurd (apart (sym (ap replicaOf q ∙ dx .origin) ∙ e))) (λ (q : z ≡ ry). q) (one-of-two z h)
+
+    both-held : Both log more x y
+    both-held =
+        let first = has-head rx (ry ∷ []) in
+        let second = has-tail rx (ry ∷ []) ry (has-head ry []) in
+        record {
+          late = record {
+            extends = new-extends log more good good-more two ops;
+            vector = λ s q l u lo hi. ⊎-elim (λ e. rw e (dx .vector)) (λ e. rw e (dy .vector))
+                (one-of-two _ (one-of-new log more good good-more two ops s q l u lo hi));
+          };
+          good = good-more;
+          count-x = new-count log more good good-more two ops _ rx first (dx .origin) (dx .next) alone-x;
+          count-y = new-count log more good good-more two ops _ ry second (dy .origin) (dy .next) alone-y;
+          rest = λ s l u ne ne′. none-new log more good good-more two ops s l u (λ z h e. ⊎-elim
+              (λ (q : z ≡ rx). ne (sym e ∙ ap replicaOf q ∙ dx .origin))
+              (λ (q : z ≡ ry). ne′ (sym e ∙ ap replicaOf q ∙ dy .origin))
+              (one-of-two z h));
+          op-x = new-op log more good good-more two ops _ rx first (dx .origin) (dx .next);
+          op-y = new-op log more good good-more two ops _ ry second (dy .origin) (dy .next);
+        }
 
 ---- from the calls
-
--- the bytes that were put out are the op
-put-out : (f out : List ℕ) (x : Move) (n : ℕ) → issueAnswer width f (length out) (x .replica) (request x) ≡ accepted n
-    → putOut f out x ≡ opOf (logOf width f) x
-unfolding issueOut
-put-out f out x n e =
-    let long = issue-admitted f (length out) (x .replica) (request x) n e .long in
-    rw (e, take-at (opOf (logOf width f) x) (drop width out) width long)
 
 -- what two accepted issues say
 module _ (f g out out′ : List ℕ) (x y : Move) (both : BothIssued f g out out′ x y) where
@@ -276,10 +285,10 @@ module _ (f g out out′ : List ℕ) (x y : Move) (both : BothIssued f g out out
       rw (both .one-log) at (asked width g (length out′) (both .end′) y a)
 
   put-x : putx ≡ opOf log x
-  put-x = put-out f out x (both .end) (both .first)
+  put-x = put-out f out (x .replica) (request x) (both .end) (both .first)
 
   put-y : puty ≡ opOf log y
-  put-y = rw (both .one-log) at (put-out g out′ y (both .end′) (both .second))
+  put-y = rw (both .one-log) at (put-out g out′ (y .replica) (request y) (both .end′) (both .second))
 
   back-x : NextOp log (x .replica) putx
   back-x = put-out-next f out (x .replica) (request x) (both .end) (both .first)
@@ -290,13 +299,14 @@ module _ (f g out out′ : List ℕ) (x y : Move) (both : BothIssued f g out out
   differ-back : y .replica ≡ x .replica → ⊥
   differ-back = apart-back x y (both .replicas-differ)
 
-  module _ (h : List ℕ) (added : BothAdded f h putx puty) (c : clash (parentsOf log) x y ≡ true) where
+  module _ (h : List ℕ) (added : OnlyAdded f h (putx ∷ puty ∷ [])) (c : clash (parentsOf log) x y ≡ true) where
     abbrev more : Log
     more = logOf width h
 
     held : Both log more x y
     held =
         both-held log more good (sound-good width h (added .is-sound)) x y (both .replicas-differ) (rw (put-x, put-y) at (added .ops))
+        (drawn log good x) (drawn log good y)
 
     decided : (beats (parentsOf log) x y ≡ true → Wins log more x y) × (beats (parentsOf log) x y ≡ false → Wins log more y x)
     decided = (
@@ -322,7 +332,7 @@ module _ (f g out out′ : List ℕ) (x y : Move) (both : BothIssued f g out out
     arrivals : Arrivals f b out out′ x y putx puty
     arrivals = record {
       x-issued = x-then-y _ (rw put-x (issue-adds f b out (x .replica) (request x) (both .end) (both .first) is-sound one-log room));
-      y-issued = y-then-x _ (rw (put-out g out′ y (both .end′) (both .second))
+      y-issued = y-then-x _ (rw (put-out g out′ (y .replica) (request y) (both .end′) (both .second))
           (issue-adds g b out′ (y .replica) (request y) (both .end′) (both .second) is-sound (one-log ∙ sym (both .one-log)) room));
       x-first = x-then-y _ (op-adds f b (x .replica) putx back-x is-sound one-log room);
       y-first = y-then-x _ (op-adds f b (y .replica) puty back-y is-sound one-log room);

@@ -8,10 +8,11 @@ use native.Mathlib.Nat.{le-of-suc-le-suc, not-suc-le-zero}
 use native.Mathlib.Decide.{ℕ-discrete}
 use native.Mathlib.Omega.{arith}
 use lib.ListN.{length, getD, length-append}
-use Rattle.lists.specs.Lists.{upFrom, same, concat, any, filter}
+use Rattle.lists.specs.Lists.{all, upFrom, same, concat, any, filter, isIn}
 use Rattle.rules.specs.Op.{Op}
 use Rattle.convergence.specs.Exchange.{has, times, onlyIn}
-use Rattle.lists.proofs.BoolLaws.{never, or-cases}
+use Rattle.lists.proofs.BoolLaws.{never, and-both, or-cases}
+use Rattle.lists.proofs.MemberLaws.{isIn-here, isIn-there}
 use Rattle.lists.proofs.ListLaws.{same-refl, same-eq, same-sym}
 use Rattle.lists.proofs.FilterLaws.{filter-append}
 use Rattle.lists.proofs.AllLaws.{any-append}
@@ -48,7 +49,7 @@ has-none r e = never e
 pub has-either : (a b : List Op) (r : Op) → has (a ++ b) r ≡ true → (has a r ≡ true) ⊎ (has b r ≡ true)
 has-either a b r e = or-cases (has a r) (has b r) (sym (has-append a b r) ∙ e)
 
-has-right : (a b : List Op) (r : Op) → has b r ≡ true → has (a ++ b) r ≡ true
+pub has-right : (a b : List Op) (r : Op) → has b r ≡ true → has (a ++ b) r ≡ true
 has-right a b r e = rw (has-append, e, or-true)
 
 pub has-cases : (x : Op) (a : List Op) (r : Op) → has (x ∷ a) r ≡ true → (r ≡ x) ⊎ (has a r ≡ true)
@@ -75,7 +76,7 @@ pub times-append : (a b : List Op) (r : Op) → times (a ++ b) r ≡ times a r +
 unfolding times
 times-append a b r = rw (filter-append, length-append)
 
-times-none : (a : List Op) (r : Op) → has a r ≡ false → times a r ≡ 0
+pub times-none : (a : List Op) (r : Op) → has a r ≡ false → times a r ≡ 0
 unfolding times has any filter
 times-none [] r e = refl
 times-none (x ∷ a) r e = go (same r x) e (times-none a r)
@@ -113,6 +114,37 @@ once-last a x r h e = rw (times-append a (x ∷ []) r) (go (same r x) refl)
 pub each-has : (P : Op → Type 0) (a : List Op) → ((r : Op) → has a r ≡ true → P r) → Each P a
 each-has P [] h = tt
 each-has P (x ∷ a) h = (h x (has-head x a), each-has P a (λ r e. h r (has-tail x a r e)))
+
+---- tests of the ops of a list
+
+module _ (p : Op → Bool) where
+  pub any-has : (a : List Op) (r : Op) → has a r ≡ true → p r ≡ true → any p a ≡ true
+  unfolding any
+  any-has [] r h e = has-none r h
+  any-has (x ∷ a) r h e = ⊎-elim
+      (λ (z : r ≡ x). let px : p x ≡ true = rw z at e in rw px)
+      (λ (z : has a r ≡ true). rw (any-has a r z e) (or-true (p x)))
+      (has-cases x a r h)
+
+  pub has-any : (a : List Op) → any p a ≡ true → (r : Op) × (has a r ≡ true) × (p r ≡ true)
+  unfolding any
+  has-any [] e = never e
+  has-any (x ∷ a) e = ⊎-elim
+      (λ (z : p x ≡ true). (x, has-head x a, z))
+      (λ (z : any p a ≡ true). let (r, h, q) = has-any a z in (r, has-tail x a r h, q))
+      (or-cases (p x) (any p a) e)
+
+  pub all-has : (a : List Op) → ((r : Op) → has a r ≡ true → p r ≡ true) → all p a ≡ true
+  unfolding all
+  all-has [] h = refl
+  all-has (x ∷ a) h = and-both (h x (has-head x a)) (all-has a (λ r e. h r (has-tail x a r e)))
+
+pub map-has : (f : Op → ℕ) (a : List Op) (r : Op) → has a r ≡ true → isIn (f r) (map f a) ≡ true
+map-has f [] r h = has-none r h
+map-has f (x ∷ a) r h = ⊎-elim
+    (λ (z : r ≡ x). rw z (isIn-here (f x) (map f a)))
+    (λ (z : has a r ≡ true). isIn-there (f r) (f x) (map f a) (map-has f a r z))
+    (has-cases x a r h)
 
 ---- where an op stands
 

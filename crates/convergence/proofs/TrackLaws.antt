@@ -16,7 +16,7 @@ use Rattle.convergence.specs.Exchange.{has, opNumbered, inOrder, arrange
 use Rattle.lists.proofs.BoolLaws.{never, both-ways, and-left, and-right, and-both, fails, or-cases}
 use Rattle.rules.proofs.ReplicaLaws.{map-replicas}
 use Rattle.rules.proofs.AppendLaws.{append-extends, seq-positive}
-use Rattle.rules.proofs.StructureLaws.{count-held, HeldOps}
+use Rattle.rules.proofs.StructureLaws.{GoodLog, HeldOps, count-held, good-ops}
 use Rattle.lists.proofs.ListLaws.{same-eq}
 use Rattle.convergence.proofs.HasLaws.{has-head, has-tail, has-last, has-new, has-old, has-at, at-has, has-part, part-has}
 use Rattle.rules.proofs.FileLaws.{log-eta}
@@ -49,6 +49,12 @@ module _ (log : Log) (held : HeldOps log) (eight : length log ≡ 8) (r : Op) wh
 
   pub tracks-listed : (ops : List Op) → Tracks log ops → has (concat log) r ≡ has ops r
   tracks-listed ops t = both-ways _ _ (λ e. t .outside r (listed-in e)) (λ e. in-listed (t .inside r e))
+
+pub tracks-log : (log : Log) → GoodLog log → Tracks log (concat log)
+tracks-log log good = record {
+  inside = listed-in log (good-ops good) (good .eight);
+  outside = in-listed log (good-ops good) (good .eight);
+}
 
 ---- one op more
 

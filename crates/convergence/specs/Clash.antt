@@ -4,7 +4,7 @@ use Prim.Native.Nat.{ℕ, _+_, _*_, _≤_}
 use lib.Dec.{eqb, ltb}
 use lib.ListN.{set, take, getD, length}
 use mathlib.Core.Bool.{cond, false, Bool, true, _&&_, _||_, not}
-use mathlib.Core.List.{List, _∷_}
+use mathlib.Core.List.{List, [], _∷_, _++_}
 use mathlib.Core.Path.{_≡_}
 use Rattle.convergence.specs.Exchange.{Call, issue, deliver, answer, bufferAfter, has}
 use Rattle.rules.specs.Answer.{accepted}
@@ -69,17 +69,17 @@ pub record BothIssued (f g out out′ : List ℕ) (x y : Move) : Type 0 where
 abbrev pub putOut : (f out : List ℕ) → Move → Op
 putOut f out x = take width (issueOut width f out (x .replica) (request x))
 
--- h is sound, and its ops are the two and those of f, however they came
-pub record BothAdded (f h : List ℕ) (r r′ : Op) : Type 0 where
+-- h is sound, and its ops are the new ones and those of f, however they came
+pub record OnlyAdded (f h : List ℕ) (new : List Op) : Type 0 where
   pub is-sound : sound width h ≡ true
-  pub ops : (z : Op) → has (concat (logOf width h)) z ≡ has (r ∷ r′ ∷ concat (logOf width f)) z
+  pub ops : (z : Op) → has (concat (logOf width h)) z ≡ has (new ++ concat (logOf width f)) z
 
 abbrev pub ClashDecided : Type 0
 ClashDecided =
     -- "if two seats each issue one move from one collection,"
     (f g out out′ : List ℕ) (x y : Move) → BothIssued f g out out′ x y
     -- "nothing else is added,"
-    → (h : List ℕ) → BothAdded f h (putOut f out x) (putOut g out′ y)
+    → (h : List ℕ) → OnlyAdded f h (putOut f out x ∷ putOut g out′ y ∷ [])
     -- "and the moves take the same node or together close a circle,"
     → let log = logOf width f in
     let more = logOf width h in
@@ -93,7 +93,7 @@ ClashDecided =
 pub record Arrives (f b : List ℕ) (r r′ : Op) (one next : Call) : Type 0 where
   pub one-accepted : answer b one ≡ accepted (fileEnd width b + width)
   pub next-accepted : answer (bufferAfter b one) next ≡ accepted (fileEnd width b + 2 * width)
-  pub both-added : BothAdded f (bufferAfter (bufferAfter b one) next) r r′
+  pub both-added : OnlyAdded f (bufferAfter (bufferAfter b one) next) (r ∷ r′ ∷ [])
 
 -- one is issued at b and the other delivered there, or both are delivered, in either order
 pub record Arrivals (f b out out′ : List ℕ) (x y : Move) (r r′ : Op) : Type 0 where

@@ -6,7 +6,7 @@ use mathlib.Core.Bool.{Bool, true, false, _||_, or-true}
 use mathlib.Core.List.{List, [], _∷_, _++_}
 use mathlib.Core.Path.{refl, _≡_}
 use native.Mathlib.Omega.{arith}
-use Rattle.convergence.specs.Clash.{Move, circle, beats, putOut, BothIssued, BothAdded, Arrivals}
+use Rattle.convergence.specs.Clash.{Move, circle, beats, putOut, BothIssued, OnlyAdded, Arrivals}
 use Rattle.convergence.specs.Converges.{expected}
 use Rattle.convergence.specs.Exchange.{Side, Round, left, Offer, Pair, Call, issue, deliver, openBundle, run, right, make, missing, after, answers, acceptedBy, answer, answerTo, acceptances, isSide, arrange, inOrder, everything, other, perform, opNumbered, begun, added, has, onlyIn, bufferAfter, offered}
 use Rattle.rules.specs.Answer.{require, unlessRefused}
@@ -139,7 +139,7 @@ last-first false true c d = simp or-true
 last-first false false c d = refl
 
 -- each way of arriving comes to the same file
-arrived : (h : List ℕ) → h ≡ p1File → BothAdded shared h a₃ b₁
+arrived : (h : List ℕ) → h ≡ p1File → OnlyAdded shared h (a₃ ∷ b₁ ∷ [])
 unfolding p1 p1File require wordAt word upFrom sum same concat all any replicas isReplica countIn kindOf replicaOf nodeOf parentOf
     vectorOf ownCount seqOf nodeNumber isAdd isRemove wellFormed emptyLog opsOf opAt countsOf append countAt startAt headerCounts startOf
     endOf fileEnd chunks chunksOf logOf headerEntry headerOf fileOf within covered closedAt closed isKnown nodeWithin marked

@@ -27,6 +27,6 @@ fn main() -> ExitCode {
 
 fn usage() -> ExitCode {
     eprintln!("usage: vectors stdin|stdout SECTION[,SECTION..]");
-    eprintln!("sections: deliver, judge, issue, view, bundle, holdback, climb, page, batch");
+    eprintln!("sections: deliver, judge, issue, view, bundle, holdback, climb, page, batch, tidy");
     ExitCode::FAILURE
 }

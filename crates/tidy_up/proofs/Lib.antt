@@ -1,0 +1,5 @@
+pub mod FallLaws
+pub mod UpwardLaws
+pub mod TidyLaws
+pub mod ComingLaws
+pub mod TidyTheorem

@@ -1,0 +1,120 @@
+-- The tidy-up, proved: upward moves issued from one log are true, and come to one buffer in any order.
+use Prim.Native.Nat.{ℕ, _≤_, _<_}
+use borrow.Author.Tests.{ltb-true}
+use lib.ListN.{length}
+use mathlib.Core.Bool.{Bool, true, false, cond}
+use mathlib.Core.List.{List, [], _∷_}
+use mathlib.Core.Logic.{⊎-elim}
+use mathlib.Core.Path.{refl, sym, ap, _≡_, _∙_}
+use native.Mathlib.Omega.{arith}
+use Rattle.rules.specs.File.{Log, logOf, width}
+use Rattle.rules.specs.Issue.{issueBuffer}
+use Rattle.rules.specs.Op.{Op, kindOf, replicaOf}
+use Rattle.rules.specs.Replay.{parentsOf}
+use Rattle.rules.specs.Tree.{depth}
+use Rattle.rules.proofs.IssueLaws.{allowed, issue-admitted}
+use Rattle.rules.proofs.PutOutLaws.{NextOp, put-out, put-out-next}
+use Rattle.rules.proofs.SoundLaws.{sound-good}
+use Rattle.rules.proofs.StructureLaws.{GoodLog}
+use Rattle.convergence.specs.Clash.{Move, OnlyAdded, request}
+use Rattle.convergence.specs.Exchange.{has}
+use Rattle.convergence.proofs.HasLaws.{has-cases, has-none}
+use Rattle.convergence.proofs.MoveLaws.{Asked, asked, drawn, opOf, upward}
+use Rattle.tidy_up.specs.Examples.{after, before, threeMoves, tidied, worked}
+use Rattle.tidy_up.specs.TidyUp.{AllArrive, EachIssuedUp, IssuedUp, OwnIsThere, TidiedTree, TidyUp, UpwardMoves, noneLost, oneApplied}
+use Rattle.tidy_up.proofs.ComingLaws.{all-come, one-more}
+use Rattle.tidy_up.proofs.UpwardLaws.{TrueUp}
+use Rattle.tidy_up.proofs.TidyLaws.{highest-wins, none-lost, one-applied}
+
+---- a move that was issued
+
+each-up : (log : Log) (ops : List Op) → EachIssuedUp log ops → (r : Op) → has ops r ≡ true → IssuedUp log r
+each-up log [] h r i = has-none r i
+each-up log (x ∷ ops) h r i = ⊎-elim
+    (λ (e : r ≡ x). rw e (h .0)) (λ (e : has ops r ≡ true). each-up log ops (h .1) r e) (has-cases x ops r i)
+
+module _ (log : Log) (r : Op) (u : IssuedUp log r) where
+  abbrev x : Move
+  x = u .asked
+
+  good : GoodLog log
+  good =
+      rw (u .very-log) at (sound-good width (u .buffer)
+      (issue-admitted (u .buffer) (length (u .out)) (x .replica) (request x) (u .end) (u .taken) .is-sound))
+
+  op-is : opOf log x ≡ r
+  op-is =
+      ap (λ t. opOf t x) (sym (u .very-log))
+      ∙ sym (put-out (u .buffer) (u .out) (x .replica) (request x) (u .end) (u .taken)) ∙ u .put
+
+  let-through : Asked log x
+  let-through =
+      rw (u .very-log) at (asked width (u .buffer) (length (u .out)) (u .end) x
+      (allowed width (u .buffer) (length (u .out)) (x .replica) (request x) (u .end) (u .taken)))
+
+  -- its kind is what the depths say
+  rising : depth (parentsOf log) (x .parent) < depth (parentsOf log) (x .node)
+  rising = ltb-true _ _ (go (upward log x) (sym (drawn log good x .kind) ∙ ap kindOf op-is ∙ u .upward))
+    where
+      go : (b : Bool) → _≡_ {A = ℕ} (cond b 3 4) 3 → b ≡ true
+      go true e = refl
+      go false e = absurd (omega arith)
+
+  issued-true : TrueUp log r
+  issued-true =
+      let d = drawn log good x in
+      let it : TrueUp log (opOf log x) =
+      record { upward = ap kindOf op-is ∙ u .upward; saw = d .vector; rises = rw (d .parent-is, d .node-is) rising } in
+      rw op-is at it
+
+  origin : replicaOf r ≡ x .replica
+  origin = ap replicaOf (sym op-is) ∙ drawn log good x .origin
+
+  issued-range : (1 ≤ replicaOf r) × (replicaOf r ≤ 8)
+  issued-range = rw origin (let-through .low, let-through .high)
+
+  issued-next : NextOp log (replicaOf r) r
+  issued-next =
+      rw (u .very-log, u .put, ← origin) at (put-out-next (u .buffer) (u .out) (x .replica) (request x) (u .end) (u .taken))
+
+---- the theorems
+
+module _ (log : Log) (ops : List Op) (up : UpwardMoves log ops) where
+  one-up : (r : Op) → has ops r ≡ true → IssuedUp log r
+  one-up r i = each-up log ops (up .each) r i
+
+  truth : (r : Op) → has ops r ≡ true → TrueUp log r
+  truth r i = issued-true log r (one-up r i)
+
+pub tidy-up : TidyUp
+tidy-up f sound-f ops up h added =
+    let good = sound-good width f sound-f in
+    let good-more = sound-good width h (added .is-sound) in
+    let true-up = truth (logOf width f) ops up in (
+      none-lost (logOf width f) (logOf width h) good good-more ops (added .ops) true-up,
+      one-applied (logOf width f) (logOf width h) good good-more ops (added .ops) true-up (up .replicas-differ),
+    )
+
+pub tidied-tree : TidiedTree
+tidied-tree f sound-f ops up h added =
+    highest-wins (logOf width f) (logOf width h) (sound-good width f sound-f) (sound-good width h (added .is-sound)) ops (added .ops)
+    (truth (logOf width f) ops up)
+
+pub all-arrive : AllArrive
+all-arrive f sound-f ops up b there coming only room all =
+    let log = logOf width f in
+    all-come f sound-f ops (up .replicas-differ)
+    (λ r i. issued-range log r (one-up log ops up r i)) (λ r i. issued-next log r (one-up log ops up r i))
+    b there coming only room all
+
+pub own-is-there : OwnIsThere
+unfolding issueBuffer
+own-is-there f b out x end one-log e =
+    let a = issue-admitted b (length out) (x .replica) (request x) end e in
+    let first : OnlyAdded f b [] = record { is-sound = a .is-sound; ops = λ z. rw one-log refl } in
+    rw (e, put-out b out (x .replica) (request x) end e) (one-more f b [] first _ end a)
+
+-- the theorem at work: three moves, two of them of one node
+pub worked-out : (noneLost tidied threeMoves ≡ true) × (oneApplied tidied threeMoves ≡ true)
+worked-out =
+    rw (worked .log-after) at (tidy-up before (worked .is-sound) threeMoves (worked .upward-moves) after (worked .only-added))

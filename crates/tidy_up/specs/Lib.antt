@@ -1,0 +1,2 @@
+pub mod TidyUp
+pub mod Examples
