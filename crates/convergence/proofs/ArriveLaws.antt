@@ -2,19 +2,21 @@
 use Prim.Native.Nat.{ℕ, _+_, _*_, _≤_}
 use borrow.Author.Tests.{le-leb, lt-leb, lt-ltb}
 use lib.ListN.{length}
-use mathlib.Core.Bool.{true, false, _||_}
-use mathlib.Core.List.{List, _∷_}
-use mathlib.Core.Path.{_≡_, sym, ap, _∙_}
+use mathlib.Core.Bool.{Bool, true, false, _||_, or-assoc, or-comm}
+use mathlib.Core.List.{List, [], _∷_, _++_}
+use mathlib.Core.Path.{_≡_, refl, sym, ap, _∙_}
 use native.Mathlib.Omega.{arith}
 use Rattle.convergence.proofs.AddedLaws.{has-more, has-swap}
-use Rattle.convergence.specs.Clash.{Arrives}
+use Rattle.convergence.proofs.HasLaws.{has-append, has-last}
+use Rattle.convergence.specs.Clash.{Arrives, OnlyAdded}
 use Rattle.convergence.specs.Exchange.{Call, issue, deliver, answer, bufferAfter, has}
-use Rattle.rules.proofs.AppendLaws.{Admits, extends, extends-refl, in-range, ops-other, good-append}
+use Rattle.rules.proofs.AppendLaws.{Admits, extends, extends-refl, in-range, ops-other}
 use Rattle.rules.proofs.DeliverLaws.{Admitted, admitted, appended-log, appended-end, appended-length, appended-sound}
 use Rattle.rules.proofs.IssueLaws.{allowed, issue-admitted}
+use Rattle.rules.proofs.SoundLaws.{sound-good}
 use Rattle.rules.proofs.StructureLaws.{GoodLog, count-held}
 use Rattle.rules.specs.Answer.{accepted, require}
-use Rattle.lists.specs.Lists.{any, concat, same}
+use Rattle.lists.specs.Lists.{concat, same}
 use Rattle.rules.specs.Deliver.{isHeld, deliverAnswer, deliverBuffer}
 use Rattle.rules.specs.Issue.{Request, issued, issueAnswer, issueBuffer}
 use Rattle.rules.specs.File.{Log, logOf, width, countsOf, fileEnd, append, appended, Extends}
@@ -61,6 +63,32 @@ module _ (f b : List ℕ) (s : ℕ) (r : Op) (back : NextOp (logOf width f) s r)
       delivery-adds b r (back .accepted-by b is-sound (rw one-log (extends-refl (logOf width f)))
       (rw one-log new-there) fits)
 
+---- what is added
+
+pub none-added : (f b : List ℕ) → sound width b ≡ true → logOf width b ≡ logOf width f → OnlyAdded f b []
+none-added f b is-sound one-log = record { is-sound = is-sound; ops = λ z. rw one-log refl }
+
+-- one op more
+module _ (f b : List ℕ) (new : List Op) (only : OnlyAdded f b new) (r : Op) (n : ℕ) (h : Admitted width b r n) where
+  or-turn : (a c d : Bool) → (a || (c || d)) ≡ ((c || a) || d)
+  or-turn a c d = sym (or-assoc a c d) ∙ ap (λ t. t || d) (or-comm a c)
+
+  more-ops : (z : Op) → has (concat (logOf width (appended width b r))) z ≡ has ((new ++ (r ∷ [])) ++ concat (logOf width f)) z
+  more-ops z =
+      let good = sound-good width b (h .is-sound) in
+      let range = in-range (logOf width b) r good (h .admits) in
+      rw (
+        appended-log width b r n h,
+        has-more (logOf width b) r z (good .eight) (range .0) (range .1),
+        only .ops z,
+        has-append new (concat (logOf width f)) z,
+        has-append (new ++ (r ∷ [])) (concat (logOf width f)) z,
+        has-last new r z,
+      ) (or-turn (same z r) (has new z) (has (concat (logOf width f)) z))
+
+  pub one-more : OnlyAdded f (appended width b r) (new ++ (r ∷ []))
+  one-more = record { is-sound = appended-sound width b r n h; ops = more-ops }
+
 ---- one op and then the other
 
 module _ (f : List ℕ) (good : GoodLog (logOf width f)) (s s′ : ℕ) (r r′ : Op)
@@ -104,27 +132,19 @@ module _ (f : List ℕ) (good : GoodLog (logOf width f)) (s s′ : ℕ) (r r′ 
         delivery-adds then r′
         (back′ .accepted-by then (appended-sound width b r end came) (rw then-log holds) (rw then-log new) (omega arith))
 
-    both-ops : (z : Op) → has (concat (append (append log r) r′)) z ≡ has (r ∷ r′ ∷ concat log) z
-    unfolding has any
-    both-ops z =
-        let i = in-range log r good admits in
-        let i′ = in-range (append log r) r′ (good-append log r good admits) (rw then-log at (next .admitted-there .admits)) in
-        has-more (append log r) r′ z (good-append log r good admits .eight) (i′ .0) (i′ .1)
-        ∙ ap (λ t. same z r′ || t) (has-more log r z (good .eight) (i .0) (i .1))
-        ∙ has-swap r′ r (concat log) z
+    both : OnlyAdded f (appended width then r′) (r ∷ r′ ∷ [])
+    both =
+        let first = one-more f b [] (none-added f b (came .is-sound) one-log) r end came in
+        one-more f then (r ∷ []) first r′ _ (next .admitted-there)
 
     -- and the other is delivered after it
     pub arrives : Arrives f b r r′ one (deliver r′)
     arrives =
-        let last = next .admitted-there in
         let new-end : fileEnd width then + width ≡ fileEnd width b + 2 * width = omega (arith, appended-end width b r end came) in
         record {
           one-accepted = adds .taken;
           next-accepted = rw (adds .grown) (next .taken ∙ ap accepted new-end);
-          both-added = rw (adds .grown, next .grown) (record {
-            is-sound = appended-sound width then r′ _ last;
-            ops = rw (appended-log width then r′ _ last, then-log) both-ops;
-          });
+          both-added = rw (adds .grown, next .grown) both;
         }
 
 -- which of the two is named first does not matter

@@ -11,7 +11,7 @@ use lib.ListN.{length, getD, length-append}
 use Rattle.lists.specs.Lists.{all, upFrom, same, concat, any, filter, isIn}
 use Rattle.rules.specs.Op.{Op}
 use Rattle.convergence.specs.Exchange.{has, times, onlyIn}
-use Rattle.lists.proofs.BoolLaws.{never, and-both, or-cases}
+use Rattle.lists.proofs.BoolLaws.{never, and-both, both-ways, or-cases}
 use Rattle.lists.proofs.MemberLaws.{isIn-here, isIn-there}
 use Rattle.lists.proofs.ListLaws.{same-refl, same-eq, same-sym}
 use Rattle.lists.proofs.FilterLaws.{filter-append}
@@ -41,6 +41,15 @@ has-new a r = rw (has-last, same-refl, or-true)
 
 pub has-old : (a b : List Op) (r : Op) → has a r ≡ true → has (a ++ b) r ≡ true
 has-old a b r e = rw (has-append, e)
+
+-- an op that it has, once more
+pub has-again : (a : List Op) (r z : Op) → has a r ≡ true → has (a ++ (r ∷ [])) z ≡ has a z
+has-again a r z h = both-ways (has (a ++ (r ∷ [])) z) (has a z)
+    (λ e. ⊎-elim
+    (λ (i : has a z ≡ true). i)
+    (λ (i : same z r ≡ true). rw (same-eq z r i) h)
+    (or-cases (has a z) (same z r) (sym (has-last a r z) ∙ e)))
+    (λ e. has-old a (r ∷ []) z e)
 
 pub has-none : {A : Type 0} (r : Op) → has [] r ≡ true → A
 unfolding has any

@@ -3,23 +3,23 @@
 use Prim.Native.Nat.{ℕ, _+_, _*_, _≤_}
 use borrow.Author.Tests.{le-leb, lt-leb}
 use lib.ListN.{length}
-use mathlib.Core.Bool.{Bool, true, false, _||_, not, or-assoc, or-comm}
+use mathlib.Core.Bool.{Bool, true, false, not}
 use mathlib.Core.List.{List, [], _∷_, _++_, append-assoc, append-nil, map}
 use mathlib.Core.Logic.{⊎-elim}
 use mathlib.Core.Path.{refl, sym, ap, _≡_, _∙_}
 use native.Mathlib.Omega.{arith}
 use Rattle.lists.specs.Lists.{concat, same}
-use Rattle.lists.proofs.BoolLaws.{both-ways, never, or-cases}
+use Rattle.lists.proofs.BoolLaws.{never, or-cases}
 use Rattle.lists.proofs.FilterLaws.{filter-alike}
 use Rattle.lists.proofs.ListLaws.{same-eq}
-use Rattle.rules.specs.Answer.{Answer, accepted, hadIt, unlessRefused}
+use Rattle.rules.specs.Answer.{Answer, hadIt, unlessRefused}
 use Rattle.rules.specs.Bundle.{turnsAnswer, turnsBuffer}
 use Rattle.rules.specs.Deliver.{deliverAnswer, deliverBuffer, isHeld}
-use Rattle.rules.specs.File.{Log, appended, countsOf, fileEnd, logOf, opAt, width}
+use Rattle.rules.specs.File.{Log, countsOf, fileEnd, logOf, opAt, width}
 use Rattle.rules.specs.Op.{Op, countIn, replicaOf, seqOf}
 use Rattle.rules.specs.Sound.{sound}
-use Rattle.rules.proofs.AppendLaws.{in-range, seq-positive}
-use Rattle.rules.proofs.DeliverLaws.{Admitted, admitted, appended-end, appended-length, appended-log, appended-sound}
+use Rattle.rules.proofs.AppendLaws.{seq-positive}
+use Rattle.rules.proofs.DeliverLaws.{admitted, appended-end, appended-length}
 use Rattle.rules.proofs.InLaws.{OpIn}
 use Rattle.rules.proofs.OfferLaws.{Offered, early, had, offered, short, taken}
 use Rattle.rules.proofs.PutOutLaws.{NextOp}
@@ -28,8 +28,9 @@ use Rattle.rules.proofs.StructureLaws.{GoodLog, good-ops}
 use Rattle.order.specs.Claims.{Distinct}
 use Rattle.convergence.specs.Clash.{OnlyAdded}
 use Rattle.convergence.specs.Exchange.{has, onlyIn}
-use Rattle.convergence.proofs.AddedLaws.{has-more, new-extends, new-there, none-new}
-use Rattle.convergence.proofs.HasLaws.{each-has, has-append, has-cases, has-head, has-last, has-none, has-old, has-right, has-tail, map-has, onlyIn-less, times-some}
+use Rattle.convergence.proofs.AddedLaws.{new-extends, new-there, none-new}
+use Rattle.convergence.proofs.ArriveLaws.{one-more}
+use Rattle.convergence.proofs.HasLaws.{each-has, has-again, has-append, has-cases, has-head, has-last, has-none, has-old, has-right, has-tail, map-has, onlyIn-less, times-some}
 use Rattle.tidy_up.specs.TidyUp.{Arrived}
 
 -- of different replicas, one of each
@@ -47,37 +48,7 @@ one-each (x ∷ ops) d r z h i e = ⊎-elim
     (has-cases x ops z i))
     (has-cases x ops r h)
 
--- what a list has, once more
-has-again : (a : List Op) (r z : Op) → has a r ≡ true → has (a ++ (r ∷ [])) z ≡ has a z
-has-again a r z h = both-ways (has (a ++ (r ∷ [])) z) (has a z)
-    (λ e. ⊎-elim
-    (λ (i : has a z ≡ true). i)
-    (λ (i : same z r ≡ true). rw (same-eq z r i) h)
-    (or-cases (has a z) (same z r) (sym (has-last a r z) ∙ e)))
-    (λ e. has-old a (r ∷ []) z e)
-
----- one op more
-
--- it is put to what is there
-module _ (f b : List ℕ) (there : List Op) (only : OnlyAdded f b there) (r : Op) (n : ℕ) (h : Admitted width b r n) where
-  or-turn : (a c d : Bool) → (a || (c || d)) ≡ ((c || a) || d)
-  or-turn a c d = sym (or-assoc a c d) ∙ ap (λ t. t || d) (or-comm a c)
-
-  more-ops : (z : Op) → has (concat (logOf width (appended width b r))) z ≡ has ((there ++ (r ∷ [])) ++ concat (logOf width f)) z
-  more-ops z =
-      let good = sound-good width b (h .is-sound) in
-      let range = in-range (logOf width b) r good (h .admits) in
-      rw (
-        appended-log width b r n h,
-        has-more (logOf width b) r z (good .eight) (range .0) (range .1),
-        only .ops z,
-        has-append there (concat (logOf width f)) z,
-        has-append (there ++ (r ∷ [])) (concat (logOf width f)) z,
-        has-last there r z,
-      ) (or-turn (same z r) (has there z) (has (concat (logOf width f)) z))
-
-  pub one-more : OnlyAdded f (appended width b r) (there ++ (r ∷ []))
-  one-more = record { is-sound = appended-sound width b r n h; ops = more-ops }
+---- one op
 
 -- it was there
 module _ (b : List ℕ) (is-sound : sound width b ≡ true) (r : Op) (i : OpIn (logOf width b) r) where
@@ -88,7 +59,7 @@ module _ (b : List ℕ) (is-sound : sound width b ≡ true) (r : Op) (i : OpIn (
   unfolding isHeld
   is-held = le-leb (seqOf r) (countIn (countsOf held) (replicaOf r)) (i .here)
 
-  pub answered-had : deliverAnswer width b r ≡ hadIt
+  answered-had : deliverAnswer width b r ≡ hadIt
   answered-had = go refl (rw (i .there) at offer)
     where
       offer : Offered width b (opAt held (replicaOf r) (seqOf r)) (deliverAnswer width b (opAt held (replicaOf r) (seqOf r)))
@@ -203,18 +174,14 @@ module _ (f : List ℕ) (sound-f : sound width f ≡ true) (ops : List Op) (diff
         go false h = goes-new h
 
   -- and one after another
-  record Came (b : List ℕ) (there coming : List Op) : Type 0 where
-    taken : turnsAnswer width b coming ≡ accepted (fileEnd width (turnsBuffer width b coming))
-    only : OnlyAdded f (turnsBuffer width b coming) (there ++ coming)
-
   came : (coming : List Op) (b : List ℕ) (there : List Op) → Underway b there → ((z : Op) → has coming z ≡ true → has ops z ≡ true)
-      → Came b there coming
+      → Arrived f b (there ++ coming) coming
   unfolding turnsAnswer turnsBuffer
-  came [] b there way h = record { taken = refl; only = rw (append-nil there) (way .only) }
+  came [] b there way h = record { taken = refl; only-added = rw (append-nil there) (way .only) }
   came (r ∷ coming) b there way h =
       let g = goes b there way r (h r (has-head r coming)) in
       let rest = came coming (deliverBuffer width b r) (there ++ (r ∷ [])) (g .then) (λ z i. h z (has-tail r coming z i)) in
-      record { taken = g .on _ ∙ rest .taken; only = rw (append-assoc there (r ∷ []) coming) at (rest .only) }
+      record { taken = g .on _ ∙ rest .taken; only-added = rw (append-assoc there (r ∷ []) coming) at (rest .only-added) }
 
   pub all-come : (b : List ℕ) (there coming : List Op) → OnlyAdded f b there
       → fileEnd width b + width * length (onlyIn ops there) ≤ length b
@@ -225,8 +192,8 @@ module _ (f : List ℕ) (sound-f : sound width f ≡ true) (ops : List Op) (diff
       record {
         taken = c .taken;
         only-added = record {
-          is-sound = c .only .is-sound;
-          ops = λ z. c .only .ops z
+          is-sound = c .only-added .is-sound;
+          ops = λ z. c .only-added .ops z
               ∙ rw (has-append (there ++ coming) (concat (logOf width f)) z, has-append ops (concat (logOf width f)) z, all z);
         };
       }

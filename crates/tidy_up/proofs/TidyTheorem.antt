@@ -16,13 +16,14 @@ use Rattle.rules.proofs.IssueLaws.{allowed, issue-admitted}
 use Rattle.rules.proofs.PutOutLaws.{NextOp, put-out, put-out-next}
 use Rattle.rules.proofs.SoundLaws.{sound-good}
 use Rattle.rules.proofs.StructureLaws.{GoodLog}
-use Rattle.convergence.specs.Clash.{Move, OnlyAdded, request}
+use Rattle.convergence.specs.Clash.{Move, request}
 use Rattle.convergence.specs.Exchange.{has}
+use Rattle.convergence.proofs.ArriveLaws.{none-added, one-more}
 use Rattle.convergence.proofs.HasLaws.{has-cases, has-none}
 use Rattle.convergence.proofs.MoveLaws.{Asked, asked, drawn, opOf, upward}
 use Rattle.tidy_up.specs.Examples.{after, before, threeMoves, tidied, worked}
 use Rattle.tidy_up.specs.TidyUp.{AllArrive, EachIssuedUp, IssuedUp, OwnIsThere, TidiedTree, TidyUp, UpwardMoves, noneLost, oneApplied}
-use Rattle.tidy_up.proofs.ComingLaws.{all-come, one-more}
+use Rattle.tidy_up.proofs.ComingLaws.{all-come}
 use Rattle.tidy_up.proofs.UpwardLaws.{TrueUp}
 use Rattle.tidy_up.proofs.TidyLaws.{highest-wins, none-lost, one-applied}
 
@@ -111,8 +112,7 @@ pub own-is-there : OwnIsThere
 unfolding issueBuffer
 own-is-there f b out x end one-log e =
     let a = issue-admitted b (length out) (x .replica) (request x) end e in
-    let first : OnlyAdded f b [] = record { is-sound = a .is-sound; ops = λ z. rw one-log refl } in
-    rw (e, put-out b out (x .replica) (request x) end e) (one-more f b [] first _ end a)
+    rw (e, put-out b out (x .replica) (request x) end e) (one-more f b [] (none-added f b (a .is-sound) one-log) _ end a)
 
 -- the theorem at work: three moves, two of them of one node
 pub worked-out : (noneLost tidied threeMoves ≡ true) × (oneApplied tidied threeMoves ≡ true)

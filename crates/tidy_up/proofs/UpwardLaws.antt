@@ -49,13 +49,13 @@ pub record TrueUp (log : Log) (r : Op) : Type 0 where
   pub saw : vectorOf r ≡ countsOf log
   pub rises : depth (parentsOf log) (parentOf r) < depth (parentsOf log) (nodeOf r)
 
-module _ (log more : Log) (late : Late log more) (good : GoodLog log) (goodMore : GoodLog more)
+module _ (log more : Log) (late : Late log more) (good : GoodLog log) (good-more : GoodLog more)
     (truth : (s : ℕ) → New log more s → TrueUp log (newOp log more s)) where
   abbrev held : List ℕ
   held = countsOf log
 
   abbrev now : ℕ
-  now = suc (top log more late good goodMore)
+  now = suc (top log more late good good-more)
 
   abbrev ops : ℕ → ℕ → List Stamped
   ops = readyOp more now (readyOps more (countsOf more) held)
@@ -73,7 +73,7 @@ module _ (log more : Log) (late : Late log more) (good : GoodLog log) (goodMore 
     r = newOp log more s
 
     held-op : HeldOp more s (countIn held s + 1) r
-    held-op = good-ops goodMore s (countIn held s + 1) (a .low) (a .high) (omega arith) (omega (arith, a .beyond))
+    held-op = good-ops good-more s (countIn held s + 1) (a .low) (a .high) (omega arith) (omega (arith, a .beyond))
 
     is-kind : kindOf r ≡ 3
     is-kind = truth s a .upward
@@ -108,16 +108,16 @@ module _ (log more : Log) (late : Late log more) (good : GoodLog log) (goodMore 
 
     slot-in : nextSlot log s < slots
     unfolding nextSlot slot
-    slot-in = omega (arith, a .low, a .high, a .beyond, goodMore .counts s (a .low) (a .high))
+    slot-in = omega (arith, a .low, a .high, a .beyond, good-more .counts s (a .low) (a .high))
 
     ready : (k : ℕ) → ops k s ≡ cond (eqb 3 k) (it s ∷ []) []
-    ready k = late-ready log more late good goodMore k s (a .low) (a .high) (a .beyond) ∙ rw is-kind
+    ready k = late-ready log more late good good-more k s (a .low) (a .high) (a .beyond) ∙ rw is-kind
 
   slots-apart : (s t : ℕ) → New log more s → New log more t → (s ≡ t → ⊥) → nextSlot log s ≡ nextSlot log t → ⊥
   unfolding nextSlot slot
   slots-apart s t a b ne e =
-      let most-s = goodMore .counts s (a .low) (a .high) in
-      let most-t = goodMore .counts t (b .low) (b .high) in
+      let most-s = good-more .counts s (a .low) (a .high) in
+      let most-t = good-more .counts t (b .low) (b .high) in
       ne (omega (arith, a .low, a .beyond, b .low, b .beyond))
 
   ---- their level
@@ -130,7 +130,7 @@ module _ (log more : Log) (late : Late log more) (good : GoodLog log) (goodMore 
 
   idle : (s k : ℕ) → 1 ≤ s → s ≤ 8 → (New log more s → ⊥) → ops k s ≡ []
   idle s k l u none =
-      late-empty log more late good goodMore k s l u (elim (decLe (countIn (countsOf more) s) (countIn held s)) [
+      late-empty log more late good good-more k s l u (elim (decLe (countIn (countsOf more) s) (countIn held s)) [
         | yes h ↦ omega (arith, late .extends .counts s l u)
         | no h ↦ absurd (none (record { low = l; high = u; beyond = omega arith }))
       ])
@@ -238,10 +238,10 @@ module _ (log more : Log) (late : Late log more) (good : GoodLog log) (goodMore 
       abbrev hung : List ℕ
       hung = set (st .parents) (slotOf n₀) (parentOf r₀)
 
-      abbrev marked : List ℕ
-      marked = set (st .placed) (slotOf n₀) now
+      abbrev placing : List ℕ
+      placing = set (st .placed) (slotOf n₀) now
 
-      placed-now : (m : ℕ) → Mover log more n m → getD marked (slotOf m) 0 ≡ now
+      placed-now : (m : ℕ) → Mover log more n m → getD placing (slotOf m) 0 ≡ now
       placed-now m q = elim (ℕ-discrete (slotOf m) (slotOf n₀)) [
         | yes z ↦ rw z (getD-set-same (st .placed) (slotOf n₀) now 0 (omega (arith, t .full .placed-full, in-table)))
         | no nz ↦ rw (getD-set-other (st .placed) (slotOf n₀) (slotOf m) now 0 nz) (elim (ℕ-discrete (q .0) s₀) [
@@ -250,7 +250,7 @@ module _ (log more : Log) (late : Late log more) (good : GoodLog log) (goodMore 
         ])
       ]
 
-      only-now : (m : ℕ) → Valid m → getD marked (slotOf m) 0 ≡ now → Mover log more n m
+      only-now : (m : ℕ) → Valid m → getD placing (slotOf m) 0 ≡ now → Mover log more n m
       only-now m v q = elim (ℕ-discrete m n₀) [
         | yes z ↦ (s₀, omega arith, a, sym z)
         | no nz ↦
@@ -318,7 +318,7 @@ module _ (log more : Log) (late : Late log more) (good : GoodLog log) (goodMore 
 
   after-all : JudgedAbove 0 (replay more (countsOf more))
   unfolding replay
-  after-all = rw (ordered-late log more late good goodMore, only-upward, foldl-append) (judge-all 8 (le-refl 8) _ before)
+  after-all = rw (ordered-late log more late good good-more, only-upward, foldl-append) (judge-all 8 (le-refl 8) _ before)
 
   ---- what the new ops come to
 
