@@ -1,48 +1,20 @@
--- The ops of a log as one list; a log whose ops are those of another and new ones.
-use Prim.Native.Nat.{ℕ, zero, suc, _+_, _-_, _≤_, _<_}
-use lib.ListN.{length, getD, set}
-use mathlib.Core.Bool.{Bool, true, _||_, or-assoc, or-comm}
-use mathlib.Core.List.{List, [], _∷_, _++_}
+-- A log whose ops are those of another and new ones.
+use Prim.Native.Nat.{ℕ, _+_, _≤_, _<_}
+use mathlib.Core.Bool.{true}
+use mathlib.Core.List.{List, _++_}
 use mathlib.Core.Logic.{⊎-elim}
-use mathlib.Core.Path.{_≡_, sym, ap, _∙_}
-use native.Mathlib.Nat.{le-of-suc-le-suc, not-suc-le-zero, le-refl}
+use mathlib.Core.Path.{_≡_, sym, _∙_}
+use native.Mathlib.Nat.{le-refl}
 use native.Mathlib.Decide.{decLe}
 use native.Mathlib.Omega.{arith}
-use Rattle.convergence.proofs.HasLaws.{has-append, has-last, has-old, has-right, has-either}
+use Rattle.convergence.proofs.HasLaws.{has-old, has-right, has-either}
 use Rattle.rules.proofs.InLaws.{OpIn, op-in}
 use Rattle.convergence.proofs.TrackLaws.{tracks-log}
 use Rattle.convergence.specs.Exchange.{has}
-use Rattle.rules.specs.File.{Extends, Log, opsOf, opAt, countsOf, append}
+use Rattle.rules.specs.File.{Extends, Log, opAt, countsOf}
 use Rattle.rules.proofs.StructureLaws.{GoodLog, HeldOp, good-ops}
-use Rattle.lists.specs.Lists.{any, concat, same}
+use Rattle.lists.specs.Lists.{concat}
 use Rattle.rules.specs.Op.{Op, countIn, replicaOf, seqOf}
-
-or-swap : (a b c : Bool) → (a || (b || c)) ≡ (b || (a || c))
-or-swap a b c = sym (or-assoc a b c) ∙ ap (λ d. d || c) (or-comm a b) ∙ or-assoc b a c
-
-pub has-swap : (r r′ : Op) (ops : List Op) (z : Op) → has (r ∷ r′ ∷ ops) z ≡ has (r′ ∷ r ∷ ops) z
-unfolding has any
-has-swap r r′ ops z = or-swap (same z r) (same z r′) (has ops z)
-
----- one op more
-
-has-set : (log : Log) (i : ℕ) (r z : Op) → i < length log
-    → has (concat (set log i (getD log i [] ++ (r ∷ [])))) z ≡ (same z r || has (concat log) z)
-unfolding concat
-has-set [] i r z h = absurd (not-suc-le-zero h)
-has-set (ops ∷ log) zero r z h =
-    rw (has-append (ops ++ (r ∷ [])) (concat log) z, has-append ops (concat log) z, has-last ops r z, or-comm (has ops z) (same z r))
-    (or-assoc (same z r) (has ops z) (has (concat log) z))
-has-set (ops ∷ log) (suc i) r z h =
-    rw (has-append ops (concat log) z, has-append ops (concat (set log i (getD log i [] ++ (r ∷ [])))) z)
-    (rw (has-set log i r z (le-of-suc-le-suc h)) (or-swap (has ops z) (same z r) (has (concat log) z)))
-
-pub has-more : (log : Log) (r z : Op) → length log ≡ 8 → 1 ≤ replicaOf r → replicaOf r ≤ 8
-    → has (concat (append log r)) z ≡ (same z r || has (concat log) z)
-unfolding append opsOf
-has-more log r z e l u = has-set log (replicaOf r - 1) r z (omega arith)
-
----- new ops
 
 -- the ops of more are those of log and new ones
 module _ (log more : Log) (good : GoodLog log) (good-more : GoodLog more) (new : List Op)

@@ -6,17 +6,17 @@ use mathlib.Core.Bool.{Bool, true, false, _||_, or-assoc, or-comm}
 use mathlib.Core.List.{List, [], _∷_, _++_}
 use mathlib.Core.Path.{_≡_, refl, sym, ap, _∙_}
 use native.Mathlib.Omega.{arith}
-use Rattle.convergence.proofs.AddedLaws.{has-more, has-swap}
 use Rattle.convergence.proofs.HasLaws.{has-append, has-last}
+use Rattle.convergence.proofs.TrackLaws.{tracks-append, tracks-listed, tracks-log}
 use Rattle.convergence.specs.Clash.{Arrives, OnlyAdded}
 use Rattle.convergence.specs.Exchange.{Call, issue, deliver, answer, bufferAfter, has}
-use Rattle.rules.proofs.AppendLaws.{Admits, extends, extends-refl, in-range, ops-other}
+use Rattle.rules.proofs.AppendLaws.{Admits, extends, extends-refl, good-append, in-range, ops-other, own-next}
 use Rattle.rules.proofs.DeliverLaws.{Admitted, admitted, appended-log, appended-end, appended-length, appended-sound}
 use Rattle.rules.proofs.IssueLaws.{allowed, issue-admitted}
 use Rattle.rules.proofs.SoundLaws.{sound-good}
-use Rattle.rules.proofs.StructureLaws.{GoodLog, count-held}
+use Rattle.rules.proofs.StructureLaws.{GoodLog, count-held, good-ops}
 use Rattle.rules.specs.Answer.{accepted, require}
-use Rattle.lists.specs.Lists.{concat, same}
+use Rattle.lists.specs.Lists.{any, concat, same}
 use Rattle.rules.specs.Deliver.{isHeld, deliverAnswer, deliverBuffer}
 use Rattle.rules.specs.Issue.{Request, issued, issueAnswer, issueBuffer}
 use Rattle.rules.specs.File.{Log, logOf, width, countsOf, fileEnd, append, appended, Extends}
@@ -70,21 +70,26 @@ none-added f b is-sound one-log = record { is-sound = is-sound; ops = λ z. rw o
 
 -- one op more
 module _ (f b : List ℕ) (new : List Op) (only : OnlyAdded f b new) (r : Op) (n : ℕ) (h : Admitted width b r n) where
-  or-turn : (a c d : Bool) → (a || (c || d)) ≡ ((c || a) || d)
-  or-turn a c d = sym (or-assoc a c d) ∙ ap (λ t. t || d) (or-comm a c)
+  or-turn : (a c d : Bool) → ((a || d) || c) ≡ ((a || c) || d)
+  or-turn a c d = or-assoc a d c ∙ ap (λ t. a || t) (or-comm d c) ∙ sym (or-assoc a c d)
 
   more-ops : (z : Op) → has (concat (logOf width (appended width b r))) z ≡ has ((new ++ (r ∷ [])) ++ concat (logOf width f)) z
   more-ops z =
+      let log : Log = logOf width b in
       let good = sound-good width b (h .is-sound) in
-      let range = in-range (logOf width b) r good (h .admits) in
+      let good-then = good-append log r good (h .admits) in
+      let range = in-range log r good (h .admits) in
+      let listed = tracks-append log r (good .eight) (range .0) (range .1) (own-next log r good (h .admits)) (concat log)
+      (tracks-log log good) in
       rw (
         appended-log width b r n h,
-        has-more (logOf width b) r z (good .eight) (range .0) (range .1),
+        tracks-listed (append log r) (good-ops good-then) (good-then .eight) z (concat log ++ (r ∷ [])) listed,
+        has-last (concat log) r z,
         only .ops z,
         has-append new (concat (logOf width f)) z,
         has-append (new ++ (r ∷ [])) (concat (logOf width f)) z,
         has-last new r z,
-      ) (or-turn (same z r) (has new z) (has (concat (logOf width f)) z))
+      ) (or-turn (has new z) (same z r) (has (concat (logOf width f)) z))
 
   pub one-more : OnlyAdded f (appended width b r) (new ++ (r ∷ []))
   one-more = record { is-sound = appended-sound width b r n h; ops = more-ops }
@@ -148,6 +153,13 @@ module _ (f : List ℕ) (good : GoodLog (logOf width f)) (s s′ : ℕ) (r r′ 
         }
 
 -- which of the two is named first does not matter
+has-swap : (r r′ : Op) (ops : List Op) (z : Op) → has (r ∷ r′ ∷ ops) z ≡ has (r′ ∷ r ∷ ops) z
+unfolding has any
+has-swap r r′ ops z =
+    let a : Bool = same z r in
+    let b : Bool = same z r′ in
+    sym (or-assoc a b (has ops z)) ∙ ap (λ t. t || has ops z) (or-comm a b) ∙ or-assoc b a (has ops z)
+
 pub arrives-back : (f b : List ℕ) (r r′ : Op) (one next : Call) → Arrives f b r′ r one next → Arrives f b r r′ one next
 arrives-back f b r r′ one next a = record {
   one-accepted = a .one-accepted;
