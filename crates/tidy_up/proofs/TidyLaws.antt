@@ -111,7 +111,7 @@ module _ (log more : Log) (good : GoodLog log) (good-more : GoodLog more) (ops :
         let (z, i, n, above) = outranking ops r e in
         (replicaOf z, above, is-new z i, ap nodeOf (op-is z i) ∙ n)
 
-    pub outcome-is : outcomeIn more r ≡ cond (any (outranks r) ops) 2 1
+    outcome-is : outcomeIn more r ≡ cond (any (outranks r) ops) 2 1
     unfolding outcomeIn
     outcome-is =
         let fair = rw (slot-is r h, op-is r h) at (fair-outcome log more late good good-more truth (replicaOf r) (is-new r h)) in
