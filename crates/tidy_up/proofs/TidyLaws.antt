@@ -26,8 +26,9 @@ use Rattle.convergence.specs.Clash.{nextSlot}
 use Rattle.convergence.specs.Exchange.{has, times}
 use Rattle.convergence.proofs.AddedLaws.{new-extends, new-op, new-there, one-of-new}
 use Rattle.convergence.proofs.HasLaws.{all-has, any-has, each-has, has-any, map-has, times-none, times-once}
+use Rattle.convergence.proofs.TrackLaws.{tracks-log}
 use Rattle.tidy_up.specs.TidyUp.{HighestWins, appliedTo, noneLost, oneApplied, outcomeIn, outranks}
-use Rattle.tidy_up.proofs.UpwardLaws.{Mover, New, TrueUp, fair-outcome, moved-there, newOp, stayed-there}
+use Rattle.tidy_up.proofs.UpwardLaws.{Mover, New, TrueUp, fair-outcome, moved-there, newOp, old-there, stayed-there}
 
 -- ops of different replicas stand in a list once
 stand-once : (ops : List Op) (r : Op) → Distinct (map replicaOf ops) → times ops r ≤ 1
@@ -134,8 +135,12 @@ module _ (log more : Log) (good : GoodLog log) (good-more : GoodLog more) (ops :
       stayed-there log more late good good-more truth n valid (λ s a is.
       never (sym e ∙ rw is at (map-has nodeOf ops (newOp log more s) (is-one s a))))
 
+  old-outcome : (r : Op) → has (concat log) r ≡ true → outcomeIn more r ≡ outcomeIn log r
+  unfolding outcomeIn
+  old-outcome r h = old-there log more late good good-more truth r (tracks-log log good .inside r h)
+
   pub highest-wins : HighestWins log more ops
-  highest-wins = record { outcome = outcome-is; moved = moved; stayed = stayed }
+  highest-wins = record { outcome = outcome-is; old-outcome = old-outcome; moved = moved; stayed = stayed }
 
   ---- none is lost
 

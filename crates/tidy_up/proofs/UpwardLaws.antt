@@ -16,10 +16,11 @@ use Rattle.lists.specs.Lists.{concat, downFrom, upFrom}
 use Rattle.lists.proofs.RangeLaws.{concat-none}
 use Rattle.rules.specs.File.{Log, countsOf, opAt}
 use Rattle.rules.specs.Log.{namesKnown}
-use Rattle.rules.specs.Op.{Op, countIn, isMove, kindOf, nodeOf, parentOf, vectorOf}
+use Rattle.rules.specs.Op.{Op, countIn, isMove, kindOf, nodeOf, parentOf, replicaOf, vectorOf}
 use Rattle.rules.specs.Replay.{Stamped, State, outcomeSlot, outcomesOf, parentsOf, replay, step}
 use Rattle.rules.specs.Tree.{depth, noParent, slot, slotOf, slots}
-use Rattle.rules.proofs.AppendLaws.{names-more, same-within}
+use Rattle.rules.proofs.AppendLaws.{names-more, same-within, seq-positive}
+use Rattle.rules.proofs.InLaws.{OpIn}
 use Rattle.rules.proofs.KnownLaws.{Known, Named, known-reads, named-valid, names-move, names-node}
 use Rattle.rules.proofs.SlotLaws.{Valid, slot-below, slot-injective}
 use Rattle.rules.proofs.StepLaws.{Full, applied, applies, full-step, passed-over, placed-already, tables-full}
@@ -155,6 +156,8 @@ module _ (log more : Log) (late : Late log more) (good : GoodLog log) (good-more
     placed-if : (m : ℕ) → Mover log more n m → getD (st .placed) (slotOf m) 0 ≡ now
     placed-only : (m : ℕ) → Valid m → getD (st .placed) (slotOf m) 0 ≡ now → Mover log more n m
     fair : (s : ℕ) → n < s → New log more s → Fair s (getD (st .outcomes) (nextSlot log s) 0)
+    old-outcome : (i : ℕ) → ((s : ℕ) → n < s → New log more s → nextSlot log s ≡ i → ⊥)
+        → getD (st .outcomes) i 0 ≡ getD (outcomesOf log) i 0
     moved : (s : ℕ) → n < s → New log more s → (Mover log more s (node s) → ⊥)
         → getD (st .parents) (slotOf (node s)) noParent ≡ parentOf (newOp log more s)
     stayed : (i : ℕ) → ((s : ℕ) → n < s → New log more s → slotOf (node s) ≡ i → ⊥)
@@ -171,6 +174,7 @@ module _ (log more : Log) (late : Late log more) (good : GoodLog log) (good-more
     placed-if = λ m p. t .placed-if m (p .0, higher (p .0) (p .1) (p .2), p .2, p .3);
     placed-only = λ m v e. lower n m (t .placed-only m v e);
     fair = λ s h a. t .fair s (higher s h a) a;
+    old-outcome = λ i none. t .old-outcome i (λ s h. none s (omega arith));
     moved = λ s h a. t .moved s (higher s h a) a;
     stayed = λ i none. t .stayed i (λ s h. none s (omega arith));
   }
@@ -204,6 +208,12 @@ module _ (log more : Log) (late : Late log more) (good : GoodLog log) (good-more
           (t .fair s (omega arith) b)
     ])
 
+    old-set : (o i : ℕ) → ((s : ℕ) → n < s → New log more s → nextSlot log s ≡ i → ⊥)
+        → getD (set (st .outcomes) (outcomeSlot r₀) o) i 0 ≡ getD (outcomesOf log) i 0
+    old-set o i none =
+        let apart : i ≡ nextSlot log s₀ → ⊥ = λ z. none s₀ (omega arith) a (sym z) in
+        rw (slot-is s₀ a, getD-set-other (st .outcomes) (nextSlot log s₀) i o 0 apart) (t .old-outcome i (λ s h. none s (omega arith)))
+
     -- its node was placed by a higher replica
     judge-second : getD (st .placed) (slotOf n₀) 0 ≡ now → JudgedAbove n (step st (it s₀))
     judge-second e =
@@ -220,6 +230,7 @@ module _ (log more : Log) (late : Late log more) (good : GoodLog log) (good-more
           ];
           placed-only = λ m v q. lower n m (t .placed-only m v q);
           fair = outcomes-set 2 (inr (refl, p));
+          old-outcome = old-set 2;
           moved = λ s h b free. elim (ℕ-discrete s s₀) [
             | yes z ↦ absurd (rw z at free p)
             | no nz ↦ t .moved s (omega arith) b free
@@ -288,6 +299,7 @@ module _ (log more : Log) (late : Late log more) (good : GoodLog log) (good-more
             placed-if = placed-now;
             placed-only = only-now;
             fair = outcomes-set 1 (inl (refl, not-moved));
+            old-outcome = old-set 1;
             moved = moved-now;
             stayed = stayed-now;
           })
@@ -305,13 +317,14 @@ module _ (log more : Log) (late : Late log more) (good : GoodLog log) (good-more
       (new-or-not (suc n) (omega arith) h)))
 
   before : JudgedAbove 8 (replay log held)
-  unfolding parentsOf top
+  unfolding parentsOf outcomesOf top
   before = record {
     full = tables-full log held;
     falls = falls-first log good;
     placed-if = λ m q. absurd (omega (arith, q .1, q .2 .high));
     placed-only = λ m v q. absurd (omega (arith, placed-by log held (slotOf m)));
     fair = λ s h a. absurd (omega (arith, a .high));
+    old-outcome = λ i none. refl;
     moved = λ s h a. absurd (omega (arith, a .high));
     stayed = λ i none. refl;
   }
@@ -325,6 +338,16 @@ module _ (log more : Log) (late : Late log more) (good : GoodLog log) (good-more
   pub fair-outcome : (s : ℕ) → New log more s → Fair s (getD (outcomesOf more) (nextSlot log s) 0)
   unfolding outcomesOf
   fair-outcome s a = after-all .fair s (a .low) a
+
+  -- an op of the log has another slot than the new ones
+  pub old-there : (r : Op) → OpIn log r → getD (outcomesOf more) (outcomeSlot r) 0 ≡ getD (outcomesOf log) (outcomeSlot r) 0
+  unfolding outcomesOf outcomeSlot nextSlot slot
+  old-there r i = after-all .old-outcome (outcomeSlot r) (λ s h a e.
+      let most = good-more .counts s (a .low) (a .high) in
+      elim (ℕ-discrete s (replicaOf r)) [
+        | yes z ↦ omega (arith, i .here, ap (countIn held) z)
+        | no nz ↦ nz (omega (arith, a .low, a .beyond, i .low, i .here, good .counts (replicaOf r) (i .low) (i .high), seq-positive r))
+      ])
 
   pub moved-there : (s : ℕ) → New log more s → (Mover log more s (node s) → ⊥)
       → getD (parentsOf more) (slotOf (node s)) noParent ≡ parentOf (newOp log more s)

@@ -5,7 +5,7 @@ use mathlib.Core.List.{List, [], _∷_, _++_, map}
 use mathlib.Core.Path.{_≡_}
 use lib.ListN.{length, getD}
 use lib.Dec.{eqb, ltb}
-use Rattle.lists.specs.Lists.{all, any, filter, isIn}
+use Rattle.lists.specs.Lists.{all, any, concat, filter, isIn}
 use Rattle.rules.specs.Answer.{accepted}
 use Rattle.rules.specs.Bundle.{turnsAnswer, turnsBuffer}
 use Rattle.rules.specs.File.{Log, countsOf, fileEnd, logOf, width}
@@ -75,10 +75,11 @@ TidyUp =
 unfoldable pub outranks : Op → Op → Bool
 outranks r z = eqb (nodeOf z) (nodeOf r) && ltb (replicaOf r) (replicaOf z)
 
--- the highest replica's move of a node is applied, and the others have outcome 2; a node that is moved hangs where its applied move puts
--- it, and every other where it did
+-- the highest replica's move of a node is applied, and the others have outcome 2; every op of the log has the outcome that it had. A node
+-- that is moved hangs where its applied move puts it, and every other where it did
 pub record HighestWins (log more : Log) (ops : List Op) : Type 0 where
   pub outcome : (r : Op) → has ops r ≡ true → outcomeIn more r ≡ cond (any (outranks r) ops) 2 1
+  pub old-outcome : (r : Op) → has (concat log) r ≡ true → outcomeIn more r ≡ outcomeIn log r
   pub moved : (r : Op) → has ops r ≡ true → any (outranks r) ops ≡ false → parentIn (parentsOf more) (nodeOf r) ≡ parentOf r
   pub stayed : (n : ℕ) → knownParent log (countsOf log) n ≡ true → isIn n (map nodeOf ops) ≡ false
       → parentIn (parentsOf more) n ≡ parentIn (parentsOf log) n
