@@ -86,8 +86,8 @@ pub record HighestWins (log more : Log) (ops : List Op) : Type 0 where
 
 abbrev pub TidiedTree : Type 0
 TidiedTree =
-    (f : List ℕ) → sound width f ≡ true → (ops : List Op) → UpwardMoves (logOf width f) ops
-    → (h : List ℕ) → OnlyAdded f h ops → HighestWins (logOf width f) (logOf width h) ops
+    (f : List ℕ) → sound width f ≡ true → (ops : List Op) → UpwardMoves (logOf width f) ops → (h : List ℕ)
+    → OnlyAdded f h ops → HighestWins (logOf width f) (logOf width h) ops
 
 ---- how they come to one buffer
 
