@@ -8,7 +8,8 @@ use mathlib.Core.Logic.{⊎-elim}
 use mathlib.Core.Path.{refl, sym, ap, _≡_, _∙_}
 use native.Mathlib.Omega.{arith}
 use Rattle.rules.specs.File.{Log, logOf, width}
-use Rattle.rules.specs.Issue.{issueBuffer}
+use Rattle.rules.specs.Answer.{accepted}
+use Rattle.rules.specs.Issue.{issueAnswer, issueBuffer}
 use Rattle.rules.specs.Op.{Op, kindOf, replicaOf}
 use Rattle.rules.specs.Replay.{parentsOf}
 use Rattle.rules.specs.Tree.{depth}
@@ -16,11 +17,11 @@ use Rattle.rules.proofs.IssueLaws.{allowed, issue-admitted}
 use Rattle.rules.proofs.PutOutLaws.{NextOp, put-out, put-out-next}
 use Rattle.rules.proofs.SoundLaws.{sound-good}
 use Rattle.rules.proofs.StructureLaws.{GoodLog}
-use Rattle.convergence.specs.Clash.{Move, request}
+use Rattle.convergence.specs.Clash.{Move, putOut, request}
 use Rattle.convergence.specs.Exchange.{has}
 use Rattle.convergence.proofs.ArriveLaws.{none-added, one-more}
 use Rattle.convergence.proofs.HasLaws.{has-cases, has-none}
-use Rattle.convergence.proofs.MoveLaws.{Asked, asked, drawn, opOf, upward}
+use Rattle.convergence.proofs.MoveLaws.{asked, drawn, opOf, upward}
 use Rattle.tidy_up.specs.Examples.{after, before, threeMoves, tidied, worked}
 use Rattle.tidy_up.specs.TidyUp.{AllArrive, EachIssuedUp, IssuedUp, OwnIsThere, TidiedTree, TidyUp, UpwardMoves, noneLost, oneApplied}
 use Rattle.tidy_up.proofs.ComingLaws.{all-come}
@@ -34,49 +35,62 @@ each-up log [] h r i = has-none r i
 each-up log (x ∷ ops) h r i = ⊎-elim
     (λ (e : r ≡ x). rw e (h .0)) (λ (e : has ops r ≡ true). each-up log ops (h .1) r e) (has-cases x ops r i)
 
+-- what an accepted issue of a move put out
+module _ (b out : List ℕ) (x : Move) (end : ℕ) (ok : issueAnswer width b (length out) (x .replica) (request x) ≡ accepted end) where
+  abbrev there : Log
+  there = logOf width b
+
+  good : GoodLog there
+  good = sound-good width b (issue-admitted b (length out) (x .replica) (request x) end ok .is-sound)
+
+  op-is : opOf there x ≡ putOut b out x
+  op-is = sym (put-out b out (x .replica) (request x) end ok)
+
+  origin : replicaOf (putOut b out x) ≡ x .replica
+  origin = ap replicaOf (sym op-is) ∙ drawn there good x .origin
+
+  put-range : (1 ≤ replicaOf (putOut b out x)) × (replicaOf (putOut b out x) ≤ 8)
+  put-range =
+      let a = asked width b (length out) end x (allowed width b (length out) (x .replica) (request x) end ok) in
+      rw origin (a .low, a .high)
+
+  put-next : NextOp there (replicaOf (putOut b out x)) (putOut b out x)
+  put-next = rw origin (put-out-next b out (x .replica) (request x) end ok)
+
+  module _ (up : kindOf (putOut b out x) ≡ 3) where
+    -- its kind is what the depths say
+    rising : depth (parentsOf there) (x .parent) < depth (parentsOf there) (x .node)
+    rising = ltb-true _ _ (go (upward there x) (sym (drawn there good x .kind) ∙ ap kindOf op-is ∙ up))
+      where
+        go : (b : Bool) → _≡_ {A = ℕ} (cond b 3 4) 3 → b ≡ true
+        go true e = refl
+        go false e = absurd (omega arith)
+
+    put-true : TrueUp there (putOut b out x)
+    put-true =
+        let d = drawn there good x in
+        let it : TrueUp there (opOf there x) =
+        record { upward = ap kindOf op-is ∙ up; saw = d .vector; rises = rw (d .parent-is, d .node-is) rising } in
+        rw op-is at it
+
+-- from a buffer to the very log that it holds, and from the bytes there to the op
+transfer : (P : Log → Op → Type 0) {a b : Log} {r z : Op} → a ≡ b → r ≡ z → P a r → P b z
+transfer P e f p = rw (e, f) at p
+
 module _ (log : Log) (r : Op) (u : IssuedUp log r) where
-  abbrev x : Move
-  x = u .asked
-
-  good : GoodLog log
-  good =
-      rw (u .very-log) at (sound-good width (u .buffer)
-      (issue-admitted (u .buffer) (length (u .out)) (x .replica) (request x) (u .end) (u .taken) .is-sound))
-
-  op-is : opOf log x ≡ r
-  op-is =
-      ap (λ t. opOf t x) (sym (u .very-log))
-      ∙ sym (put-out (u .buffer) (u .out) (x .replica) (request x) (u .end) (u .taken)) ∙ u .put
-
-  let-through : Asked log x
-  let-through =
-      rw (u .very-log) at (asked width (u .buffer) (length (u .out)) (u .end) x
-      (allowed width (u .buffer) (length (u .out)) (x .replica) (request x) (u .end) (u .taken)))
-
-  -- its kind is what the depths say
-  rising : depth (parentsOf log) (x .parent) < depth (parentsOf log) (x .node)
-  rising = ltb-true _ _ (go (upward log x) (sym (drawn log good x .kind) ∙ ap kindOf op-is ∙ u .upward))
-    where
-      go : (b : Bool) → _≡_ {A = ℕ} (cond b 3 4) 3 → b ≡ true
-      go true e = refl
-      go false e = absurd (omega arith)
-
   issued-true : TrueUp log r
   issued-true =
-      let d = drawn log good x in
-      let it : TrueUp log (opOf log x) =
-      record { upward = ap kindOf op-is ∙ u .upward; saw = d .vector; rises = rw (d .parent-is, d .node-is) rising } in
-      rw op-is at it
-
-  origin : replicaOf r ≡ x .replica
-  origin = ap replicaOf (sym op-is) ∙ drawn log good x .origin
+      transfer TrueUp (u .very-log) (u .put)
+      (put-true (u .buffer) (u .out) (u .asked) (u .end) (u .taken) (ap kindOf (u .put) ∙ u .upward))
 
   issued-range : (1 ≤ replicaOf r) × (replicaOf r ≤ 8)
-  issued-range = rw origin (let-through .low, let-through .high)
+  issued-range =
+      transfer (λ l z. (1 ≤ replicaOf z) × (replicaOf z ≤ 8)) (u .very-log) (u .put)
+      (put-range (u .buffer) (u .out) (u .asked) (u .end) (u .taken))
 
   issued-next : NextOp log (replicaOf r) r
   issued-next =
-      rw (u .very-log, u .put, ← origin) at (put-out-next (u .buffer) (u .out) (x .replica) (request x) (u .end) (u .taken))
+      transfer (λ l z. NextOp l (replicaOf z) z) (u .very-log) (u .put) (put-next (u .buffer) (u .out) (u .asked) (u .end) (u .taken))
 
 ---- the theorems
 
