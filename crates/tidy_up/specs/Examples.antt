@@ -1,11 +1,11 @@
 -- A tidy-up worked out, and what takes the promise away.
-use Prim.Native.Nat.{ℕ}
+use Prim.Native.Nat.{ℕ, _+_}
 use lib.ListN.{getD, replicate}
 use mathlib.Core.Bool.{Bool, true, false, _||_, or-true}
 use mathlib.Core.List.{List, [], _∷_, _++_}
 use mathlib.Core.Path.{_≡_, refl}
 use native.Mathlib.Omega.{arith}
-use Rattle.rules.specs.Answer.{require}
+use Rattle.rules.specs.Answer.{accepted, require}
 use Rattle.rules.specs.Bytes.{wordAt, word}
 use Rattle.lists.specs.Lists.{upFrom, downFrom, sum, greatest, same, concat, all, any, filter, isIn}
 use Rattle.rules.specs.Bundle.{turnsBuffer}
@@ -18,7 +18,7 @@ use Rattle.rules.specs.Marks.{isKnown, isMarked, marked, nodeWithin, knowledge}
 use Rattle.rules.specs.Op.{Op, replicas, isReplica, countIn, kindOf, replicaOf, nodeOf, parentOf, vectorOf, ownCount, seqOf, nodeNumber, isAdd, isRemove, isMove, wellFormed}
 use Rattle.rules.specs.Replay.{opsWithin, addedIn, removedIn, timestampIn, timestamp, stamp, stamped, ofReplica, ofKind, ofTime, byTime, ordered, start, outcomeSlot, outcomeOf, step, replay, parentsOf, outcomesOf}
 use Rattle.rules.specs.Sound.{sound}
-use Rattle.rules.specs.Examples.{adds, ofOps, p10, p11, p11All, p12, siblings, three, vector}
+use Rattle.rules.specs.Examples.{adds, ofOps, p10, p10Adds, p11, p11All, p12, siblings, three, vector}
 use Rattle.convergence.specs.Clash.{Move, OnlyAdded}
 use Rattle.convergence.specs.Exchange.{has}
 use Rattle.tidy_up.specs.TidyUp.{UpwardMoves, appliedTo, noneLost, oneApplied, outcomeIn}
@@ -48,8 +48,14 @@ tidied = crowded (up₁ ∷ []) (up₂ ∷ []) (up₃ ∷ [])
 abbrev over : Op
 over = opBytes 3 1 258 259 (vector 4 0 0)
 
+abbrev under : Op
+under = opBytes 4 2 259 258 (vector 3 0 0)
+
+unfoldable pub firstThree : Log
+firstThree = three [] (adds 1 1 0 (vector 0 0 0) ∷ adds 1 2 257 (vector 1 0 0) ∷ adds 1 3 0 (vector 2 0 0) ∷ []) [] []
+
 unfoldable pub further : Log
-further = p12 (over ∷ []) (opBytes 4 2 259 258 (vector 3 0 0) ∷ [])
+further = p12 (over ∷ []) (under ∷ [])
 
 -- 257 and 513 by replicas that had not met; replicas 1 and 2, which have then, move 257 to the root, where it is. Replica 3 has met 257
 -- alone, and moves it there too: upward, and with the timestamp of the others
@@ -59,8 +65,11 @@ stay₁ = opBytes 3 1 257 0 (vector 1 1 0)
 abbrev stay₂ : Op
 stay₂ = opBytes 3 2 257 0 (vector 1 1 0)
 
-unfoldable pub unmet : List Op → Log
-unmet three′ = three [] (adds 1 1 0 (vector 0 0 0) ∷ stay₁ ∷ []) (adds 2 1 0 (vector 0 0 0) ∷ stay₂ ∷ []) three′
+abbrev stay₃ : Op
+stay₃ = opBytes 3 3 257 0 (vector 1 0 0)
+
+unfoldable pub unmet : List Op → List Op → List Op → Log
+unmet one two three′ = three [] (adds 1 1 0 (vector 0 0 0) ∷ one) (adds 2 1 0 (vector 0 0 0) ∷ two) three′
 
 -- replica 2 takes the fete under the news, and then to the root
 abbrev again : Op
@@ -82,7 +91,7 @@ unissued = three [] (siblings 1 (λ k. vector k 0 0)) (said₂ ∷ []) (said₃ 
 ---- rows
 
 pub data Row : Type 0 where
-  -- a replica that issues a move of a node to a parent at a log puts out this op
+  -- a replica that issues a move of a node to a parent, where a log lies with room for it, is accepted and puts out this op
   puts : Log → (replica node parent : ℕ) → Op → Row
   -- the outcomes of all ops of a log, and the parents of nodes
   outcomes : Log → List (List ℕ) → Row
@@ -93,7 +102,9 @@ pub data Row : Type 0 where
   isSound : Log → Row
 
 abbrev pub Holds : Row → Type 0
-Holds (puts log s n p r) = issued log s (move n p) ≡ r
+Holds (puts log s n p r) =
+    let f = fileOf width log ++ replicate width 7 in
+    (issueAnswer width f width s (move n p) ≡ accepted (fileEnd width f + width)) × (issued log s (move n p) ≡ r)
 Holds (outcomes log os) = ofOps (λ s q. getD (outcomesOf log) (slot s q) 0) log ≡ os
 Holds (hangs log n p) = parentIn (parentsOf log) n ≡ p
 Holds (promised log ops none one) = (noneLost log ops ≡ none) × (oneApplied log ops ≡ one)
@@ -116,22 +127,29 @@ table =
     ∷ promised (crowded [] [] []) [] true true
     -- "P11 shows an upward move that loses": replica 1's second move; it saw one move more than the siblings
     ∷ puts (p11 (opAt p11All 1 1 ∷ []) []) 1 769 770 (opAt p11All 1 2)
+    ∷ puts (p11 [] (opAt p11All 2 1 ∷ [])) 2 770 769 (opAt p11All 2 2)
     ∷ promised p11All (opAt p11All 1 2 ∷ opAt p11All 2 2 ∷ []) false false
     -- "one further move by anybody can take this away": a downward one, after which the upward one has outcome 3
     ∷ puts (p12 [] []) 1 258 259 over
     ∷ promised (p12 (over ∷ []) []) (over ∷ []) true true
+    ∷ puts firstThree 2 259 258 under
     ∷ isSound further
     ∷ promised further (over ∷ []) false false
     -- and an upward one, after which of the two that move 257 none is applied
-    ∷ promised (unmet []) (stay₁ ∷ stay₂ ∷ []) true true
-    ∷ isSound (unmet (opBytes 3 3 257 0 (vector 1 0 0) ∷ []))
-    ∷ promised (unmet (opBytes 3 3 257 0 (vector 1 0 0) ∷ [])) (stay₁ ∷ stay₂ ∷ []) true false
+    ∷ puts (unmet [] [] []) 1 257 0 stay₁
+    ∷ puts (unmet [] [] []) 2 257 0 stay₂
+    ∷ promised (unmet (stay₁ ∷ []) (stay₂ ∷ []) []) (stay₁ ∷ stay₂ ∷ []) true true
+    ∷ puts (three [] (adds 1 1 0 (vector 0 0 0) ∷ []) [] []) 3 257 0 stay₃
+    ∷ isSound (unmet (stay₁ ∷ []) (stay₂ ∷ []) (stay₃ ∷ []))
+    ∷ promised (unmet (stay₁ ∷ []) (stay₂ ∷ []) (stay₃ ∷ [])) (stay₁ ∷ stay₂ ∷ []) true false
     -- downward moves, P10's
     ∷ promised p10 (opAt p10 1 4 ∷ opAt p10 2 1 ∷ opAt p10 3 1 ∷ []) false false
     -- two moves of one replica: both are applied
     ∷ puts (crowded [] (up₂ ∷ []) []) 2 259 0 again
     ∷ promised twice (up₂ ∷ again ∷ []) true false
-    -- moves that nobody issued
+    -- moves that nobody issued: the same, issued, are downward
+    ∷ puts p10Adds 2 257 258 (opBytes 4 2 257 258 (vector 3 0 0))
+    ∷ puts p10Adds 3 258 257 (opBytes 4 3 258 257 (vector 3 0 0))
     ∷ isSound unissued
     ∷ promised unissued (said₂ ∷ said₃ ∷ []) false false
     ∷ []
@@ -143,15 +161,23 @@ _&_ a b = (a, b)
 
 -- every row of the table holds
 pub table-holds : AllHold table
-unfolding table crowded tidied further unmet unissued twice ofOps p10 p11 p11All p12 outcomeIn noneLost appliedTo oneApplied wordAt word upFrom
-    downFrom sum greatest same concat all any filter isIn replicas isReplica countIn kindOf replicaOf nodeOf parentOf vectorOf ownCount
-    seqOf nodeNumber isAdd isRemove isMove wellFormed emptyLog opsOf opAt countsOf append within covered closedAt closed isKnown isMarked
-    marked nodeWithin knowledge knownParent namesKnown soundOp soundOps soundLog slot slotOf parentIn climb path depth atOrBelow opsWithin
-    addedIn removedIn timestampIn timestamp stamp stamped ofReplica ofKind ofTime byTime ordered start outcomeSlot outcomeOf step replay
-    parentsOf outcomesOf opBytes moveKind issued
+unfolding table crowded tidied firstThree further unmet unissued twice ofOps p10 p11 p11All p12 outcomeIn noneLost appliedTo oneApplied
+    require wordAt word upFrom downFrom sum greatest same concat all any filter isIn replicas isReplica countIn kindOf replicaOf nodeOf
+    parentOf vectorOf ownCount seqOf nodeNumber isAdd isRemove isMove wellFormed emptyLog opsOf opAt countsOf append countAt startAt
+    headerCounts startOf endOf fileEnd chunks chunksOf logOf headerEntry headerOf fileOf within covered closedAt closed isKnown isMarked
+    marked nodeWithin knowledge knownParent namesKnown soundOp soundOps soundLog soundHeader laid structural sound slot slotOf parentIn
+    climb path depth atOrBelow opsWithin addedIn removedIn timestampIn timestamp stamp stamped ofReplica ofKind ofTime byTime ordered start
+    outcomeSlot outcomeOf step replay parentsOf outcomesOf opBytes moveKind issued requestKnown requestUnmarked requestClear issueAnswer
 table-holds =
-    refl & refl & refl & refl & refl & (refl, refl) & (refl, refl) & refl & (refl, refl) & refl & (refl, refl) & refl & (refl, refl)
-    & (refl, refl) & refl & (refl, refl) & (refl, refl) & refl & (refl, refl) & refl & (refl, refl) & tt
+    -- tidied
+    refl & refl & refl & refl & refl & (refl, refl) & (refl, refl)
+    -- P11
+    & (refl, refl) & (refl, refl) & (refl, refl)
+    -- a further move
+    & (refl, refl) & (refl, refl) & (refl, refl) & refl & (refl, refl)
+    & (refl, refl) & (refl, refl) & (refl, refl) & (refl, refl) & refl & (refl, refl)
+    -- downward, twice, not issued
+    & (refl, refl) & (refl, refl) & (refl, refl) & (refl, refl) & (refl, refl) & refl & (refl, refl) & tt
 
 ---- the theorem's premises
 
@@ -165,8 +191,8 @@ lent = replicate 14 9
 abbrev pub threeMoves : List Op
 threeMoves = up₁ ∷ up₂ ∷ up₃ ∷ []
 
-abbrev asks : (replica node parent : ℕ) → Move
-asks s n p = record { replica = s; node = n; parent = p }
+abbrev by : (replica node parent : ℕ) → Move
+by s n p = record { replica = s; node = n; parent = p }
 
 -- replica 3's move arrives first, and comes once more
 abbrev pub after : List ℕ
@@ -199,9 +225,9 @@ unfolding crowded tidied turnsBuffer deliverBuffer deliverAnswer heldAnswer admi
 worked = record {
   is-sound = refl;
   upward-moves = record {
-    each = record { buffer = before; out = lent; asked = asks 1 259 0; end = 102; very-log = refl; taken = refl; put = refl; upward = refl }
-        & record { buffer = before; out = lent; asked = asks 2 259 257; end = 102; very-log = refl; taken = refl; put = refl; upward = refl }
-        & record { buffer = before; out = lent; asked = asks 3 258 0; end = 102; very-log = refl; taken = refl; put = refl; upward = refl }
+    each = record { buffer = before; out = lent; asked = by 1 259 0; end = 102; very-log = refl; taken = refl; put = refl; upward = refl }
+        & record { buffer = before; out = lent; asked = by 2 259 257; end = 102; very-log = refl; taken = refl; put = refl; upward = refl }
+        & record { buffer = before; out = lent; asked = by 3 258 0; end = 102; very-log = refl; taken = refl; put = refl; upward = refl }
         & tt;
     replicas-differ = apart & apart & apart & tt;
   };
