@@ -1,0 +1,159 @@
+//! The commands.
+
+mod bundle;
+mod check;
+mod compare;
+mod draw;
+mod issue;
+mod look;
+mod meet;
+mod new;
+mod post;
+
+use crate::ask::{Ask, Opt, HELP, PLAIN};
+use crate::name::Shown;
+use crate::report::Report;
+use crate::trouble::{self, Tried, Trouble};
+use std::ffi::OsString;
+use std::fmt::Write;
+use std::ops::RangeInclusive;
+
+/// A command: how it is asked, what its help says, and what it does.
+pub struct Command {
+    name: &'static str,
+    operands: &'static str,
+    /// How many operands.
+    takes: RangeInclusive<usize>,
+    options: &'static [Opt],
+    /// In one line.
+    does: &'static str,
+    /// What else there is to know.
+    more: &'static str,
+    /// Commands that work one after another, from an empty folder on.
+    example: &'static str,
+    run: fn(&Ask) -> Tried<Report>,
+}
+
+/// As many operands as one likes.
+const ANY: usize = usize::MAX;
+
+const COMMANDS: &[&Command] = &[
+    &new::NEW,
+    &issue::ADD,
+    &issue::REMOVE,
+    &issue::MOVE,
+    &issue::COLUMN,
+    &look::LIST,
+    &look::PATH,
+    &look::OPS,
+    &check::CHECK,
+    &meet::MEET,
+    &bundle::BUNDLE,
+    &bundle::OPEN,
+    &post::POST,
+    &compare::COMPARE,
+    &draw::DRAW,
+];
+
+/// Where a command puts what it makes, beside changing a file.
+const OUT: Opt = Opt::valued(
+    "--out",
+    "OUT",
+    "put it into this file, and not on standard output",
+);
+const FORCE: Opt = Opt::flag("--force", "write over a file that is there");
+
+/// Runs what is asked.
+pub fn run(args: &mut Vec<OsString>) -> Tried<Report> {
+    if args.is_empty() {
+        return Err(trouble::usage(format!("no command\n{}", overview())));
+    }
+    let first = args.remove(0);
+    if first == HELP.name || first == "-h" {
+        return Ok(Report::text(overview()));
+    }
+    if first == "--version" {
+        return Ok(Report::text(format!(
+            "seat {}\n",
+            env!("CARGO_PKG_VERSION")
+        )));
+    }
+    let Some(command) = COMMANDS.iter().find(|command| first == command.name) else {
+        let text = format!("no such command: {}. Try `seat --help`.", Shown(&first));
+        return Err(trouble::usage(text));
+    };
+    command
+        .start(std::mem::take(args))
+        .map_err(|why| match why {
+            Trouble::Usage { text } => {
+                let name = command.name;
+                trouble::usage(format!("{name}: {text}. Try `seat {name} --help`."))
+            }
+            other => other,
+        })
+}
+
+/// The help of the program.
+fn overview() -> String {
+    let mut text = String::from(
+        "seat: outlines on real files\n\nusage: seat COMMAND [OPTION]... FILE...\n\nCommands:\n",
+    );
+    for command in COMMANDS {
+        let _ = writeln!(text, "  {:<9} {}", command.name, command.does);
+    }
+    text.push_str(
+        "
+`seat COMMAND --help` tells more of each, with an example. A FILE that is - stands
+for standard input, and its changed form for standard output. With --plain a
+command prints for scripts, in a form that does not change between versions.
+
+Exit status: 0 done; 1 refused, with the number of the format's rules; 2 asked
+wrongly; 3 reading or writing failed. Messages are on standard error.
+",
+    );
+    text
+}
+
+impl Command {
+    fn start(&self, args: Vec<OsString>) -> Tried<Report> {
+        let ask = Ask::read(args, self.options)?;
+        if ask.has(HELP) {
+            return Ok(Report::text(self.help()));
+        }
+        let given = ask.operands();
+        if !self.takes.contains(&given.len()) {
+            let (count, wanted) = (given.len(), self.operands);
+            return Err(trouble::usage(format!(
+                "it takes {wanted}, and {count} were given"
+            )));
+        }
+        (self.run)(&ask)
+    }
+
+    fn help(&self) -> String {
+        let mut text = format!(
+            "usage: seat {} [OPTION]... {}\n\n{}.\n{}\nOptions:\n",
+            self.name, self.operands, self.does, self.more
+        );
+        for opt in self.options.iter().chain([&PLAIN, &HELP]) {
+            let name = match opt.value {
+                Some(value) => format!("{} {value}", opt.name),
+                None => opt.name.to_owned(),
+            };
+            let _ = writeln!(text, "  {name:<16} {}", opt.does);
+        }
+        text.push_str("\nExample:\n");
+        for line in self.example.lines() {
+            let _ = writeln!(text, "  {line}");
+        }
+        text
+    }
+}
+
+/// `1 op`, `2 ops`.
+fn many(count: usize, what: &str) -> String {
+    match count {
+        1 => format!("1 {what}"),
+        _ => format!("{count} {what}s"),
+    }
+}

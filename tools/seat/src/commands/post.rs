@@ -1,0 +1,117 @@
+//! Ops that come by post, in any order.
+
+use super::{many, Command};
+use crate::ask::Ask;
+use crate::claim::{claim, put_all};
+use crate::input;
+use crate::name::{self, Shown};
+use crate::report::Report;
+use crate::trouble::{self, Tried, Trouble};
+use outline::plain::OP;
+use outline::{Delivery, Holdback, Log};
+use std::ffi::OsStr;
+use std::fmt::Write;
+
+pub const POST: Command = Command {
+    name: "post",
+    operands: "FILE TRAY [OPS]...",
+    takes: 2..=super::ANY,
+    options: &[],
+    does: "take ops as post brings them, with a tray in which the early ones wait",
+    more: "
+OPS are files as --out of the issuing commands writes them. An op that is early goes
+into the tray, and from there into the outline with the op that it waited for. A TRAY
+that is not there is made. If one of the ops is refused, nothing changes.
+Without OPS all that waits is offered once more: do so after a bundle or a meeting,
+which may have brought what is waited for.
+With --plain a line for each op says `accepted` with where the file ends, `had`, or
+`waiting`; and the last one says how many ops wait.
+",
+    example: "seat new ann.outline
+seat new bob.outline
+seat add --as 1 --out 1.op ann.outline 0
+seat add --as 1 --out 2.op ann.outline 257
+seat post bob.outline bob.tray 2.op
+seat post bob.outline bob.tray 1.op",
+    run: post,
+};
+
+/// What is read of a file of ops: those of a whole replica, and more.
+const MOST: usize = OP * 2040;
+
+fn post(ask: &Ask) -> Tried<Report> {
+    let (names, offered) = (ask.operands(), ask.operands().split_off(2));
+    let (name, tray_name) = (names[0], names[1]);
+    if name::is_stream(tray_name) {
+        return Err(trouble::usage("a tray is a file, and not -".into()));
+    }
+    let mut ops = Vec::new();
+    for from in offered {
+        ops.push((from, input::read(from, MOST)?));
+    }
+    let stream = input::stream(&[name])?;
+    let mut claims = claim(&[name, tray_name])?.into_iter();
+    let (file, tray_file) = (claims.next().flatten(), claims.next().flatten());
+    let mut log = input::claimed(name, file.as_ref(), &stream)?;
+    let old = tray_file.as_ref().and_then(|tray| tray.old());
+    let tray = old.map_or(Ok(Holdback::new()), Holdback::from_bytes);
+    let mut tray = tray.map_err(trouble::refused(tray_name))?;
+
+    let before = log.len();
+    let mut text = match ops.is_empty() {
+        true => offer_again(&mut log, &mut tray),
+        false => offer(&mut log, &mut tray, &ops, ask.is_plain())?,
+    };
+    let (came, waiting) = (log.len() - before, tray.len());
+    let _ = match ask.is_plain() {
+        true => writeln!(text, "{waiting}"),
+        false => writeln!(
+            text,
+            "{}: {} came, {waiting} waiting",
+            Shown(name),
+            many(came, "op")
+        ),
+    };
+    // The log first: what has left the tray is in the log then.
+    let files = vec![
+        (file, log.as_bytes().to_vec()),
+        (tray_file, tray.as_bytes().to_vec()),
+    ];
+    Ok(Report::with(put_all(files)?, text))
+}
+
+/// Offers ops as they come.
+fn offer(
+    log: &mut Log,
+    tray: &mut Holdback,
+    ops: &[(&OsStr, Vec<u8>)],
+    plain: bool,
+) -> Tried<String> {
+    let mut text = String::new();
+    for (from, bytes) in ops {
+        // No bytes are no op either, and the library says so.
+        let nothing = bytes.is_empty().then_some(&bytes[..]);
+        for (at, op) in nothing.into_iter().chain(bytes.chunks(OP)).enumerate() {
+            let answer = log.deliver_with_holdback(op, tray).map_err(|why| {
+                let of = format!("{}, op {}", Shown(from), at + 1);
+                Trouble::Refused { of, why }
+            })?;
+            let _ = match (answer, plain) {
+                (Delivery::Accepted(end), true) => writeln!(text, "accepted {end}"),
+                (Delivery::HadIt, true) => writeln!(text, "had"),
+                (_, true) => writeln!(text, "waiting"),
+                (_, false) => Ok(()),
+            };
+        }
+    }
+    Ok(text)
+}
+
+/// Offers all that waits once more, with a new tray. One that is refused now would
+/// have been dropped in its turn.
+fn offer_again(log: &mut Log, tray: &mut Holdback) -> String {
+    for op in std::mem::take(tray).ops() {
+        let _ = log.deliver_with_holdback(op, tray);
+    }
+    String::new()
+}
