@@ -1,6 +1,6 @@
 //! What is asked: options and operands.
 
-use crate::name::Shown;
+use crate::name::{self, Shown};
 use crate::trouble::{self, Tried};
 use std::env;
 use std::ffi::{OsStr, OsString};
@@ -36,6 +36,13 @@ impl Opt {
 /// Options of all commands.
 pub const PLAIN: Opt = Opt::flag("--plain", "print for scripts, in a form that stays");
 pub const HELP: Opt = Opt::flag("--help", "print this text");
+
+/// The one option whose value is a file that is read.
+pub const FOR_FILE: Opt = Opt::valued(
+    "--for-file",
+    "OTHER",
+    "for one that holds what this file holds",
+);
 
 /// A command with its options and operands, as it was asked.
 #[derive(Default)]
@@ -103,6 +110,13 @@ impl Ask {
 
     pub fn operands(&self) -> Vec<&OsStr> {
         self.operands.iter().map(OsString::as_os_str).collect()
+    }
+
+    /// How often standard input is asked for.
+    pub fn streams(&self) -> usize {
+        let read = self.given.iter().filter(|(name, _)| *name == FOR_FILE.name);
+        let read = read.map(|(_, value)| value).chain(&self.operands);
+        read.filter(|name| name::is_stream(name)).count()
     }
 
     /// The operand at a place. A command is run with as many as it names.

@@ -2,7 +2,7 @@
 
 use super::new::put_new;
 use super::{many, Command, FORCE, OUT};
-use crate::ask::{Ask, Opt};
+use crate::ask::{Ask, Opt, FOR_FILE};
 use crate::claim::{claim, put_all};
 use crate::input;
 use crate::name::Shown;
@@ -15,11 +15,6 @@ const FOR: Opt = Opt::valued(
     "--for",
     "COUNTS",
     "for one that holds so many ops of each seat: eight numbers with commas",
-);
-const FOR_FILE: Opt = Opt::valued(
-    "--for-file",
-    "OTHER",
-    "for one that holds what this file holds",
 );
 
 pub const BUNDLE: Command = Command {

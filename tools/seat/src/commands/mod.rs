@@ -127,6 +127,11 @@ impl Command {
                 "it takes {wanted}, and {count} were given"
             )));
         }
+        if ask.streams() > 1 {
+            return Err(trouble::usage(
+                "standard input stands for one file alone".into(),
+            ));
+        }
         (self.run)(&ask)
     }
 

@@ -1,0 +1,115 @@
+//! Files that are not sound.
+
+use crate::common::{repository, Folder, Rng};
+use outline::Log;
+use std::fs;
+
+/// What is told of a damaged log, and that nothing changes it; of one that is sound
+/// that it is.
+fn judge(folder: &Folder, bytes: &[u8]) {
+    folder.write("news", bytes);
+    if Log::from_bytes(bytes).is_ok() || bytes.is_empty() {
+        assert!(folder.done("check --plain news").starts_with("sound "));
+        return;
+    }
+    let ran = folder.run(["check", "news"]);
+    assert_eq!(ran.status, Some(1), "{bytes:?}");
+    let told = ran
+        .err
+        .strip_prefix("seat: news: refused 1: ")
+        .expect(&ran.err);
+    assert!(!told.contains("finds more"), "a reason is found: {told}");
+    assert_eq!(folder.read("news"), bytes);
+}
+
+#[test]
+fn every_bit_of_a_small_log_turned() {
+    let folder = Folder::new();
+    let file = fs::read(repository("data/p1.outline")).unwrap();
+    for at in 0..file.len() {
+        for bit in 0..8 {
+            let mut bytes = file.clone();
+            bytes[at] ^= 1 << bit;
+            judge(&folder, &bytes);
+        }
+    }
+}
+
+#[test]
+fn every_length() {
+    let folder = Folder::new();
+    let mut file = fs::read(repository("data/p1.outline")).unwrap();
+    for length in 0..=file.len() {
+        judge(&folder, &file[..length]);
+    }
+    file.push(0);
+    judge(&folder, &file);
+    judge(&folder, &[0; 28_592]);
+    judge(&folder, &vec![1; 100_000]);
+}
+
+#[test]
+fn a_file_that_is_not_sound_is_left() {
+    let folder = Folder::new();
+    folder.done("new sound");
+    folder.done("add sound 0 --out op");
+    folder.done("bundle sound --out bundle");
+    folder.write("bad", b"a letter to the editor");
+    let lines = [
+        "add bad 0",
+        "add --as 9 bad 0",
+        "remove bad 257",
+        "move bad 257 0",
+        "column bad 257 0",
+        "list bad",
+        "path bad 0",
+        "ops bad",
+        "check bad",
+        "meet bad sound",
+        "meet sound bad",
+        "bundle bad",
+        "bundle sound --for-file bad",
+        "open bad bundle",
+        "open bad bad",
+        "post bad tray op",
+        "compare sound bad",
+        "draw bad",
+    ];
+    for line in lines {
+        folder.refused(1, line);
+    }
+    assert_eq!(folder.run(["new", "bad"]).status, Some(3));
+    assert_eq!(folder.read("bad"), b"a letter to the editor");
+    folder.done("new --force bad");
+    assert_eq!(folder.done("meet --plain bad sound"), "1 1\n0 1\n");
+}
+
+#[test]
+fn what_others_hand_over_is_not_trusted() {
+    let folder = Folder::new();
+    folder.done("new news");
+    for parent in [0, 257, 257] {
+        folder.done(&format!("add news {parent}"));
+    }
+    folder.done("bundle news --out bundle");
+    let (bundle, mut rng) = (folder.read("bundle"), Rng(3));
+    for _ in 0..300 {
+        let mut bytes = bundle.clone();
+        let at = rng.below(bytes.len());
+        bytes[at] ^= 1 << rng.below(8);
+        bytes.truncate(bytes.len() - rng.below(8) / 6);
+        folder.write("bytes", &bytes);
+        folder.write("empty", b"");
+        let ran = folder.run(["open", "empty", "bytes", "--plain"]);
+        assert!(matches!(ran.status, Some(0 | 1)), "{ran:?}");
+        assert!(folder
+            .done("check empty")
+            .contains(if ran.status == Some(0) {
+                "sound"
+            } else {
+                "no bytes"
+            }));
+        let ran = folder.run(["post", "empty", "bytes", "bytes"]);
+        assert_eq!(ran.status, Some(1), "{ran:?}");
+    }
+}

@@ -1,0 +1,161 @@
+//! Names of files are any bytes, and files are of many sorts.
+
+use crate::common::Folder;
+use std::ffi::{OsStr, OsString};
+use std::fs::{self, Permissions};
+use std::os::unix::ffi::{OsStrExt, OsStringExt};
+use std::os::unix::fs::{symlink, PermissionsExt};
+
+#[test]
+fn names_with_spaces_and_bytes_that_are_no_utf8() {
+    let folder = Folder::new();
+    let names: [&[u8]; 6] = [
+        b"parish news.outline",
+        b"\xff\xfe.outline",
+        b"--force",
+        b"two\nlines",
+        "Fête".as_bytes(),
+        b"-x",
+    ];
+    for name in names.map(OsStr::from_bytes) {
+        for args in [["new"].map(OsStr::new).to_vec(), vec![OsStr::new("add")]] {
+            let args = args.into_iter().chain([OsStr::new("--"), name]);
+            let args: Vec<_> = match args.clone().next() {
+                Some(first) if first == "add" => args.chain([OsStr::new("0")]).collect(),
+                _ => args.collect(),
+            };
+            let ran = folder.run(&args);
+            assert_eq!(ran.status, Some(0), "{ran:?}");
+        }
+        assert_eq!(folder.read(name).len(), 46);
+    }
+    let all: Vec<&OsStr> = ["meet", "--"]
+        .into_iter()
+        .map(OsStr::new)
+        .chain(names.map(OsStr::from_bytes))
+        .collect();
+    // Each has an op 1:1 of its own making, and they are the same.
+    assert_eq!(folder.run(&all).status, Some(0));
+    assert_eq!(folder.files().len(), names.len());
+    // What a terminal could take for a command is not printed as it is.
+    let ran = folder.run([OsStr::new("check"), OsStr::from_bytes(b"\x1b[2J\xff")]);
+    assert_eq!(ran.status, Some(3));
+    assert!(
+        ran.err.starts_with("seat: \\u{1b}[2J\\xff: No such file"),
+        "{}",
+        ran.err
+    );
+}
+
+#[test]
+fn a_link_stays_and_what_it_names_is_changed() {
+    let folder = Folder::new();
+    fs::create_dir(folder.path().join("archive")).unwrap();
+    folder.done("new archive/news");
+    symlink("archive/news", folder.path().join("link")).unwrap();
+    folder.done("add link 0");
+    assert!(fs::symlink_metadata(folder.path().join("link"))
+        .unwrap()
+        .is_symlink());
+    assert_eq!(folder.read("archive/news").len(), 46);
+    // One file under two names is one file.
+    let ran = folder.run(["meet", "link", "archive/news"]);
+    assert_eq!(ran.status, Some(2), "{ran:?}");
+    symlink("nowhere", folder.path().join("dangling")).unwrap();
+    assert_eq!(folder.run(["add", "dangling", "0"]).status, Some(3));
+    assert_eq!(folder.run(["new", "dangling"]).status, Some(3));
+}
+
+#[test]
+fn permissions_stay_and_a_read_only_file_is_left() {
+    let folder = Folder::new();
+    folder.done("new news");
+    let path = folder.path().join("news");
+    fs::set_permissions(&path, Permissions::from_mode(0o640)).unwrap();
+    folder.done("add news 0");
+    assert_eq!(
+        fs::metadata(&path).unwrap().permissions().mode() & 0o777,
+        0o640
+    );
+    fs::set_permissions(&path, Permissions::from_mode(0o440)).unwrap();
+    let before = folder.files();
+    for line in ["add news 0", "new --force news", "meet news other"] {
+        folder.write("other", b"");
+        let ran = folder.run(line.split(' '));
+        assert_eq!(ran.status, Some(3), "{line}: {ran:?}");
+        assert!(ran.err.contains("news: read-only"), "{line}: {}", ran.err);
+        fs::remove_file(folder.path().join("other")).unwrap();
+    }
+    assert_eq!(folder.files(), before);
+}
+
+#[test]
+fn what_is_no_file_is_told() {
+    let folder = Folder::new();
+    fs::create_dir(folder.path().join("folder")).unwrap();
+    for line in [
+        "list folder",
+        "add folder 0",
+        "new folder",
+        "new --force folder",
+        "new missing/news",
+        "add missing 0",
+        "list missing",
+        "new folder/..",
+        "draw --out folder folder",
+    ] {
+        let ran = folder.run(line.split(' '));
+        assert_eq!(ran.status, Some(3), "{line}: {ran:?}");
+    }
+    for device in ["/dev/null", "/dev/zero", "/dev/full"] {
+        let ran = folder.run(["new", "--force", device]);
+        assert_eq!(ran.status, Some(3), "{device}: {ran:?}");
+    }
+    assert!(folder.files().is_empty());
+    // No bytes are an outline without ops; bytes without end are none.
+    assert_eq!(folder.done("list /dev/null"), "0\n");
+    folder.refused(1, "list /dev/zero");
+    // The longest name has no room beside it.
+    let long = OsString::from_vec(vec![b'n'; 255]);
+    let ran = folder.run([OsStr::new("new"), &long]);
+    assert_eq!(ran.status, Some(3), "{ran:?}");
+}
+
+#[test]
+fn standard_input_and_output() {
+    let folder = Folder::new();
+    let empty = folder.run(["new", "-"]);
+    folder.done("new news");
+    assert_eq!(empty.out, folder.read("news"));
+    let ran = folder.run_with(["add", "-", "0"], &empty.out);
+    folder.done("add news 0");
+    assert_eq!(
+        (&ran.out, &ran.err[..]),
+        (&folder.read("news"), "1:1 added 257 under 0\n")
+    );
+    let listed = folder.run_with(["list", "-"], &ran.out);
+    assert_eq!(listed.text(), "0\n  257\n");
+    // One stands for standard input, and the other one is a file.
+    folder.done("new other");
+    let met = folder.run_with(["meet", "-", "other"], &ran.out);
+    assert_eq!((met.status, &met.out), (Some(0), &ran.out));
+    assert_eq!(folder.read("other"), ran.out);
+    for line in [
+        "meet - -",
+        "compare - -",
+        "open - -",
+        "post - tray -",
+        "add --out - - 0",
+        "bundle --for-file - -",
+    ] {
+        let ran = folder.run_with(line.split(' '), &ran.out);
+        assert_eq!(
+            (ran.status, ran.out.len()),
+            (Some(2), 0),
+            "{line}: {}",
+            ran.err
+        );
+    }
+    let refused = folder.run_with(["add", "-", "999"], &ran.out);
+    assert_eq!((refused.status, refused.out.len()), (Some(1), 0));
+}
