@@ -1,10 +1,12 @@
-# The library for C and C++: building, testing and installing it. `rt` proves and compiles the
-# library; a C compiler does the rest.
+# The library for C and C++, and the program seat: building, testing and installing them. `rt` proves
+# and compiles the library; a C compiler does the rest, and cargo builds seat.
 #
-#   make            the library and the program outline-print
-#   make example    builds and runs the example
-#   make check      the tests of the header, the programs and the installation
-#   make install    into PREFIX (/usr/local), below DESTDIR if that is set
+#   make               the library and the program outline-print
+#   make example       builds and runs the example
+#   make check         the tests of the header, the programs and the installation
+#   make install       into PREFIX (/usr/local), below DESTDIR if that is set
+#   make seat          the program seat: tools/seat/target/release/seat
+#   make install-seat  the same into PREFIX
 
 PREFIX ?= /usr/local
 BINDIR ?= $(PREFIX)/bin
@@ -24,7 +26,9 @@ library = target/staticlib/liboutline_c.a
 program = target/outline-print
 sources := $(shell find crates.txt crates -type f -not -path '*/must-fail/*')
 
-.PHONY: all library example check install uninstall
+seat = tools/seat/target/release/seat
+
+.PHONY: all library example check install uninstall seat install-seat uninstall-seat
 
 all: library $(program)
 
@@ -67,3 +71,13 @@ install: all
 uninstall:
 	rm -f '$(DESTDIR)$(BINDIR)/outline-print' '$(DESTDIR)$(LIBDIR)/liboutline_c.a' \
 	  '$(DESTDIR)$(INCLUDEDIR)/outline.h' '$(DESTDIR)$(LIBDIR)/pkgconfig/outline.pc'
+
+seat: $(library)
+	cargo build --release --offline --quiet --manifest-path tools/seat/Cargo.toml
+
+install-seat: seat
+	install -d '$(DESTDIR)$(BINDIR)'
+	install -m 755 $(seat) '$(DESTDIR)$(BINDIR)/seat'
+
+uninstall-seat:
+	rm -f '$(DESTDIR)$(BINDIR)/seat'

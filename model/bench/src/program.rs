@@ -3,10 +3,12 @@
 
 use crate::report::duration;
 use crate::work::Shape;
+use outline::{Log, Node, Replica};
 use outline_model::cases::examples::{file_of, p1};
 use std::fmt::Write;
 use std::fs::{self, File};
 use std::io;
+use std::ops::RangeInclusive;
 use std::path::Path;
 use std::process::{Command, Stdio};
 use std::time::Instant;
@@ -51,6 +53,7 @@ pub fn measure(root: &Path, page: &Path) -> io::Result<()> {
         let _ = writeln!(part, "| {name} | {} |", cells.join(" | "));
     }
     fs::remove_file(&file)?;
+    part.push_str(&meetings(root)?);
     print!("{part}");
     let before = fs::read_to_string(page)?;
     let begin = before.find(TITLE).or_else(|| before.find("\n## Against"));
@@ -59,13 +62,53 @@ pub fn measure(root: &Path, page: &Path) -> io::Result<()> {
     fs::write(page, [&before[..begin], &part, &before[end..]].concat())
 }
 
+const MEETINGS: &str = "
+Two files meet by `seat meet`: both are read and tested, exchange bundles, and are written to new files, which go to the disk before they take
+the old ones' place. Nothing is shared before, and both have all ops afterwards. The disk's part differs from machine to machine.
+
+| Files | least | median |
+|---|---|---|
+";
+
+/// Measures `seat meet` on two files.
+fn meetings(root: &Path) -> io::Result<String> {
+    let program = root.join("tools/seat/target/release/seat");
+    let files = ["target/bench-one", "target/bench-other"].map(|name| root.join(name));
+    let mut part = String::from(MEETINGS);
+    for (name, ops) in [("100 ops each", 100), ("1,000 ops each", 1000)] {
+        let mut times = Vec::new();
+        for _ in 0..RUNS / 4 {
+            fs::write(&files[0], flat(1..=4, ops).as_bytes())?;
+            fs::write(&files[1], flat(5..=8, ops).as_bytes())?;
+            times.push(timed(Command::new(&program).arg("meet").args(&files))?);
+        }
+        times.sort_by(f64::total_cmp);
+        let (least, median) = (duration(times[0]), duration(times[times.len() / 2]));
+        let _ = writeln!(part, "| {name} | {least} | {median} |");
+    }
+    files.iter().try_for_each(fs::remove_file)?;
+    Ok(part)
+}
+
+/// A log of adds under the root by some replicas in turn.
+fn flat(replicas: RangeInclusive<u8>, ops: usize) -> Log {
+    let mut log = Log::new();
+    for (replica, _) in replicas.filter_map(Replica::new).cycle().zip(0..ops) {
+        log.add(replica, Node::ROOT).expect("room for it");
+    }
+    log
+}
+
 /// How many nanoseconds a program takes that has this file for its input.
 fn run(program: &Path, file: &Path) -> io::Result<f64> {
-    let mut command = Command::new(program);
-    command.stdin(File::open(file)?).stdout(Stdio::null());
+    timed(Command::new(program).stdin(File::open(file)?))
+}
+
+/// How many nanoseconds a command takes.
+fn timed(command: &mut Command) -> io::Result<f64> {
     let began = Instant::now();
-    let status = command.status()?;
+    let status = command.stdout(Stdio::null()).status()?;
     let time = began.elapsed().as_nanos() as f64;
-    assert!(status.success(), "{} ends with {status}", program.display());
+    assert!(status.success(), "{command:?} ends with {status}");
     Ok(time)
 }

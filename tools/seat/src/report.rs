@@ -8,30 +8,42 @@ use std::io::{self, Write};
 pub struct Report {
     out: Vec<u8>,
     aside: String,
+    /// What trouble with standard output is about.
+    of: &'static str,
 }
 
 impl Report {
     /// Text for standard output.
     pub fn text(text: String) -> Report {
-        Report::with(None, text)
+        Report {
+            out: text.into_bytes(),
+            aside: String::new(),
+            of: "standard output",
+        }
     }
 
-    /// Bytes for standard output, and then the text goes aside; or the text alone.
-    pub fn with(stream: Option<Vec<u8>>, text: String) -> Report {
+    /// The text of a command that has changed files; or bytes for standard output,
+    /// which are the change, and then the text goes aside.
+    pub fn changed(stream: Option<Vec<u8>>, text: String) -> Report {
         match stream {
-            Some(out) => Report { out, aside: text },
+            Some(out) => Report {
+                out,
+                aside: text,
+                of: "standard output",
+            },
             None => Report {
-                out: text.into_bytes(),
-                aside: String::new(),
+                of: "standard output, after the change was made",
+                ..Report::text(text)
             },
         }
     }
 
     /// Prints it.
     pub fn tell(self) -> Tried<()> {
-        let _ = io::stderr().write_all(self.aside.as_bytes());
         let mut out = io::stdout().lock();
         let told = out.write_all(&self.out).and_then(|()| out.flush());
-        told.map_err(trouble::io(OsStr::new("standard output")))
+        told.map_err(trouble::io(OsStr::new(self.of)))?;
+        let _ = io::stderr().write_all(self.aside.as_bytes());
+        Ok(())
     }
 }

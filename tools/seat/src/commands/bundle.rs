@@ -48,7 +48,7 @@ fn bundle(ask: &Ask) -> Tried<Report> {
     let bundle = log.bundle_for(&counts);
     let bytes = bundle.as_bytes().to_vec();
     let Some(out) = ask.value(OUT) else {
-        return Ok(Report::with(Some(bytes), String::new()));
+        return Ok(Report::changed(Some(bytes), String::new()));
     };
     let (ops, length) = (log.ops_beyond(&counts).len(), bytes.len());
     let stream = put_new(ask, out, bytes)?;
@@ -56,7 +56,7 @@ fn bundle(ask: &Ask) -> Tried<Report> {
         true => format!("{ops} {length}\n"),
         false => format!("{}: {}, {length} bytes\n", Shown(out), many(ops, "op")),
     };
-    Ok(Report::with(stream, text))
+    Ok(Report::changed(stream, text))
 }
 
 pub const OPEN: Command = Command {
@@ -94,5 +94,5 @@ fn open(ask: &Ask) -> Tried<Report> {
             log.len()
         ),
     };
-    Ok(Report::with(stream, text))
+    Ok(Report::changed(stream, text))
 }

@@ -21,10 +21,10 @@ pub const COMPARE: Command = Command {
 Files that hold the same ops are alike byte for byte. The exit status is 0 whether
 they are alike or not. With --plain the first line is `alike` or `differ`, and then
 come, with the files by their places 1, 2, .. in the command:
-  lacks 2 1:3       file 2 has not op 1:3, which another has
-  clash 1:3         files have different ops of this seat and sequence
+  lacks 2 1:3         file 2 has not op 1:3, which another has
+  conflict 1:3        files have different ops of this seat and sequence
   node 258 257k 0k -  for each file the parent of node 258 with k or, removed, r; or
-                    - where the node is not there
+                      - where the node is not there
 ",
     example: "seat new ann.outline
 seat new bob.outline
@@ -55,7 +55,7 @@ fn compare(ask: &Ask) -> Tried<Report> {
 struct Found {
     /// For each file what it lacks.
     lacks: Vec<Vec<Id>>,
-    clashes: BTreeSet<Id>,
+    conflicts: BTreeSet<Id>,
     /// Nodes, and for each file where they stand.
     nodes: Vec<(Node, Vec<Stand>)>,
 }
@@ -85,7 +85,7 @@ impl Found {
         });
         Found {
             lacks: logs.iter().map(lacks).collect(),
-            clashes: pairs
+            conflicts: pairs
                 .flat_map(|(one, other)| differing(one, other))
                 .collect(),
             nodes: nodes
@@ -101,8 +101,8 @@ impl Found {
                 let _ = writeln!(text, "lacks {} {id}", at + 1);
             }
         }
-        for id in &self.clashes {
-            let _ = writeln!(text, "clash {id}");
+        for id in &self.conflicts {
+            let _ = writeln!(text, "conflict {id}");
         }
         for (node, stands) in &self.nodes {
             let stands = stands.iter().map(|stand| match stand {
@@ -122,8 +122,8 @@ impl Found {
                 let _ = writeln!(text, "{name} lacks {}", runs(ids));
             }
         }
-        if !self.clashes.is_empty() {
-            let ids: Vec<Id> = self.clashes.iter().copied().collect();
+        if !self.conflicts.is_empty() {
+            let ids: Vec<Id> = self.conflicts.iter().copied().collect();
             let _ = writeln!(text, "not the same op in all: {}", runs(&ids));
         }
         for (node, stands) in &self.nodes {

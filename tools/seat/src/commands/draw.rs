@@ -40,5 +40,5 @@ fn draw(ask: &Ask) -> Tried<Report> {
         true => String::new(),
         false => format!("{}: the root and {}\n", Shown(out), many(nodes, "node")),
     };
-    Ok(Report::with(stream, text))
+    Ok(Report::changed(stream, text))
 }

@@ -148,7 +148,7 @@ fn issue(
         true => plain_lines(&ops),
         false => told(&ops),
     };
-    Ok(Report::with(stream, text))
+    Ok(Report::changed(stream, text))
 }
 
 /// The log after a call that issues, on a buffer with room for the largest.

@@ -45,7 +45,7 @@ fn meet(ask: &Ask) -> Tried<Report> {
     let mut all = Log::new();
     for (at, log) in logs.iter().enumerate() {
         all.merge(log)
-            .map_err(|why| clash(why, &names[..=at], &logs[..=at]))?;
+            .map_err(|why| conflict(why, &names[..=at], &logs[..=at]))?;
     }
     for (log, name) in logs.iter_mut().zip(&names) {
         log.merge(&all).map_err(trouble::refused(name))?;
@@ -67,11 +67,11 @@ fn meet(ask: &Ask) -> Tried<Report> {
     let files = claims.into_iter().zip(&logs);
     let files = files.map(|(claim, log)| (claim, log.as_bytes().to_vec()));
     let stream = put_all(files.collect())?;
-    Ok(Report::with(stream, text))
+    Ok(Report::changed(stream, text))
 }
 
 /// Which files do not agree, the last one with one before it, and on which op.
-fn clash(why: Refusal, names: &[&OsStr], logs: &[Log]) -> Trouble {
+fn conflict(why: Refusal, names: &[&OsStr], logs: &[Log]) -> Trouble {
     let mut of = String::from("these files");
     if let [others @ .., last] = logs {
         for (log, name) in others.iter().zip(names) {

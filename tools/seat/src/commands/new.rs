@@ -30,7 +30,7 @@ fn new(ask: &Ask) -> Tried<Report> {
         true => String::new(),
         false => format!("{}: a new outline\n", Shown(name)),
     };
-    Ok(Report::with(stream, text))
+    Ok(Report::changed(stream, text))
 }
 
 /// Writes a file that was not there, or may be written over.

@@ -77,7 +77,7 @@ fn post(ask: &Ask) -> Tried<Report> {
         (file, log.as_bytes().to_vec()),
         (tray_file, tray.as_bytes().to_vec()),
     ];
-    Ok(Report::with(put_all(files)?, text))
+    Ok(Report::changed(put_all(files)?, text))
 }
 
 /// Offers ops as they come.

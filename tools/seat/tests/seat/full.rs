@@ -115,6 +115,8 @@ fn a_full_standard_output_is_told() {
     assert_eq!(folder.read("a").len(), 32);
     // What was done stays done, and the message says what failed.
     let output = script(&folder, &[], "\"$1\" add a 0 >/dev/full");
+    let told = String::from_utf8_lossy(&output.stderr);
     assert_eq!(output.status.code(), Some(3));
+    assert!(told.contains("after the change was made"), "{told}");
     assert_eq!(folder.read("a").len(), 46);
 }

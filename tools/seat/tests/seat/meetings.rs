@@ -102,7 +102,10 @@ fn two_machines_that_worked_as_one_seat_are_told() {
         "{told}"
     );
     let told = folder.done("compare --plain a b c");
-    assert_eq!(told, "differ\nlacks 3 1:2\nclash 1:2\nnode 258 0k 257k -\n");
+    assert_eq!(
+        told,
+        "differ\nlacks 3 1:2\nconflict 1:2\nnode 258 0k 257k -\n"
+    );
     let told = folder.done("compare a b c");
     assert_eq!(told, "differ\nc lacks 1:2\nnot the same op in all: 1:2\n258: under 0 in a; under 257 in b; not in c\n");
 }
