@@ -17,6 +17,7 @@ use crate::trouble::{self, Tried, Trouble};
 use std::ffi::{OsStr, OsString};
 use std::fs::{self, File, OpenOptions};
 use std::io::{self, ErrorKind, Write};
+use std::os::unix::ffi::OsStrExt;
 use std::os::unix::fs::MetadataExt;
 use std::path::{Path, PathBuf};
 
@@ -50,10 +51,8 @@ pub fn claim(names: &[&OsStr]) -> Tried<Vec<Option<Claim>>> {
     }
     paths.sort();
     if let Some(twice) = paths.windows(2).find(|pair| pair[0].0 == pair[1].0) {
-        return Err(trouble::usage(format!(
-            "{} is named twice",
-            Shown(names[twice[1].1])
-        )));
+        let name = Shown(names[twice[1].1]);
+        return Err(trouble::usage(format!("{name} is named twice")));
     }
     let mut claims: Vec<Option<Claim>> = names.iter().map(|_| None).collect();
     for (path, place) in paths {
@@ -96,6 +95,9 @@ fn path_of(name: &OsStr) -> io::Result<PathBuf> {
         return fs::canonicalize(path);
     }
     let last = path.file_name().ok_or(ErrorKind::NotFound)?;
+    if name.as_bytes().ends_with(b"/") {
+        return Err(ErrorKind::IsADirectory.into());
+    }
     let folder = match path.parent() {
         Some(folder) if folder != Path::new("") => folder,
         _ => Path::new("."),
@@ -160,14 +162,10 @@ impl Claim {
 
     /// The same of a file that has to be there.
     pub fn is_there(&self) -> Tried<&[u8]> {
-        let missing = || {
-            trouble::found(
-                &self.name,
-                ErrorKind::NotFound,
-                "no such file; `seat new` makes one",
-            )
-        };
-        self.old().ok_or_else(missing)
+        self.old().ok_or_else(|| {
+            let text = "no such file; `seat new` makes one";
+            trouble::found(&self.name, ErrorKind::NotFound, text)
+        })
     }
 
     /// Whether no bytes are lost where this file is written over.

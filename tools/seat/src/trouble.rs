@@ -64,7 +64,8 @@ impl Trouble {
             Trouble::Unsound { .. } if plain => format!("refused {}", Refusal::Unsound.number()),
             Trouble::Refused { of, why } => {
                 let number = why.number();
-                format!("seat: {of}: refused {number}: {why}. {}", advice(*why))
+                let (wrong, advice) = sentences(*why);
+                format!("seat: {of}: refused {number}: {wrong}. {advice}")
             }
             Trouble::Unsound { of, why } => {
                 let number = Refusal::Unsound.number();
@@ -80,23 +81,63 @@ impl Trouble {
 /// What to do about a file that is not sound.
 const AFRESH: &str = "Take a copy from another seat; `seat new --force` starts afresh.";
 
-/// What to do about a refusal.
-fn advice(why: Refusal) -> &'static str {
+/// What is wrong, and what to do about it.
+fn sentences(why: Refusal) -> (&'static str, &'static str) {
     match why {
-        Refusal::Unsound => "`seat check` says what is wrong with it.",
-        Refusal::Length => "A column has at most 16 nodes, and a file of ops is what --out wrote.",
-        Refusal::Malformed => "Seats are 1 to 8. If it was an op that came from elsewhere, have it sent again.",
-        Refusal::Conflict => "Two machines have worked as one seat. Keep one of the two files, give the other machine a seat of its own, and let it do its work again.",
-        Refusal::Early => "Open a bundle that has what is missing first, or post the op with a tray.",
-        Refusal::NotClosed => "No seat issues such an op: ask where it came from.",
-        Refusal::Unknown => "`seat list` shows the nodes that are here. The root, 0, cannot be removed or moved.",
-        Refusal::NoRoom => "The outline is full.",
-        Refusal::Exhausted => "Go on as a seat that has ops left; `seat check` shows how many each has issued.",
-        Refusal::Cycle => "Move the parent elsewhere first, or take another one; `seat path` shows what lies above it.",
-        Refusal::Marked => "Take a node that is not removed; `seat list` shows which are.",
-        Refusal::BadBundle => "It came damaged or is something else: have the bundle made and sent again.",
-        Refusal::HoldbackFull => "Open a bundle that has what is missing, then post with this tray again.",
-        Refusal::BadHoldback => "It is damaged or is something else. Take a new tray: others hold what waited in this one.",
-        _ => "The library knows more of it than this program.",
+        Refusal::Unsound => (
+            "this is no sound outline",
+            "`seat check` says what is wrong with it.",
+        ),
+        Refusal::Length => (
+            "a column has more than 16 nodes, or an op has not 14 bytes",
+            "Move fewer at once, or have the op sent again.",
+        ),
+        Refusal::Malformed => (
+            "there is no such seat, or an op is out of form",
+            "Seats are 1 to 8; an op from elsewhere has to be sent again.",
+        ),
+        Refusal::Conflict => (
+            "there are two different ops of one seat and sequence",
+            "Two machines have worked as one seat: keep one of the files, \
+             and do the other's work again as a seat of its own.",
+        ),
+        Refusal::Early => (
+            "an op counts others that are not here yet",
+            "Open a bundle that has them first, or post it with a tray.",
+        ),
+        Refusal::NotClosed => (
+            "an op counts another one, but not all that this one counts",
+            "No seat issues such an op: ask where it came from.",
+        ),
+        Refusal::Unknown => (
+            "there is no such node, or one is to go under itself, or the root is to be moved or removed",
+            "`seat list` shows the nodes.",
+        ),
+        Refusal::NoRoom => ("there is no room for more", "The outline is full."),
+        Refusal::Exhausted => (
+            "a seat issues 255 ops, and no more",
+            "Go on as one that has some left; `seat check` shows how many each has issued.",
+        ),
+        Refusal::Cycle => (
+            "the new parent lies below the node",
+            "Move the parent elsewhere first, or take another one; `seat path` shows what lies above it.",
+        ),
+        Refusal::Marked => (
+            "the node or the parent is removed",
+            "Take one that is not; `seat list` shows which are.",
+        ),
+        Refusal::BadBundle => (
+            "this is no whole bundle",
+            "Have it made and sent again.",
+        ),
+        Refusal::HoldbackFull => (
+            "the op is early, and the tray is full",
+            "Open a bundle that has what is missing, then post with this tray again.",
+        ),
+        Refusal::BadHoldback => (
+            "this is no tray, or a damaged one",
+            "Take a new one: others hold what waited there.",
+        ),
+        _ => ("the library refuses", "docs/FORMAT.md has the numbers."),
     }
 }

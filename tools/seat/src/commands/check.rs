@@ -29,13 +29,9 @@ seat check news.outline",
 fn check(ask: &Ask) -> Tried<Report> {
     let name = ask.operand(0);
     let bytes = input::read(name, LARGEST)?;
-    let log = input::log_of(name, &bytes);
-    let Ok(log) = log else {
-        let of = Shown(name).to_string();
-        return Err(Trouble::Unsound {
-            of,
-            why: why_not(&bytes),
-        });
+    let Ok(log) = input::log_of(name, &bytes) else {
+        let (of, why) = (Shown(name).to_string(), why_not(&bytes));
+        return Err(Trouble::Unsound { of, why });
     };
     let counts: Vec<_> = Replica::all()
         .map(|it| (it, log.vector().count(it)))

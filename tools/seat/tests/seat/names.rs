@@ -102,6 +102,7 @@ fn what_is_no_file_is_told() {
         "add missing 0",
         "list missing",
         "new folder/..",
+        "new news/",
         "draw --out folder folder",
     ] {
         let ran = folder.run(line.split(' '));
