@@ -148,9 +148,9 @@ impl Ask {
     /// Eight counts with commas between them.
     pub fn counts(value: &OsStr) -> Tried<[u8; 8]> {
         let read = || {
-            let counts = value.to_str()?.split(',').map(|count| count.parse().ok());
-            let counts: Option<Vec<u8>> = counts.collect();
-            counts?.try_into().ok()
+            let counts = value.as_bytes().split(|&byte| byte == b',');
+            let counts = counts.map(|count| u8::try_from(number(OsStr::from_bytes(count))?).ok());
+            counts.collect::<Option<Vec<u8>>>()?.try_into().ok()
         };
         read().ok_or_else(|| {
             let text = "counts are eight numbers up to 255 with commas between them, and not";

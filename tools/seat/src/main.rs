@@ -13,6 +13,7 @@ mod name;
 mod report;
 mod stops;
 mod trouble;
+mod unsound;
 
 use std::env;
 use std::process::ExitCode;

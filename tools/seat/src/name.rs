@@ -15,9 +15,6 @@ pub struct Shown<'a>(pub &'a OsStr);
 
 impl fmt::Display for Shown<'_> {
     fn fmt(&self, f: &mut fmt::Formatter<'_>) -> fmt::Result {
-        if is_stream(self.0) {
-            return f.write_str("standard input");
-        }
         for part in self.0.as_bytes().utf8_chunks() {
             for letter in part.valid().chars() {
                 match letter {

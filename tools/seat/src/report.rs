@@ -13,25 +13,29 @@ pub struct Report {
 }
 
 impl Report {
-    /// Text for standard output.
-    pub fn text(text: String) -> Report {
+    /// Bytes for standard output.
+    pub fn bytes(out: Vec<u8>) -> Report {
         Report {
-            out: text.into_bytes(),
+            out,
             aside: String::new(),
             of: "standard output",
         }
     }
 
-    /// The text of a command that has changed files; or bytes for standard output,
-    /// which are the change, and then the text goes aside.
-    pub fn changed(stream: Option<Vec<u8>>, text: String) -> Report {
-        match stream {
-            Some(out) => Report {
-                out,
+    /// Text for standard output.
+    pub fn text(text: String) -> Report {
+        Report::bytes(text.into_bytes())
+    }
+
+    /// The text of a command that has changed files. Where a changed file went to
+    /// standard output, the text goes aside.
+    pub fn changed(streamed: bool, text: String) -> Report {
+        match streamed {
+            true => Report {
                 aside: text,
-                of: "standard output",
+                ..Report::bytes(Vec::new())
             },
-            None => Report {
+            false => Report {
                 of: "standard output, after the change was made",
                 ..Report::text(text)
             },
@@ -40,10 +44,14 @@ impl Report {
 
     /// Prints it.
     pub fn tell(self) -> Tried<()> {
-        let mut out = io::stdout().lock();
-        let told = out.write_all(&self.out).and_then(|()| out.flush());
-        told.map_err(trouble::io(OsStr::new(self.of)))?;
         let _ = io::stderr().write_all(self.aside.as_bytes());
-        Ok(())
+        print(&self.out).map_err(trouble::io(OsStr::new(self.of)))
     }
+}
+
+/// Writes to standard output, and sees to it that it arrives.
+pub fn print(bytes: &[u8]) -> io::Result<()> {
+    let mut out = io::stdout().lock();
+    out.write_all(bytes)?;
+    out.flush()
 }

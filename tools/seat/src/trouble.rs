@@ -124,7 +124,7 @@ fn sentences(why: Refusal) -> (&'static str, &'static str) {
         ),
         Refusal::Marked => (
             "the node or the parent is removed",
-            "Take one that is not; `seat list` shows which are.",
+            "Take another one; `seat ops` shows who removed it.",
         ),
         Refusal::BadBundle => (
             "this is no whole bundle",

@@ -1,7 +1,6 @@
 //! Bundles: all ops that another lacks, in one piece.
 
-use super::new::put_new;
-use super::{many, Command, FORCE, OUT};
+use super::{many, put_out, Command, OUT};
 use crate::ask::{Ask, Opt, FOR_FILE};
 use crate::claim::{claim, put_all};
 use crate::input;
@@ -21,11 +20,12 @@ pub const BUNDLE: Command = Command {
     name: "bundle",
     operands: "FILE",
     takes: 1..=1,
-    options: &[FOR, FOR_FILE, OUT, FORCE],
+    options: &[FOR, FOR_FILE, OUT],
     does: "put all ops that another seat lacks into one bundle",
     more: "
 The other seat tells its counts, which `seat check --plain` prints there. Without
-counts the bundle has all ops of the file.
+counts the bundle has all ops of the file. With --out and --plain the numbers of ops
+and of bytes are printed.
 ",
     example: "seat new ann.outline
 seat add --as 1 ann.outline 0
@@ -48,15 +48,20 @@ fn bundle(ask: &Ask) -> Tried<Report> {
     let bundle = log.bundle_for(&counts);
     let bytes = bundle.as_bytes().to_vec();
     let Some(out) = ask.value(OUT) else {
-        return Ok(Report::changed(Some(bytes), String::new()));
+        return Ok(Report::bytes(bytes));
     };
     let (ops, length) = (log.ops_beyond(&counts).len(), bytes.len());
-    let stream = put_new(ask, out, bytes)?;
+    let streamed = put_out(ask, out, bytes)?;
     let text = match ask.is_plain() {
         true => format!("{ops} {length}\n"),
-        false => format!("{}: {}, {length} bytes\n", Shown(out), many(ops, "op")),
+        false => format!(
+            "{}: {}, {}\n",
+            Shown(out),
+            many(ops, "op"),
+            many(length, "byte")
+        ),
     };
-    Ok(Report::changed(stream, text))
+    Ok(Report::changed(streamed, text))
 }
 
 pub const OPEN: Command = Command {
@@ -84,7 +89,7 @@ fn open(ask: &Ask) -> Tried<Report> {
     let file = claim(&[name])?.pop().flatten();
     let mut log = input::claimed(name, file.as_ref(), &stream)?;
     let came = log.open_bundle(&bundle).map_err(trouble::refused(from))?;
-    let stream = put_all(vec![(file, log.as_bytes().to_vec())])?;
+    let streamed = put_all(vec![(file, log.as_bytes().to_vec())])?;
     let text = match ask.is_plain() {
         true => format!("{came}\n"),
         false => format!(
@@ -94,5 +99,5 @@ fn open(ask: &Ask) -> Tried<Report> {
             log.len()
         ),
     };
-    Ok(Report::changed(stream, text))
+    Ok(Report::changed(streamed, text))
 }

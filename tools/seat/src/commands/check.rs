@@ -6,8 +6,9 @@ use crate::input;
 use crate::name::Shown;
 use crate::report::Report;
 use crate::trouble::{Tried, Trouble};
-use outline::plain::{HEADER, LARGEST, OP};
-use outline::{Log, Refusal, Replica};
+use crate::unsound::why_not;
+use outline::plain::LARGEST;
+use outline::Replica;
 use std::fmt::Write;
 
 pub const CHECK: Command = Command {
@@ -56,91 +57,4 @@ fn check(ask: &Ask) -> Tried<Report> {
         let _ = writeln!(text, "  seat {replica}: {}", many(count.into(), "op"));
     }
     Ok(Report::text(text))
-}
-
-/// What is wrong with bytes that are no sound log.
-fn why_not(bytes: &[u8]) -> String {
-    if bytes.len() < HEADER {
-        return format!(
-            "it has {} bytes, and a header alone has {HEADER}",
-            bytes.len()
-        );
-    }
-    match header(bytes).and_then(|counts| bodies(bytes, &counts)) {
-        Err(why) => why,
-        Ok(()) => "the library finds more than this program".into(),
-    }
-}
-
-/// The counts, if they, the starts and the length are right.
-fn header(bytes: &[u8]) -> Result<[usize; 8], String> {
-    let word = |at: usize| usize::from(u16::from_be_bytes([bytes[at], bytes[at + 1]]));
-    let mut counts = [0; 8];
-    let mut start = HEADER;
-    for (at, count) in counts.iter_mut().enumerate() {
-        *count = word(4 * at);
-        if *count > 255 {
-            return Err(format!(
-                "it counts {count} ops of seat {}, and 255 are the most",
-                at + 1
-            ));
-        }
-        let said = word(4 * at + 2);
-        if said != start {
-            return Err(format!(
-                "the ops of seat {} start at {start}, and it says {said}",
-                at + 1
-            ));
-        }
-        start += OP * *count;
-    }
-    match bytes.len() {
-        length if length < start => Err(format!("it ends at {length}, and its ops at {start}")),
-        // Of a longer file no more was read.
-        length if length > start && length > LARGEST => {
-            Err(format!("it goes on past its end, {start}"))
-        }
-        length if length > start => Err(format!("it goes on past its end, {start}, to {length}")),
-        _ => Ok(counts),
-    }
-}
-
-/// Offers the ops to an empty log, so that each comes after those that it can have
-/// counted: by rising sums of their counts. If each stands in its place and all are
-/// accepted, the log is this one, and sound.
-fn bodies(bytes: &[u8], counts: &[usize; 8]) -> Result<(), String> {
-    let mut ops = Vec::new();
-    let mut rest = bytes[HEADER..].chunks_exact(OP);
-    for (at, &count) in counts.iter().enumerate() {
-        for (place, op) in rest.by_ref().take(count).enumerate() {
-            let id = format!("{}:{}", at + 1, place + 1);
-            if (usize::from(op[1]), usize::from(op[6 + at])) != (at + 1, place) {
-                return Err(format!(
-                    "where op {id} stands is none of that seat and sequence"
-                ));
-            }
-            let weight: usize = op[6..].iter().copied().map(usize::from).sum();
-            ops.push((weight, id, op));
-        }
-    }
-    ops.sort_by_key(|(weight, ..)| *weight);
-    let mut log = Log::new();
-    for (_, id, op) in ops {
-        let held = op[6..]
-            .iter()
-            .zip(counts)
-            .all(|(&count, &held)| usize::from(count) <= held);
-        let why = match log.deliver(op) {
-            Ok(_) => continue,
-            // It counts one that is here and comes later by its sum: not all that this
-            // one counts, then.
-            Err(Refusal::Early) if held => Refusal::NotClosed,
-            Err(why) => why,
-        };
-        return Err(format!(
-            "op {id} would be refused with {}: {why}",
-            why.number()
-        ));
-    }
-    Ok(())
 }

@@ -1,7 +1,6 @@
 //! Drawing an outline.
 
-use super::new::put_new;
-use super::{many, Command, FORCE, OUT};
+use super::{many, put_out, Command, OUT};
 use crate::ask::{Ask, Opt};
 use crate::drawing::drawing;
 use crate::input;
@@ -15,12 +14,13 @@ pub const DRAW: Command = Command {
     name: "draw",
     operands: "FILE",
     takes: 1..=1,
-    options: &[MOVES, OUT, FORCE],
+    options: &[MOVES, OUT],
     does: "draw the tree as SVG",
     more: "
 Removed nodes are struck through. With --moves a coloured line is the place that a
 move gave its node, a dashed arrow goes from a node to the parent that a move would
 have given it and did not, and below the tree stands why. Each seat has its colour.
+With --out and --plain nothing is printed.
 ",
     example: "seat new news.outline
 seat add --as 1 news.outline 0
@@ -35,10 +35,10 @@ fn draw(ask: &Ask) -> Tried<Report> {
         return Ok(Report::text(svg));
     };
     let nodes = log.tree().nodes().count() - 1;
-    let stream = put_new(ask, out, svg.into_bytes())?;
+    let streamed = put_out(ask, out, svg.into_bytes())?;
     let text = match ask.is_plain() {
         true => String::new(),
         false => format!("{}: the root and {}\n", Shown(out), many(nodes, "node")),
     };
-    Ok(Report::changed(stream, text))
+    Ok(Report::changed(streamed, text))
 }

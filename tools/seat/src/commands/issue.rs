@@ -1,6 +1,6 @@
 //! Issuing: add, remove, move, and a column of moves.
 
-use super::{Command, FORCE, OUT};
+use super::{Command, ANOTHER, OUT};
 use crate::ask::{Ask, Opt};
 use crate::claim::{claim, put_all};
 use crate::input;
@@ -16,11 +16,11 @@ const AS: Opt = Opt::valued(
     "SEAT",
     "issue as this seat, 1 to 8; else as the variable SEAT says",
 );
-const OPTIONS: &[Opt] = &[AS, OP_OUT, FORCE];
+const OPTIONS: &[Opt] = &[AS, OP_OUT];
 const OP_OUT: Opt = Opt::valued(
     OUT.name,
     "OUT",
-    "put the op into this file as well, to be posted",
+    "put the op into this new file as well, to be posted",
 );
 
 pub const ADD: Command = Command {
@@ -71,9 +71,10 @@ pub const MOVE: Command = Command {
     options: OPTIONS,
     does: "move a node, with all below it, under another parent",
     more: "
-The move is upward if the node was deeper than its new parent, else downward. Of
-two moves that clash, upward beats downward, and else the higher seat wins: what
-became of each shows in `seat ops` once the seats have met.
+The move is upward if the node was deeper than its new parent, else downward. Moves
+are judged by rising timestamp. If two clash that were issued from the same ops,
+upward beats downward, and else the higher seat wins. `seat ops` shows what became of
+each once the seats have met.
 With --plain the op is printed, as 1:3.
 ",
     example: "seat new news.outline
@@ -131,8 +132,8 @@ fn issue(
     let stream = input::stream(&[name])?;
     let mut claims = claim(&names)?.into_iter();
     let (file, out) = (claims.next().flatten(), claims.next());
-    if let (Some(Some(out)), false) = (&out, ask.has(FORCE)) {
-        out.is_free()?;
+    if let Some(Some(out)) = &out {
+        out.is_free(ANOTHER)?;
     }
     let old = input::claimed(name, file.as_ref(), &stream)?;
     let new = issued(&old, |buf, out| call(buf, seat, out)).map_err(trouble::refused(name))?;
@@ -142,13 +143,15 @@ fn issue(
     // The log first: an op that others have and its own log lacks would be issued
     // again as another one.
     let mut files = vec![(file, new.as_bytes().to_vec())];
-    files.extend(out.map(|out| (out, bodies)));
-    let stream = put_all(files)?;
+    if !ops.is_empty() {
+        files.extend(out.map(|out| (out, bodies)));
+    }
+    let streamed = put_all(files)?;
     let text = match ask.is_plain() {
         true => plain_lines(&ops),
         false => told(&ops),
     };
-    Ok(Report::changed(stream, text))
+    Ok(Report::changed(streamed, text))
 }
 
 /// The log after a call that issues, on a buffer with room for the largest.

@@ -66,8 +66,8 @@ fn meet(ask: &Ask) -> Tried<Report> {
     }
     let files = claims.into_iter().zip(&logs);
     let files = files.map(|(claim, log)| (claim, log.as_bytes().to_vec()));
-    let stream = put_all(files.collect())?;
-    Ok(Report::changed(stream, text))
+    let streamed = put_all(files.collect())?;
+    Ok(Report::changed(streamed, text))
 }
 
 /// Which files do not agree, the last one with one before it, and on which op.

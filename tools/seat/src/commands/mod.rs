@@ -11,10 +11,11 @@ mod new;
 mod post;
 
 use crate::ask::{Ask, Opt, HELP, PLAIN};
+use crate::claim::{are_one, claim, put_all, twice};
 use crate::name::Shown;
 use crate::report::Report;
 use crate::trouble::{self, Tried, Trouble};
-use std::ffi::OsString;
+use std::ffi::{OsStr, OsString};
 use std::fmt::Write;
 use std::ops::RangeInclusive;
 
@@ -55,13 +56,26 @@ const COMMANDS: &[&Command] = &[
     &draw::DRAW,
 ];
 
-/// Where a command puts what it makes, beside changing a file.
+/// Where a command puts what it makes.
 const OUT: Opt = Opt::valued(
     "--out",
     "OUT",
-    "put it into this file, and not on standard output",
+    "put it into this new file, and not on standard output",
 );
-const FORCE: Opt = Opt::flag("--force", "write over a file that is there");
+/// What to do about a file that is there.
+const ANOTHER: &str = "take another name, or remove it first";
+
+/// Puts what was made of a file into a new one.
+fn put_out(ask: &Ask, out: &OsStr, bytes: Vec<u8>) -> Tried<bool> {
+    if ask.operands().iter().any(|file| are_one(file, out)) {
+        return Err(twice(out));
+    }
+    let claim = claim(&[out])?.pop().flatten();
+    if let Some(claim) = &claim {
+        claim.is_free(ANOTHER)?;
+    }
+    put_all(vec![(claim, bytes)])
+}
 
 /// Runs what is asked.
 pub fn run(args: &mut Vec<OsString>) -> Tried<Report> {
@@ -123,9 +137,7 @@ impl Command {
         let given = ask.operands();
         if !self.takes.contains(&given.len()) {
             let (count, wanted) = (given.len(), self.operands);
-            return Err(trouble::usage(format!(
-                "it takes {wanted}, and {count} were given"
-            )));
+            return Err(trouble::usage(format!("it takes {wanted}; given: {count}")));
         }
         if ask.streams() > 1 {
             return Err(trouble::usage(

@@ -1,13 +1,14 @@
 //! Making an outline.
 
-use super::{Command, FORCE};
-use crate::ask::Ask;
+use super::Command;
+use crate::ask::{Ask, Opt};
 use crate::claim::{claim, put_all};
 use crate::name::Shown;
 use crate::report::Report;
 use crate::trouble::Tried;
 use outline::Log;
-use std::ffi::OsStr;
+
+const FORCE: Opt = Opt::flag("--force", "write over a file that is there, whatever it is");
 
 pub const NEW: Command = Command {
     name: "new",
@@ -17,7 +18,8 @@ pub const NEW: Command = Command {
     does: "make an outline without nodes",
     more: "
 A file that has bytes is written over only with --force. Seats that work on one
-outline may begin each with a new file; meeting brings them together.
+outline may begin each with a new file; meeting brings them together. With --plain
+nothing is printed.
 ",
     example: "seat new news.outline",
     run: new,
@@ -25,19 +27,14 @@ outline may begin each with a new file; meeting brings them together.
 
 fn new(ask: &Ask) -> Tried<Report> {
     let name = ask.operand(0);
-    let stream = put_new(ask, name, Log::new().as_bytes().to_vec())?;
+    let claim = claim(&[name])?.pop().flatten();
+    if let (Some(claim), false) = (&claim, ask.has(FORCE)) {
+        claim.is_free("--force writes over it")?;
+    }
+    let streamed = put_all(vec![(claim, Log::new().as_bytes().to_vec())])?;
     let text = match ask.is_plain() {
         true => String::new(),
         false => format!("{}: a new outline\n", Shown(name)),
     };
-    Ok(Report::changed(stream, text))
-}
-
-/// Writes a file that was not there, or may be written over.
-pub fn put_new(ask: &Ask, name: &OsStr, bytes: Vec<u8>) -> Tried<Option<Vec<u8>>> {
-    let claim = claim(&[name])?.pop().flatten();
-    if let (Some(claim), false) = (&claim, ask.has(FORCE)) {
-        claim.is_free()?;
-    }
-    put_all(vec![(claim, bytes)])
+    Ok(Report::changed(streamed, text))
 }

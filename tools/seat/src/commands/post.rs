@@ -19,7 +19,7 @@ pub const POST: Command = Command {
     options: &[],
     does: "take ops as post brings them, with a tray in which the early ones wait",
     more: "
-OPS are files as --out of the issuing commands writes them. An op that is early goes
+OPS are files as --out of the issuing commands writes them, of up to 2,040 ops. An op that is early goes
 into the tray, and from there into the outline with the op that it waited for. A TRAY
 that is not there is made. If one of the ops is refused, nothing changes.
 Without OPS all that waits is offered once more: do so after a bundle or a meeting,
@@ -36,7 +36,7 @@ seat post bob.outline bob.tray 1.op",
     run: post,
 };
 
-/// What is read of a file of ops: those of a whole replica, and more.
+/// What is read of a file of ops: there are not more to be had.
 const MOST: usize = OP * 2040;
 
 fn post(ask: &Ask) -> Tried<Report> {

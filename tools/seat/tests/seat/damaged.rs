@@ -1,7 +1,8 @@
 //! Files that are not sound.
 
 use crate::common::{repository, Folder, Rng};
-use outline::Log;
+use outline::{Log, Node, Replica};
+use outline_model as model;
 use std::fs;
 
 /// What is told of a damaged log, and that nothing changes it; of one that is sound
@@ -19,7 +20,54 @@ fn judge(folder: &Folder, bytes: &[u8]) {
         .strip_prefix("seat: news: refused 1: ")
         .expect(&ran.err);
     assert!(!told.contains("finds more"), "a reason is found: {told}");
+    if let Some((op, number)) = first_wrong(bytes) {
+        let named =
+            told.starts_with(&format!("op {op} ")) && told.contains(&format!("(number {number})"));
+        assert!(named, "{op} fails with {number}, and not: {told}");
+    }
     assert_eq!(folder.read("news"), bytes);
+}
+
+/// The first op that fails a test by the model, and its number, of a log that has a
+/// right header and in which all ops read and stand in their places.
+fn first_wrong(bytes: &[u8]) -> Option<(String, u8)> {
+    let mut log = model::Log::default();
+    for body in bytes.get(32..)?.chunks(14) {
+        log.push(model::Op::read(body).ok()?);
+    }
+    let mut ops = log.ops();
+    let placed = ops.all(|op| log.get(op.index(), op.sequence()) == Some(op));
+    if !placed || log.bytes() != bytes {
+        return None;
+    }
+    let wrong = log
+        .ops()
+        .find_map(|op| Some((op, log.test_against(op).err()?)));
+    wrong.map(|(op, number)| (format!("{}:{}", op.replica, op.sequence()), number))
+}
+
+#[test]
+fn a_byte_of_a_larger_log_changed() {
+    let (folder, mut rng) = (Folder::new(), Rng(9));
+    let mut log = Log::new();
+    for turn in 0..60 {
+        let nodes: Vec<Node> = log.tree().nodes().collect();
+        let (node, parent) = (*rng.pick(&nodes), *rng.pick(&nodes));
+        let seat = Replica::new(1 + rng.below(8) as u8).expect("a seat");
+        let _ = match turn % 3 {
+            0 => log.move_to(seat, node, parent),
+            _ => log.add(seat, parent),
+        };
+    }
+    let mut reasons = 0;
+    for _ in 0..400 {
+        let mut bytes = log.as_bytes().to_vec();
+        let at = 32 + rng.below(bytes.len() - 32);
+        bytes[at] = rng.below(10) as u8;
+        judge(&folder, &bytes);
+        reasons += usize::from(first_wrong(&bytes).is_some());
+    }
+    assert!(reasons > 100, "{reasons} named ops");
 }
 
 #[test]

@@ -120,3 +120,35 @@ fn a_full_standard_output_is_told() {
     assert!(told.contains("after the change was made"), "{told}");
     assert_eq!(folder.read("a").len(), 46);
 }
+
+/// What goes to standard output goes before what goes into files beside it: an op that
+/// waited stays in its tray, and no op is handed on that its outline lacks.
+#[test]
+fn nothing_is_lost_where_a_changed_file_cannot_be_printed() {
+    let folder = Folder::new();
+    for line in [
+        "new a",
+        "add a 0 --out 1",
+        "add a 257 --out 2",
+        "new b",
+        "post b tray 2",
+    ] {
+        folder.done(line);
+    }
+    let before = folder.files();
+    for line in [
+        "post - tray 1 <b",
+        "add --out 3 - 0 <a",
+        "meet - b <a",
+        "open - b <a",
+    ] {
+        let output = script(&folder, &[], &format!("\"$1\" {line} >/dev/full"));
+        assert!(matches!(output.status.code(), Some(1 | 3)), "{line}");
+        assert_eq!(folder.files(), before, "{line}");
+    }
+    // The other way round: the log is changed by then, and that is told.
+    let output = script(&folder, &[], "\"$1\" add --out - a 0 >/dev/full");
+    let told = String::from_utf8_lossy(&output.stderr);
+    assert_eq!(output.status.code(), Some(3));
+    assert!(told.ends_with("; changed by then: a\n"), "{told}");
+}

@@ -2,6 +2,7 @@
 
 use crate::common::{Folder, Rng};
 use std::ffi::OsString;
+use std::fs;
 use std::os::unix::ffi::OsStringExt;
 
 #[test]
@@ -39,6 +40,10 @@ fn what_is_asked_wrongly_ends_with_2_and_says_how_to_ask() {
         "bundle a --for 1,2,3,4,5,6,7,256",
         "bundle a --for 1,2,3,4,5,6,7,8,9",
         "bundle a --for a --for-file a",
+        "bundle a --for +1,0,0,0,0,0,0,0",
+        "bundle a --out ./a",
+        "draw a --out a",
+        "add a 0 --out a",
         "draw",
     ];
     for line in lines {
@@ -110,18 +115,24 @@ fn what_is_made_is_not_written_over_by_mistake() {
         "bundle a --out b",
         "draw a --out b",
         "add a 0 --out b",
-        "bundle a --out a",
     ] {
         let ran = folder.run(line.split(' '));
         assert_eq!(ran.status, Some(3), "{line}: {ran:?}");
         assert!(
-            ran.err.contains("--force writes over it"),
+            ran.err.contains("is there already; "),
             "{line}: {}",
             ran.err
         );
         assert_eq!(folder.files(), before, "{line}");
     }
-    folder.done("bundle a --out b --force");
+    // Only a new outline may take the place of whatever is there.
+    for line in [
+        "bundle a --out b --force",
+        "draw a --out b --force",
+        "add a 0 --out b --force",
+    ] {
+        assert_eq!(folder.run(line.split(' ')).status, Some(2), "{line}");
+    }
     folder.done("new a --force");
     assert_eq!(folder.read("a").len(), 32);
 }
@@ -258,7 +269,8 @@ fn no_arguments_make_it_panic() {
     let mut ended = [0; 4];
     for round in 0..1500 {
         if round % 50 == 0 {
-            for (name, line) in [("a", "add a 0 --out=op --force"), ("b", "add b 0 --as=2")] {
+            let _ = fs::remove_file(folder.path().join("op"));
+            for (name, line) in [("a", "add a 0 --out=op"), ("b", "add b 0 --as=2")] {
                 folder.done(&format!("new --force {name}"));
                 folder.done(line);
             }

@@ -1,10 +1,13 @@
 //! Names of files are any bytes, and files are of many sorts.
 
-use crate::common::Folder;
+use crate::common::{Folder, SEAT};
 use std::ffi::{OsStr, OsString};
 use std::fs::{self, Permissions};
 use std::os::unix::ffi::{OsStrExt, OsStringExt};
-use std::os::unix::fs::{symlink, PermissionsExt};
+use std::os::unix::fs::{chown, symlink, MetadataExt, PermissionsExt};
+use std::process::{Command, Stdio};
+use std::thread;
+use std::time::Duration;
 
 #[test]
 fn names_with_spaces_and_bytes_that_are_no_utf8() {
@@ -159,4 +162,94 @@ fn standard_input_and_output() {
     }
     let refused = folder.run_with(["add", "-", "999"], &ran.out);
     assert_eq!((refused.status, refused.out.len()), (Some(1), 0));
+}
+
+#[test]
+fn owner_and_group_stay_where_that_can_be() {
+    let folder = Folder::new();
+    folder.done("new news");
+    let path = folder.path().join("news");
+    if chown(&path, Some(65534), Some(1234)).is_err() {
+        println!("only root gives files away");
+        return;
+    }
+    folder.done("add news 0");
+    let news = fs::metadata(&path).unwrap();
+    assert_eq!((news.uid(), news.gid()), (65534, 1234));
+}
+
+#[test]
+fn what_is_in_the_way_is_left() {
+    let folder = Folder::new();
+    folder.done("new news");
+    let beside = folder.path().join(".news.seat-new");
+    folder.write("precious", b"a letter");
+    fs::hard_link(folder.path().join("precious"), &beside).unwrap();
+    let ran = folder.run(["add", "news", "0"]);
+    assert_eq!(
+        (ran.status, ran.err.contains("is in the way")),
+        (Some(3), true),
+        "{ran:?}"
+    );
+    assert_eq!(folder.read("precious"), b"a letter");
+    fs::remove_file(&beside).unwrap();
+    for target in ["precious", "nowhere", "."] {
+        symlink(target, &beside).unwrap();
+        assert_eq!(folder.run(["add", "news", "0"]).status, Some(3), "{target}");
+        fs::remove_file(&beside).unwrap();
+    }
+    assert_eq!(folder.files().len(), 2);
+    assert_eq!(folder.read("precious"), b"a letter");
+}
+
+#[test]
+fn one_folder_by_two_ways() {
+    let folder = Folder::new();
+    let script = "mkdir other && mount --bind . other && \"$1\" new news && timeout 20 \"$1\" meet news other/news";
+    let mut command = Command::new("unshare");
+    command.args([
+        "--map-root-user",
+        "--mount",
+        "bash",
+        "-c",
+        script,
+        "bash",
+        SEAT,
+    ]);
+    let output = command
+        .current_dir(folder.path())
+        .output()
+        .expect("a shell");
+    let told = String::from_utf8_lossy(&output.stderr);
+    // Not on every machine may a program mount.
+    assert!(
+        told.contains("is named twice")
+            || told.contains("unshare failed")
+            || told.contains("mount"),
+        "{told}"
+    );
+    assert_ne!(output.status.code(), Some(124), "it waits for itself");
+}
+
+#[test]
+fn one_who_waits_for_long_says_so() {
+    let folder = Folder::new();
+    folder.done("new news");
+    let held = fs::File::create(folder.path().join(".news.seat-new")).unwrap();
+    held.lock().unwrap();
+    let waiting = folder
+        .command(["add", "news", "0"])
+        .stderr(Stdio::piped())
+        .stdout(Stdio::null())
+        .spawn();
+    let waiting = waiting.expect("the program starts");
+    thread::sleep(Duration::from_millis(1500));
+    drop(held);
+    let output = waiting.wait_with_output().expect("it ends");
+    let told = String::from_utf8_lossy(&output.stderr);
+    assert_eq!(
+        told,
+        "seat: news: waiting for another program that changes it\n"
+    );
+    assert_eq!(folder.read("news").len(), 46);
 }

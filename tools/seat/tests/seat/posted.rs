@@ -47,7 +47,7 @@ fn several_ops_in_one_file_and_on_standard_input() {
     let ran = folder.run_with(["post", "-", "d.tray", "all"], b"");
     assert_eq!(
         (ran.out, &ran.err[..]),
-        (folder.read("a"), "standard input: 4 ops came, 0 waiting\n")
+        (folder.read("a"), "-: 4 ops came, 0 waiting\n")
     );
 }
 
