@@ -1,8 +1,8 @@
 //! Files that are not sound.
 
-use crate::common::{repository, Folder, Rng};
+use crate::common::{repository, Folder};
 use outline::{Log, Node, Replica};
-use outline_model as model;
+use outline_model::{self as model, rng::Rng};
 use std::fs;
 
 /// What is told of a damaged log, and that nothing changes it; of one that is sound
@@ -48,11 +48,11 @@ fn first_wrong(bytes: &[u8]) -> Option<(String, u8)> {
 
 #[test]
 fn a_byte_of_a_larger_log_changed() {
-    let (folder, mut rng) = (Folder::new(), Rng(9));
+    let (folder, mut rng) = (Folder::new(), Rng::new(9));
     let mut log = Log::new();
     for turn in 0..60 {
         let nodes: Vec<Node> = log.tree().nodes().collect();
-        let (node, parent) = (*rng.pick(&nodes), *rng.pick(&nodes));
+        let (node, parent) = (rng.pick(&nodes), rng.pick(&nodes));
         let seat = Replica::new(1 + rng.below(8) as u8).expect("a seat");
         let _ = match turn % 3 {
             0 => log.move_to(seat, node, parent),
@@ -140,7 +140,7 @@ fn what_others_hand_over_is_not_trusted() {
         folder.done(&format!("add news {parent}"));
     }
     folder.done("bundle news --out bundle");
-    let (bundle, mut rng) = (folder.read("bundle"), Rng(3));
+    let (bundle, mut rng) = (folder.read("bundle"), Rng::new(3));
     for _ in 0..300 {
         let mut bytes = bundle.clone();
         let at = rng.below(bytes.len());

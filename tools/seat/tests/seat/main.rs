@@ -3,6 +3,7 @@
 
 mod common;
 mod damaged;
+mod drawings;
 mod exercises;
 mod full;
 mod manners;

@@ -1,6 +1,7 @@
 //! Exit statuses, messages, and arguments of every kind.
 
-use crate::common::{Folder, Rng};
+use crate::common::Folder;
+use outline_model::rng::Rng;
 use std::ffi::OsString;
 use std::fs;
 use std::os::unix::ffi::OsStringExt;
@@ -257,15 +258,17 @@ fn word(rng: &mut Rng) -> OsString {
                 .map(|_| (rng.below(255) + 1) as u8)
                 .collect(),
         ),
-        1 => (*rng.pick(&COMMANDS)).into(),
-        2..=6 => (*rng.pick(&["0", "257", "258", "513", "999", "a", "b"])).into(),
-        _ => (*rng.pick(&words)).into(),
+        1 => rng.pick(&COMMANDS).into(),
+        2..=6 => rng
+            .pick(&["0", "257", "258", "513", "999", "a", "b"])
+            .into(),
+        _ => rng.pick(&words).into(),
     }
 }
 
 #[test]
 fn no_arguments_make_it_panic() {
-    let (folder, mut rng) = (Folder::new(), Rng(5));
+    let (folder, mut rng) = (Folder::new(), Rng::new(5));
     let mut ended = [0; 4];
     for round in 0..1500 {
         if round % 50 == 0 {
@@ -279,7 +282,7 @@ fn no_arguments_make_it_panic() {
         let mut args: Vec<OsString> = Vec::new();
         // Half of them begin as they should.
         if rng.below(2) == 0 {
-            args.extend([(*rng.pick(&COMMANDS)).into(), "a".into()]);
+            args.extend([rng.pick(&COMMANDS).into(), "a".into()]);
         }
         args.extend((0..rng.below(6)).map(|_| word(&mut rng)));
         let ran = folder.run_with(&args, &folder.read("op"));

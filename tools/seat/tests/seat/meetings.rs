@@ -1,6 +1,7 @@
 //! Seats that work apart and meet.
 
-use crate::common::{Folder, Rng};
+use crate::common::Folder;
+use outline_model::rng::Rng;
 use std::time::{Duration, Instant};
 
 /// The nodes that a file shows.
@@ -14,7 +15,8 @@ fn nodes(folder: &Folder, file: &str) -> Vec<String> {
 fn work(folder: &Folder, rng: &mut Rng, seat: usize) {
     let file = format!("{seat}.outline");
     let nodes = nodes(folder, &file);
-    let (node, parent) = (rng.pick(&nodes).clone(), rng.pick(&nodes).clone());
+    let nodes: Vec<&str> = nodes.iter().map(String::as_str).collect();
+    let (node, parent) = (rng.pick(&nodes), rng.pick(&nodes));
     let line = match rng.below(8) {
         0..=3 => format!("add {file} {parent} --as {seat}"),
         4 => format!("remove {file} {node} --as {seat}"),
@@ -30,7 +32,7 @@ fn work(folder: &Folder, rng: &mut Rng, seat: usize) {
 
 #[test]
 fn eight_seats_meet_in_random_pairs_until_all_are_alike() {
-    let (folder, mut rng) = (Folder::new(), Rng(8));
+    let (folder, mut rng) = (Folder::new(), Rng::new(8));
     let names: Vec<String> = (1..=8).map(|seat| format!("{seat}.outline")).collect();
     for name in &names {
         folder.done(&format!("new {name}"));
