@@ -3,9 +3,10 @@
 use outline::{Kind, Log, Node, Op, Outcome, Replica};
 use std::collections::HashMap;
 use std::fmt;
+use std::iter::successors;
 
 /// An op by its seat and sequence: `1:3`.
-#[derive(Clone, Copy, PartialEq, Eq, PartialOrd, Ord)]
+#[derive(Clone, Copy, PartialEq, Eq, PartialOrd, Ord, Hash)]
 pub struct Id {
     pub replica: Replica,
     pub sequence: u8,
@@ -61,8 +62,9 @@ impl Judged {
         outcome.number()
     }
 
-    pub fn is_move(&self) -> bool {
-        matches!(self.op.kind(), Kind::MoveUp | Kind::MoveDown)
+    /// Whether it gave its node a new place.
+    pub fn has_moved(&self) -> bool {
+        is_move(&self.op) && self.became == Became::Applied
     }
 
     /// Why a move lost, if it did.
@@ -80,57 +82,71 @@ impl Judged {
 /// the library's; the timestamps and the tree at each op follow from them.
 pub fn judged(log: &Log) -> Vec<Judged> {
     let page = log.page();
-    let mut timestamps = HashMap::new();
-    let mut parents = HashMap::new();
-    let mut placed = HashMap::new();
-    let mut all = Vec::new();
-    for (replica, sequence) in page.order() {
-        let (Some(op), Some(outcome)) = (
-            log.op(replica, sequence),
-            page.outcome_of(replica, sequence),
-        ) else {
-            continue;
-        };
-        // 1 more than the greatest timestamp of what it counts; of each replica the
-        // last one has the greatest.
-        let last = |of| timestamps.get(&(of, op.vector().count(of)));
-        let greatest: usize = Replica::all().filter_map(last).copied().max().unwrap_or(0);
-        let timestamp = greatest + 1;
-        timestamps.insert((replica, sequence), timestamp);
+    let mut before = Before::default();
+    let judge = |(replica, sequence)| {
+        let op = log.op(replica, sequence)?;
+        let outcome = page.outcome_of(replica, sequence)?;
+        Some(before.judge(op, outcome))
+    };
+    page.order().filter_map(judge).collect()
+}
 
-        let node = op.node();
-        let parent = op.parent();
-        let became = match outcome {
-            Outcome::Applied => {
+/// What the ops that were judged before one have come to.
+#[derive(Default)]
+struct Before {
+    timestamps: HashMap<Id, usize>,
+    parents: HashMap<Node, Node>,
+    /// The applied move of a timestamp that placed a node.
+    placed: HashMap<(usize, Node), Id>,
+}
+
+impl Before {
+    fn judge(&mut self, op: Op, outcome: Outcome) -> Judged {
+        let timestamp = self.timestamp(&op);
+        self.timestamps.insert(Id::of(&op), timestamp);
+        let (node, place) = (op.node(), (timestamp, op.node()));
+        let became = match (outcome, op.parent()) {
+            (Outcome::PlacedAlready, _) => {
+                Became::GaveWay(*self.placed.get(&place).unwrap_or(&Id::of(&op)))
+            }
+            (Outcome::WouldCloseCircle, Some(parent)) => Became::LeftOut(self.steps(parent, node)),
+            (_, parent) => {
                 if let Some(parent) = parent {
-                    parents.insert(node, parent);
-                    if op.kind() != Kind::Add {
-                        placed.insert((timestamp, node), Id::of(&op));
-                    }
+                    self.parents.insert(node, parent);
+                }
+                if is_move(&op) {
+                    self.placed.insert(place, Id::of(&op));
                 }
                 Became::Applied
             }
-            Outcome::PlacedAlready => {
-                let by = placed.get(&(timestamp, node)).copied();
-                Became::GaveWay(by.unwrap_or(Id::of(&op)))
-            }
-            Outcome::WouldCloseCircle => {
-                Became::LeftOut(steps(&parents, parent.unwrap_or(node), node))
-            }
         };
-        all.push(Judged {
+        Judged {
             op,
             timestamp,
             became,
-        });
+        }
     }
-    all
+
+    /// 1 more than the greatest timestamp of what an op counts; of each replica the last
+    /// one has the greatest.
+    fn timestamp(&self, op: &Op) -> usize {
+        let last = |replica| Id {
+            replica,
+            sequence: op.vector().count(replica),
+        };
+        let counted = Replica::all().filter_map(|of| self.timestamps.get(&last(of)));
+        counted.max().unwrap_or(&0) + 1
+    }
+
+    /// The steps from a node up to one above it.
+    fn steps(&self, from: Node, to: Node) -> usize {
+        let climb = successors(Some(from), |at| self.parents.get(at).copied());
+        climb.take_while(|&at| at != to).count()
+    }
 }
 
-/// The steps from a node up to one above it.
-fn steps(parents: &HashMap<Node, Node>, from: Node, to: Node) -> usize {
-    let climb = std::iter::successors(Some(from), |at| parents.get(at).copied());
-    climb.take_while(|&at| at != to).count()
+fn is_move(op: &Op) -> bool {
+    matches!(op.kind(), Kind::MoveUp | Kind::MoveDown)
 }
 
 /// The ops that two logs have of one seat and sequence, and that differ.

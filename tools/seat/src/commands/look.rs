@@ -8,6 +8,7 @@ use crate::report::Report;
 use crate::trouble::{self, Tried};
 use outline::plain::{self, LONGEST_PATH};
 use outline::{Kind, Node, Replica, View};
+use std::array;
 use std::fmt::Write;
 
 const SKIPPING: Opt = Opt::flag("--skipping", "leave out removed nodes, with all below them");
@@ -124,27 +125,31 @@ fn plain_line(judged: &Judged) -> String {
     )
 }
 
+const HEADINGS: [&str; 7] = [
+    "op",
+    "kind",
+    "node",
+    "parent",
+    "counts",
+    "timestamp",
+    "outcome",
+];
+
 fn table(all: &[Judged]) -> String {
-    let headings = [
-        "op",
-        "kind",
-        "node",
-        "parent",
-        "counts",
-        "timestamp",
-        "outcome",
-    ];
-    let mut rows = vec![headings.map(String::from)];
+    let mut rows = vec![HEADINGS.map(String::from)];
     rows.extend(all.iter().map(row));
+    let widths: [usize; 7] = array::from_fn(|column| {
+        let widths = rows.iter().map(|row| row[column].len());
+        widths.max().unwrap_or(0)
+    });
     let mut text = String::new();
     for row in &rows {
-        let mut line = String::new();
-        for (column, cell) in row.iter().enumerate() {
-            let width = rows.iter().map(|row| row[column].len()).max().unwrap_or(0);
-            let _ = write!(line, "{cell:<width$}  ");
-        }
-        text.push_str(line.trim_end());
-        text.push('\n');
+        let cells = row
+            .iter()
+            .zip(widths)
+            .map(|(cell, width)| format!("{cell:<width$}"));
+        let line = cells.collect::<Vec<_>>().join("  ");
+        let _ = writeln!(text, "{}", line.trim_end());
     }
     text
 }

@@ -53,15 +53,10 @@ fn meet(ask: &Ask) -> Tried<Report> {
 
     let mut text = String::new();
     for ((name, log), before) in names.iter().zip(&logs).zip(before) {
-        let (came, now) = (log.len() - before, log.len());
+        let (name, came, now) = (Shown(name), log.len() - before, log.len());
         let _ = match ask.is_plain() {
             true => writeln!(text, "{came} {now}"),
-            false => writeln!(
-                text,
-                "{}: {} came, {now} now",
-                Shown(name),
-                many(came, "op")
-            ),
+            false => writeln!(text, "{name}: {} came, {now} now", many(came, "op")),
         };
     }
     let files = claims.into_iter().zip(&logs);
@@ -76,11 +71,8 @@ fn conflict(why: Refusal, names: &[&OsStr], logs: &[Log]) -> Trouble {
     if let [others @ .., last] = logs {
         for (log, name) in others.iter().zip(names) {
             if let Some(id) = differing(log, last).next() {
-                of = format!(
-                    "{} and {}, op {id}",
-                    Shown(name),
-                    Shown(names[others.len()])
-                );
+                let (one, other) = (Shown(name), Shown(names[others.len()]));
+                of = format!("{one} and {other}, op {id}");
                 break;
             }
         }

@@ -40,15 +40,13 @@ seat post bob.outline bob.tray 1.op",
 const MOST: usize = OP * 2040;
 
 fn post(ask: &Ask) -> Tried<Report> {
-    let (names, offered) = (ask.operands(), ask.operands().split_off(2));
-    let (name, tray_name) = (names[0], names[1]);
+    let (name, tray_name) = (ask.operand(0), ask.operand(1));
     if name::is_stream(tray_name) {
         return Err(trouble::usage("a tray is a file, and not -".into()));
     }
-    let mut ops = Vec::new();
-    for from in offered {
-        ops.push((from, input::read(from, MOST)?));
-    }
+    let offered = ask.operands().into_iter().skip(2);
+    let ops = offered.map(|from| Ok((from, input::read(from, MOST)?)));
+    let ops = ops.collect::<Tried<Vec<_>>>()?;
     let stream = input::stream(&[name])?;
     let mut claims = claim(&[name, tray_name])?.into_iter();
     let (file, tray_file) = (claims.next().flatten(), claims.next().flatten());
@@ -58,19 +56,14 @@ fn post(ask: &Ask) -> Tried<Report> {
     let mut tray = tray.map_err(trouble::refused(tray_name))?;
 
     let before = log.len();
-    let mut text = match ops.is_empty() {
+    let answers = match ops.is_empty() {
         true => offer_again(&mut log, &mut tray),
-        false => offer(&mut log, &mut tray, &ops, ask.is_plain())?,
+        false => offer(&mut log, &mut tray, &ops)?,
     };
-    let (came, waiting) = (log.len() - before, tray.len());
-    let _ = match ask.is_plain() {
-        true => writeln!(text, "{waiting}"),
-        false => writeln!(
-            text,
-            "{}: {} came, {waiting} waiting",
-            Shown(name),
-            many(came, "op")
-        ),
+    let (came, waiting) = (many(log.len() - before, "op"), tray.len());
+    let text = match ask.is_plain() {
+        true => format!("{answers}{waiting}\n"),
+        false => format!("{}: {came} came, {waiting} waiting\n", Shown(name)),
     };
     // The log first: what has left the tray is in the log then.
     let files = vec![
@@ -80,14 +73,9 @@ fn post(ask: &Ask) -> Tried<Report> {
     Ok(Report::changed(put_all(files)?, text))
 }
 
-/// Offers ops as they come.
-fn offer(
-    log: &mut Log,
-    tray: &mut Holdback,
-    ops: &[(&OsStr, Vec<u8>)],
-    plain: bool,
-) -> Tried<String> {
-    let mut text = String::new();
+/// Offers ops as they come, and says what is answered to each.
+fn offer(log: &mut Log, tray: &mut Holdback, ops: &[(&OsStr, Vec<u8>)]) -> Tried<String> {
+    let mut answers = String::new();
     for (from, bytes) in ops {
         // No bytes are no op either, and the library says so.
         let nothing = bytes.is_empty().then_some(&bytes[..]);
@@ -96,15 +84,14 @@ fn offer(
                 let of = format!("{}, op {}", Shown(from), at + 1);
                 Trouble::Refused { of, why }
             })?;
-            let _ = match (answer, plain) {
-                (Delivery::Accepted(end), true) => writeln!(text, "accepted {end}"),
-                (Delivery::HadIt, true) => writeln!(text, "had"),
-                (_, true) => writeln!(text, "waiting"),
-                (_, false) => Ok(()),
+            let _ = match answer {
+                Delivery::Accepted(end) => writeln!(answers, "accepted {end}"),
+                Delivery::HadIt => writeln!(answers, "had"),
+                _ => writeln!(answers, "waiting"),
             };
         }
     }
-    Ok(text)
+    Ok(answers)
 }
 
 /// Offers all that waits once more, with a new tray. One that is refused now would

@@ -5,7 +5,7 @@ mod arrow;
 mod point;
 mod sheet;
 
-use crate::judged::{judged, Became, Id, Judged};
+use crate::judged::{judged, Id, Judged};
 use arrow::Arrow;
 use outline::{Log, Node, Replica, Tree};
 use point::Point;
@@ -81,10 +81,8 @@ fn places(tree: &Tree) -> Places {
 
 /// For each node that hangs where a move put it the seat that moved it.
 fn movers(all: &[Judged]) -> HashMap<Node, Replica> {
-    let applied = all
-        .iter()
-        .filter(|it| it.is_move() && it.became == Became::Applied);
-    applied.map(|it| (it.op.node(), it.op.replica())).collect()
+    let moved = all.iter().filter(|it| it.has_moved());
+    moved.map(|it| (it.op.node(), it.op.replica())).collect()
 }
 
 /// A line from each node to its parent, in the colour of the seat that moved it there.

@@ -6,48 +6,48 @@ use std::ffi::OsString;
 use std::fs;
 use std::os::unix::ffi::OsStringExt;
 
+/// Lines of words, the first of none.
+const ASKED_WRONGLY: &str = "
+nothing
+-x
+--plain
+list
+list a b
+list --wrong a
+list --skipping=1 a
+list -s a
+add a
+add a zero
+add a -1
+add a 1x
+add a 0 --as
+add a 0 --as two
+add a 0 --as=
+move a 1
+column a
+meet a
+meet a a
+meet a ./a
+compare a
+open a
+post a
+post a -
+bundle a --for 1,2,3
+bundle a --for 1,2,3,4,5,6,7,256
+bundle a --for 1,2,3,4,5,6,7,8,9
+bundle a --for a --for-file a
+bundle a --for +1,0,0,0,0,0,0,0
+bundle a --out ./a
+draw a --out a
+add a 0 --out a
+draw";
+
 #[test]
 fn what_is_asked_wrongly_ends_with_2_and_says_how_to_ask() {
     let folder = Folder::new();
     folder.done("new a");
     folder.done("new b");
-    let lines = [
-        "",
-        "nothing",
-        "-x",
-        "--plain",
-        "list",
-        "list a b",
-        "list --wrong a",
-        "list --skipping=1 a",
-        "list -s a",
-        "add a",
-        "add a zero",
-        "add a -1",
-        "add a 1x",
-        "add a 0 --as",
-        "add a 0 --as two",
-        "add a 0 --as=",
-        "move a 1",
-        "column a",
-        "meet a",
-        "meet a a",
-        "meet a ./a",
-        "compare a",
-        "open a",
-        "post a",
-        "post a -",
-        "bundle a --for 1,2,3",
-        "bundle a --for 1,2,3,4,5,6,7,256",
-        "bundle a --for 1,2,3,4,5,6,7,8,9",
-        "bundle a --for a --for-file a",
-        "bundle a --for +1,0,0,0,0,0,0,0",
-        "bundle a --out ./a",
-        "draw a --out a",
-        "add a 0 --out a",
-        "draw",
-    ];
-    for line in lines {
+    for line in ASKED_WRONGLY.lines() {
         let ran = folder.run(line.split(' ').filter(|word| !word.is_empty()));
         assert_eq!((ran.status, ran.out.len()), (Some(2), 0), "{line}: {ran:?}");
         assert!(
@@ -217,41 +217,15 @@ const COMMANDS: [&str; 15] = [
     "open", "post", "compare", "draw",
 ];
 
-/// Words that mean something somewhere, and words that mean nothing.
+/// Words that mean something somewhere.
+const WORDS: &str = "
+a b tray op missing/x - -- --plain --help --force --moves --skipping --as --as=2
+--out --out=c --for --for=0,0,0,0,0,0,0,0 --for-file=b 0 257 258 513 65536 1 --=
+--version /dev/null /dev/full
+";
+
+/// A word, or something that is none.
 fn word(rng: &mut Rng) -> OsString {
-    let words = [
-        "a",
-        "b",
-        "tray",
-        "op",
-        "missing/x",
-        "-",
-        "--",
-        "--plain",
-        "--help",
-        "--force",
-        "--moves",
-        "--skipping",
-        "--as",
-        "--as=2",
-        "--out",
-        "--out=c",
-        "--for",
-        "--for=0,0,0,0,0,0,0,0",
-        "--for-file=b",
-        "0",
-        "257",
-        "258",
-        "513",
-        "65536",
-        "1",
-        "",
-        " ",
-        "--=",
-        "--version",
-        "/dev/null",
-        "/dev/full",
-    ];
     match rng.below(12) {
         0 => OsString::from_vec(
             (0..rng.below(5))
@@ -262,7 +236,10 @@ fn word(rng: &mut Rng) -> OsString {
         2..=6 => rng
             .pick(&["0", "257", "258", "513", "999", "a", "b"])
             .into(),
-        _ => rng.pick(&words).into(),
+        7 => rng.pick(&["", " "]).into(),
+        _ => rng
+            .pick(&WORDS.split_whitespace().collect::<Vec<_>>())
+            .into(),
     }
 }
 

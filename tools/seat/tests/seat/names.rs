@@ -9,45 +9,38 @@ use std::process::{Command, Stdio};
 use std::thread;
 use std::time::Duration;
 
+/// Spaces, bytes that are no UTF-8, what could be an option, a line feed.
+const NAMES: [&[u8]; 6] = [
+    b"parish news.outline",
+    b"\xff\xfe.outline",
+    b"--force",
+    b"two\nlines",
+    b"F\xc3\xaate",
+    b"-x",
+];
+
 #[test]
 fn names_with_spaces_and_bytes_that_are_no_utf8() {
     let folder = Folder::new();
-    let names: [&[u8]; 6] = [
-        b"parish news.outline",
-        b"\xff\xfe.outline",
-        b"--force",
-        b"two\nlines",
-        "Fête".as_bytes(),
-        b"-x",
-    ];
-    for name in names.map(OsStr::from_bytes) {
-        for args in [["new"].map(OsStr::new).to_vec(), vec![OsStr::new("add")]] {
-            let args = args.into_iter().chain([OsStr::new("--"), name]);
-            let args: Vec<_> = match args.clone().next() {
-                Some(first) if first == "add" => args.chain([OsStr::new("0")]).collect(),
-                _ => args.collect(),
-            };
-            let ran = folder.run(&args);
-            assert_eq!(ran.status, Some(0), "{ran:?}");
-        }
+    let names = NAMES.map(OsStr::from_bytes);
+    let asked = |before: &[&str], names: &[&OsStr], after: &[&str]| {
+        let (before, after) = (before.iter().map(OsStr::new), after.iter().map(OsStr::new));
+        let ran = folder.run(before.chain(names.iter().copied()).chain(after));
+        assert_eq!(ran.status, Some(0), "{ran:?}");
+    };
+    for name in names {
+        asked(&["new", "--"], &[name], &[]);
+        asked(&["add", "--"], &[name], &["0"]);
         assert_eq!(folder.read(name).len(), 46);
     }
-    let all: Vec<&OsStr> = ["meet", "--"]
-        .into_iter()
-        .map(OsStr::new)
-        .chain(names.map(OsStr::from_bytes))
-        .collect();
     // Each has an op 1:1 of its own making, and they are the same.
-    assert_eq!(folder.run(&all).status, Some(0));
+    asked(&["meet", "--"], &names, &[]);
     assert_eq!(folder.files().len(), names.len());
     // What a terminal could take for a command is not printed as it is.
     let ran = folder.run([OsStr::new("check"), OsStr::from_bytes(b"\x1b[2J\xff")]);
     assert_eq!(ran.status, Some(3));
-    assert!(
-        ran.err.starts_with("seat: \\u{1b}[2J\\xff: No such file"),
-        "{}",
-        ran.err
-    );
+    let told = "seat: \\u{1b}[2J\\xff: No such file";
+    assert!(ran.err.starts_with(told), "{}", ran.err);
 }
 
 #[test]
