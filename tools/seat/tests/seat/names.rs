@@ -3,11 +3,10 @@
 use crate::common::{Folder, SEAT};
 use std::ffi::{OsStr, OsString};
 use std::fs::{self, Permissions};
+use std::io::{BufRead, BufReader};
 use std::os::unix::ffi::{OsStrExt, OsStringExt};
 use std::os::unix::fs::{chown, symlink, MetadataExt, PermissionsExt};
 use std::process::{Command, Stdio};
-use std::thread;
-use std::time::Duration;
 
 /// Spaces, bytes that are no UTF-8, what could be an option, a line feed.
 const NAMES: [&[u8]; 6] = [
@@ -230,19 +229,18 @@ fn one_who_waits_for_long_says_so() {
     folder.done("new news");
     let held = fs::File::create(folder.path().join(".news.seat-new")).unwrap();
     held.lock().unwrap();
-    let waiting = folder
-        .command(["add", "news", "0"])
-        .stderr(Stdio::piped())
-        .stdout(Stdio::null())
-        .spawn();
-    let waiting = waiting.expect("the program starts");
-    thread::sleep(Duration::from_millis(1500));
-    drop(held);
-    let output = waiting.wait_with_output().expect("it ends");
-    let told = String::from_utf8_lossy(&output.stderr);
+    let mut command = folder.command(["add", "news", "0"]);
+    let waiting = command.stdout(Stdio::null()).stderr(Stdio::piped()).spawn();
+    let mut waiting = waiting.expect("the program starts");
+    let mut told = String::new();
+    let stderr = waiting.stderr.take().expect("a pipe");
+    BufReader::new(stderr).read_line(&mut told).expect("a line");
     assert_eq!(
         told,
         "seat: news: waiting for another program that changes it\n"
     );
+    assert_eq!(folder.read("news").len(), 32);
+    drop(held);
+    assert!(waiting.wait().expect("it ends").success());
     assert_eq!(folder.read("news").len(), 46);
 }

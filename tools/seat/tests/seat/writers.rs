@@ -4,21 +4,30 @@ use crate::common::Folder;
 use std::sync::atomic::{AtomicBool, Ordering};
 use std::thread;
 
-/// So many commands by each of several at once, all done.
+/// So many commands by each of several at once, all done; on a slow disk one may say
+/// that it waits.
 fn at_once(
     folder: &Folder,
     writers: usize,
     times: usize,
     line: impl Fn(usize, usize) -> String + Sync,
 ) {
+    let work = |writer: usize| {
+        for time in 0..times {
+            let line = line(writer, time);
+            let ran = folder.run(line.split(' '));
+            assert_eq!(ran.status, Some(0), "{line}: {ran:?}");
+            let mut told = ran.err.lines();
+            assert!(
+                told.all(|told| told.contains(": waiting for ")),
+                "{line}: {ran:?}"
+            );
+        }
+    };
     thread::scope(|scope| {
         for writer in 1..=writers {
-            let line = &line;
-            scope.spawn(move || {
-                for time in 0..times {
-                    folder.done(&line(writer, time));
-                }
-            });
+            let work = &work;
+            scope.spawn(move || work(writer));
         }
     });
 }
