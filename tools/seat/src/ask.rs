@@ -133,7 +133,7 @@ impl Ask {
 
     /// The seat that issues: the option's, or else the variable's.
     pub fn seat(&self, opt: Opt) -> Tried<u8> {
-        let variable = env::var_os("SEAT");
+        let variable = env::var_os("SEAT").filter(|seat| !seat.is_empty());
         let Some(seat) = self.value(opt).or(variable.as_deref()) else {
             let text =
                 "which seat? Say --as 1, or set the variable SEAT to the number of this machine";

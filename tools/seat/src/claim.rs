@@ -9,7 +9,7 @@
 //!
 //! The new file beside `news` is `.news.seat-new`: names of this form are this
 //! program's own. What is left of one that was killed is at most such a file, without a
-//! lock, which the next one to change `news` takes for its own.
+//! lock, which the next one to change `news` takes away.
 
 use crate::input;
 use crate::name::{self, Shown};
@@ -17,10 +17,10 @@ use crate::report;
 use crate::stops::step;
 use crate::trouble::{self, Tried, Trouble};
 use std::ffi::{OsStr, OsString};
-use std::fs::{self, File, Metadata, OpenOptions, TryLockError};
+use std::fs::{self, File, OpenOptions, Permissions, TryLockError};
 use std::io::{self, ErrorKind, Write};
 use std::os::unix::ffi::OsStrExt;
-use std::os::unix::fs::{fchown, MetadataExt, OpenOptionsExt};
+use std::os::unix::fs::{fchown, MetadataExt, OpenOptionsExt, PermissionsExt};
 use std::path::{Path, PathBuf};
 use std::thread::sleep;
 use std::time::{Duration, Instant};
@@ -28,8 +28,13 @@ use std::time::{Duration, Instant};
 /// What is read of a file that is changed: the largest of these is a log.
 const MOST: usize = outline::plain::LARGEST;
 
-/// Not to follow a link, for `open` on x86-64 Linux, where the library runs.
+/// The end of the name of a new file beside another.
+const OWN: &str = ".seat-new";
+
+/// Not to follow a link, and that there was one, on x86-64 Linux, where the library
+/// runs.
 const O_NOFOLLOW: i32 = 0o400_000;
+const ELOOP: i32 = 40;
 
 /// How long a lock is waited for before that is told.
 const PATIENCE: Duration = Duration::from_secs(1);
@@ -63,7 +68,10 @@ fn path_of(name: &OsStr) -> io::Result<PathBuf> {
         return fs::canonicalize(path);
     }
     let missing = || io::Error::new(ErrorKind::NotFound, "no such file");
-    if name.as_bytes().ends_with(b"/") {
+    if [&b"/"[..], b"/."]
+        .iter()
+        .any(|end| name.as_bytes().ends_with(end))
+    {
         return Err(missing());
     }
     let last = path.file_name().ok_or_else(missing)?;
@@ -86,6 +94,12 @@ pub fn are_one(one: &OsStr, other: &OsStr) -> bool {
     }
 }
 
+/// Whether a name has the form of this program's own.
+fn is_own(name: &OsStr) -> bool {
+    let last = Path::new(name).file_name().unwrap_or_default().as_bytes();
+    last.starts_with(b".") && last.ends_with(OWN.as_bytes())
+}
+
 /// The trouble with a file that is named twice.
 pub fn twice(name: &OsStr) -> Trouble {
     trouble::usage(format!("{} is named twice", Shown(name)))
@@ -96,6 +110,13 @@ pub fn twice(name: &OsStr) -> Trouble {
 pub fn claim(names: &[&OsStr]) -> Tried<Vec<Option<Claim>>> {
     let mut targets = Vec::new();
     for (place, name) in names.iter().enumerate() {
+        if is_own(name) {
+            let text = format!(
+                "{} is a name that this program keeps for itself",
+                Shown(name)
+            );
+            return Err(trouble::usage(text));
+        }
         if !name::is_stream(name) {
             targets.push((Target::of(name).map_err(trouble::io(name))?, place));
         }
@@ -137,30 +158,35 @@ pub fn put_all(files: Vec<(Option<Claim>, Vec<u8>)>) -> Tried<bool> {
             claim.fill(bytes).map_err(trouble::io(&claim.name))?;
         }
     }
-    let mut changed = Vec::new();
-    for (claim, bytes) in files {
-        let name = claim
-            .as_ref()
-            .map_or("standard output".into(), |claim| claim.name.clone());
+    let names = files.iter().map(|(claim, _)| match claim {
+        Some(claim) => claim.name.clone(),
+        None => "standard output".into(),
+    });
+    let names: Vec<OsString> = names.collect();
+    for (at, (claim, bytes)) in files.into_iter().enumerate() {
         let put = match claim {
             Some(claim) => claim.put(),
             None => report::print(&bytes),
         };
-        put.map_err(|why| trouble::io(&name)(with_changed(why, &changed)))?;
-        changed.push(Shown(&name).to_string());
+        put.map_err(|why| trouble::io(&names[at])(in_between(why, &names, at)))?;
     }
     Ok(streams > 0)
 }
 
-/// An error, and which files had changed before it.
-fn with_changed(why: io::Error, changed: &[String]) -> io::Error {
-    match changed {
-        [] => why,
-        _ => io::Error::new(
-            why.kind(),
-            format!("{why}; changed by then: {}", changed.join(", ")),
-        ),
+/// An error at one of several files: which are changed by then, and which are not.
+fn in_between(why: io::Error, names: &[OsString], at: usize) -> io::Error {
+    let shown = |names: &[OsString]| {
+        let names: Vec<String> = names.iter().map(|name| Shown(name).to_string()).collect();
+        names.join(", ")
+    };
+    let (before, after) = (shown(&names[..at]), shown(&names[at + 1..]));
+    let mut text = why.to_string();
+    for (what, names) in [("changed by then", before), ("not changed", after)] {
+        if !names.is_empty() {
+            text += &format!("; {what}: {names}");
+        }
     }
+    io::Error::new(why.kind(), text)
 }
 
 /// A file that this program alone changes now.
@@ -183,9 +209,9 @@ impl Claim {
     fn on(name: &OsStr, path: PathBuf) -> io::Result<Claim> {
         let mut beside = OsString::from(".");
         beside.push(path.file_name().unwrap_or_default());
-        beside.push(".seat-new");
+        beside.push(OWN);
         let beside = path.with_file_name(beside);
-        let new = lock(&beside, path.exists(), name).map_err(|why| {
+        let new = lock(&path, &beside, name).map_err(|why| {
             io::Error::new(why.kind(), format!("{}: {why}", Shown(beside.as_os_str())))
         })?;
         let mut claim = Claim {
@@ -246,13 +272,8 @@ impl Claim {
 
     /// Writes the new file, as far as the disk.
     fn fill(&mut self, bytes: &[u8]) -> io::Result<()> {
-        // Something of one that was killed may be there.
-        self.new.set_len(0)?;
         // Before a byte is in it, so that nobody reads it who may not read the old one.
-        if let Ok(old) = fs::metadata(&self.path) {
-            self.belong_to(&old);
-            self.new.set_permissions(old.permissions())?;
-        }
+        give_rights(&self.new, &self.path)?;
         step();
         let (front, back) = bytes.split_at(bytes.len() / 2);
         self.new.write_all(front)?;
@@ -262,15 +283,6 @@ impl Claim {
         self.new.sync_all()?;
         step();
         Ok(())
-    }
-
-    /// Gives the new file the owner and the group of the old one, as far as this user
-    /// may: a member of a group may give it that group.
-    fn belong_to(&self, old: &Metadata) {
-        let (owner, group) = (Some(old.uid()), Some(old.gid()));
-        if fchown(&self.new, owner, group).is_err() {
-            let _ = fchown(&self.new, None, group);
-        }
     }
 
     /// Puts the new file, which has been written, in the place of the old one.
@@ -298,45 +310,138 @@ impl Drop for Claim {
     }
 }
 
-/// Opens or makes the new file beside one and waits for its lock, until what is locked
-/// is what the name stands for: whoever held the lock before has renamed or removed
-/// it. If the file itself is there, nobody else may read the new one for now.
-fn lock(path: &Path, private: bool, of: &OsStr) -> io::Result<File> {
+/// Makes the new file beside one and locks it. One that is there already is locked by
+/// another program, or left of one that was killed: then it goes.
+fn lock(path: &Path, beside: &Path, of: &OsStr) -> io::Result<File> {
+    let mut wait = Wait::new(of);
     loop {
-        let mut options = OpenOptions::new();
-        options.read(true).write(true).create(true).truncate(false);
-        options.mode(if private { 0o600 } else { 0o666 });
-        let open = options.custom_flags(O_NOFOLLOW).open(path)?;
-        wait_for(&open, of)?;
-        let locked = open.metadata()?;
-        // A file with another name too is somebody's.
-        if !locked.is_file() || locked.nlink() > 1 {
-            return Err(io::Error::new(ErrorKind::AlreadyExists, "is in the way"));
-        }
-        match fs::symlink_metadata(path) {
-            Ok(named) if (named.dev(), named.ino()) == (locked.dev(), locked.ino()) => {
-                return Ok(open);
+        match make(path, beside) {
+            Ok(new) => {
+                let locked = wait.lock(&new);
+                // Another program may have taken it for one that was left.
+                if locked.is_ok() && is_named(&new, beside)? {
+                    return Ok(new);
+                }
+                locked.inspect_err(|_| drop(fs::remove_file(beside)))?;
             }
-            Err(why) if why.kind() != ErrorKind::NotFound => return Err(why),
-            _ => {}
+            Err(why) if why.kind() == ErrorKind::AlreadyExists => take_away(beside, &mut wait)?,
+            Err(why) => return Err(why),
         }
     }
 }
 
-/// Waits for the lock of a file, and says so if that takes long.
-fn wait_for(open: &File, of: &OsStr) -> io::Result<()> {
-    let began = Instant::now();
-    while began.elapsed() < PATIENCE {
-        match open.try_lock() {
-            Ok(()) => return Ok(()),
-            Err(TryLockError::WouldBlock) => sleep(PATIENCE / 500),
-            Err(TryLockError::Error(why)) => return Err(why),
+/// Makes the new file beside one, for those alone who may read the old one.
+fn make(path: &Path, beside: &Path) -> io::Result<File> {
+    let mode = if path.exists() { 0o600 } else { 0o666 };
+    let mut options = OpenOptions::new();
+    let new = options
+        .write(true)
+        .create_new(true)
+        .mode(mode)
+        .open(beside)?;
+    give_rights(&new, path)?;
+    Ok(new)
+}
+
+/// Gives a new file the owner, the group and the permissions of an old one, if that is
+/// there, as far as this user may. If it cannot have the group, the group that it has
+/// gets what others have.
+fn give_rights(new: &File, old: &Path) -> io::Result<()> {
+    let Ok(old) = fs::metadata(old) else {
+        return Ok(());
+    };
+    let _ = fchown(new, Some(old.uid()), None);
+    let group = fchown(new, None, Some(old.gid()));
+    let mode = old.mode() & 0o777;
+    let mode = match group {
+        Ok(()) => mode,
+        Err(_) => mode & 0o707 | (mode & 0o007) << 3,
+    };
+    new.set_permissions(Permissions::from_mode(mode))
+}
+
+/// Waits until whoever holds the new file lets it go, and takes it away if it was left.
+fn take_away(beside: &Path, wait: &mut Wait) -> io::Result<()> {
+    let mut options = OpenOptions::new();
+    let left = options
+        .read(true)
+        .write(true)
+        .custom_flags(O_NOFOLLOW)
+        .open(beside);
+    let left = match left {
+        Err(why) if why.kind() == ErrorKind::NotFound => return Ok(()),
+        // It has no rights yet, or is another user's.
+        Err(why) if why.kind() == ErrorKind::PermissionDenied && wait.has_patience() => {
+            return Ok(())
+        }
+        Err(why) if why.raw_os_error() == Some(ELOOP) => return Err(in_the_way()),
+        left => left?,
+    };
+    // A file with another name too is somebody's.
+    let found = left.metadata()?;
+    if !found.is_file() || found.nlink() > 1 {
+        return Err(in_the_way());
+    }
+    wait.lock(&left)?;
+    match is_named(&left, beside)? {
+        true => fs::remove_file(beside),
+        false => Ok(()),
+    }
+}
+
+fn in_the_way() -> io::Error {
+    io::Error::new(ErrorKind::AlreadyExists, "is in the way")
+}
+
+/// Whether a name still stands for an open file.
+fn is_named(open: &File, path: &Path) -> io::Result<bool> {
+    let open = open.metadata()?;
+    match fs::symlink_metadata(path) {
+        Ok(named) => Ok((named.dev(), named.ino()) == (open.dev(), open.ino())),
+        Err(why) if why.kind() == ErrorKind::NotFound => Ok(false),
+        Err(why) => Err(why),
+    }
+}
+
+/// Waiting for locks of a file, which is told once if it takes long.
+struct Wait<'a> {
+    of: &'a OsStr,
+    began: Instant,
+    told: bool,
+}
+
+impl Wait<'_> {
+    fn new(of: &OsStr) -> Wait<'_> {
+        Wait {
+            of,
+            began: Instant::now(),
+            told: false,
         }
     }
-    let _ = writeln!(
-        io::stderr(),
-        "seat: {}: waiting for another program that changes it",
-        Shown(of)
-    );
-    open.lock()
+
+    /// Waits a little, if it has not been long.
+    fn has_patience(&self) -> bool {
+        let patient = self.began.elapsed() < PATIENCE;
+        if patient {
+            sleep(PATIENCE / 500);
+        }
+        patient
+    }
+
+    fn lock(&mut self, open: &File) -> io::Result<()> {
+        loop {
+            match open.try_lock() {
+                Err(TryLockError::WouldBlock) if self.has_patience() => {}
+                Err(TryLockError::WouldBlock) => break,
+                Err(TryLockError::Error(why)) => return Err(why),
+                Ok(()) => return Ok(()),
+            }
+        }
+        if !self.told {
+            let text = "waiting for another program that changes it";
+            let _ = writeln!(io::stderr(), "seat: {}: {text}", Shown(self.of));
+            self.told = true;
+        }
+        open.lock()
+    }
 }

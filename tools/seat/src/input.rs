@@ -7,7 +7,9 @@ use outline::plain::LARGEST;
 use outline::Log;
 use std::ffi::OsStr;
 use std::fs::File;
-use std::io::{self, Read};
+use std::io::{self, ErrorKind, Read};
+use std::os::fd::{AsFd, BorrowedFd};
+use std::os::unix::fs::MetadataExt;
 
 /// The bytes of a file or of standard input, at most one more than `most`, so
 /// that longer input shows and endless input ends.
@@ -43,8 +45,22 @@ pub fn log_of(name: &OsStr, bytes: &[u8]) -> Tried<Log> {
 /// The log on standard input, if one of the names stands for it. It is read before
 /// any lock is taken: it may take its time.
 pub fn stream(names: &[&OsStr]) -> Tried<Option<Log>> {
-    let stream = names.iter().find(|name| name::is_stream(name));
-    stream.map(|name| log(name)).transpose()
+    let Some(name) = names.iter().find(|name| name::is_stream(name)) else {
+        return Ok(None);
+    };
+    if is_emptied().unwrap_or(false) {
+        let text = "is also standard output, and the shell has emptied it";
+        return Err(trouble::found(name, ErrorKind::InvalidInput, text));
+    }
+    log(name).map(Some)
+}
+
+/// Whether standard input is a file that standard output has emptied.
+fn is_emptied() -> io::Result<bool> {
+    let of = |stream: BorrowedFd<'_>| File::from(stream.try_clone_to_owned()?).metadata();
+    let (input, output) = (of(io::stdin().as_fd())?, of(io::stdout().as_fd())?);
+    let one = (input.dev(), input.ino()) == (output.dev(), output.ino());
+    Ok(one && input.is_file() && input.len() == 0)
 }
 
 /// The log of a file that is claimed, or the one on standard input.

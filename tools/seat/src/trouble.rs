@@ -79,7 +79,8 @@ impl Trouble {
 }
 
 /// What to do about a file that is not sound.
-const AFRESH: &str = "Take a copy from another seat; `seat new --force` starts afresh.";
+const AFRESH: &str = "Take a copy from another seat, or start afresh by `seat new --force`; \
+                      then meet all others before you go on.";
 
 /// What is wrong, and what to do about it.
 fn sentences(why: Refusal) -> (&'static str, &'static str) {
@@ -116,7 +117,7 @@ fn sentences(why: Refusal) -> (&'static str, &'static str) {
         Refusal::NoRoom => ("there is no room for more", "The outline is full."),
         Refusal::Exhausted => (
             "a seat issues 255 ops, and no more",
-            "Go on as one that has some left; `seat check` shows how many each has issued.",
+            "Go on as a seat that no other machine works as.",
         ),
         Refusal::Cycle => (
             "the new parent lies below the node",

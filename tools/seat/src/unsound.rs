@@ -100,7 +100,7 @@ impl Bodies<'_> {
         if let Some(of) = ahead {
             let (seat, count, here) = (of + 1, counts[of], self.count(of));
             return Some(format!(
-                "counts {count} ops of seat {seat}, and {here} are here (number 5)"
+                "counts {count} of seat {seat}, of which {here} stand here (number 5)"
             ));
         }
         let open = (0..8).find(|&of| {
@@ -115,7 +115,7 @@ impl Bodies<'_> {
         }
         match read {
             Ok(op) => self.wrong_names(&op, counts),
-            Err(_) => Some("names what is no node (number 7)".into()),
+            Err(_) => Some(format!("names {}, which cannot be (number 7)", no_node(op))),
         }
     }
 
@@ -147,6 +147,16 @@ impl Bodies<'_> {
         let at = usize::from(replica.number()) - 1;
         let added = self.op(at, sequence).map(|op| op[0]);
         sequence <= counts[at] && added == Some(Kind::Add.number())
+    }
+}
+
+/// The number that is no node, or the root where a node has to be, of an op that names
+/// such a one.
+fn no_node(op: &[u8]) -> u16 {
+    let [node, parent] = [2, 4].map(|at| u16::from_be_bytes([op[at], op[at + 1]]));
+    match Node::from_number(node) {
+        Some(node) if !node.is_root() => parent,
+        _ => node,
     }
 }
 

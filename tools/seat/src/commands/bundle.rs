@@ -13,7 +13,7 @@ use outline::Vector;
 const FOR: Opt = Opt::valued(
     "--for",
     "COUNTS",
-    "for one that holds so many ops of each seat: eight numbers with commas",
+    "for one that has so many ops of each seat, as 3,1,0,0,0,0,0,0",
 );
 
 pub const BUNDLE: Command = Command {

@@ -49,8 +49,9 @@ pub const REMOVE: Command = Command {
     options: OPTIONS,
     does: "mark a node as removed",
     more: "
-It keeps its place and its number, and what is below it is not marked. Nothing can
-be added under a removed node or moved there, and it cannot be moved.
+The mark stays for good. The node keeps its place and its number, and what is below it
+is not marked. Nothing can be added under a removed node or moved there, and it cannot
+be moved; what is below it can.
 With --plain the op is printed, as 1:3.
 ",
     example: "seat new news.outline
@@ -73,8 +74,8 @@ pub const MOVE: Command = Command {
     more: "
 The move is upward if the node was deeper than its new parent, else downward. Moves
 are judged by rising timestamp. If two clash that were issued from the same ops,
-upward beats downward, and else the higher seat wins. `seat ops` shows what became of
-each once the seats have met.
+the upward one wins, and of two of one kind the higher seat's. `seat ops` shows the
+order once the seats have met, and which moves lost.
 With --plain the op is printed, as 1:3.
 ",
     example: "seat new news.outline
@@ -143,9 +144,9 @@ fn issue(
     // The log first: an op that others have and its own log lacks would be issued
     // again as another one.
     let mut files = vec![(file, new.as_bytes().to_vec())];
-    if !ops.is_empty() {
-        files.extend(out.map(|out| (out, bodies)));
-    }
+    // Without an op there is no file of ops.
+    let out = out.filter(|out| out.is_none() || !ops.is_empty());
+    files.extend(out.map(|out| (out, bodies)));
     let streamed = put_all(files)?;
     let text = match ask.is_plain() {
         true => plain_lines(&ops),

@@ -70,9 +70,16 @@ fn path(ask: &Ask) -> Tried<Report> {
     let log = input::log(name)?;
     let mut entries = [0; LONGEST_PATH];
     let count = plain::path(log.as_bytes(), node, &mut entries).map_err(trouble::refused(name))?;
-    let nodes: Vec<String> = entries[..count].iter().map(u16::to_string).collect();
-    let between = if ask.is_plain() { " " } else { " under " };
-    Ok(Report::text(nodes.join(between) + "\n"))
+    let path = entries[..count].iter();
+    if ask.is_plain() {
+        let nodes: Vec<String> = path.map(u16::to_string).collect();
+        return Ok(Report::text(nodes.join(" ") + "\n"));
+    }
+    let tree = log.tree();
+    let removed = |node| Node::from_number(node).is_some_and(|node| tree.is_removed(node));
+    let mark = |node| if removed(node) { " (removed)" } else { "" };
+    let nodes: Vec<String> = path.map(|&node| format!("{node}{}", mark(node))).collect();
+    Ok(Report::text(nodes.join(" under ") + "\n"))
 }
 
 pub const OPS: Command = Command {

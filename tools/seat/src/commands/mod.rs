@@ -12,7 +12,7 @@ mod post;
 
 use crate::ask::{Ask, Opt, HELP, PLAIN};
 use crate::claim::{are_one, claim, put_all, twice};
-use crate::name::Shown;
+use crate::name::{is_stream, Shown};
 use crate::report::Report;
 use crate::trouble::{self, Tried, Trouble};
 use std::ffi::{OsStr, OsString};
@@ -67,7 +67,7 @@ const ANOTHER: &str = "take another name, or remove it first";
 
 /// Puts what was made of a file into a new one.
 fn put_out(ask: &Ask, out: &OsStr, bytes: Vec<u8>) -> Tried<bool> {
-    if ask.operands().iter().any(|file| are_one(file, out)) {
+    if !is_stream(out) && ask.operands().iter().any(|file| are_one(file, out)) {
         return Err(twice(out));
     }
     let claim = claim(&[out])?.pop().flatten();

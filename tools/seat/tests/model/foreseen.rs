@@ -207,21 +207,30 @@ pub struct Posted {
 pub fn posted(file: &[u8], tray: Option<&[u8]>, offered: &[Vec<u8>]) -> Foreseen<Posted> {
     let mut buffer = lent(file)?;
     let mut tray = tray.map_or(vec![0; HOLDBACK_LEN], <[u8]>::to_vec);
+    let held = file_of(&buffer).len() / OP_LEN;
+    // All that waited or was taken in: what comes of it is in the log, waits, or is gone.
+    let mut taken = usize::from(tray.first().copied().unwrap_or(0));
     let mut text = String::new();
     for bytes in offered {
         for op in ops_of_post(bytes) {
-            let _ = match model::deliver_holdback(&mut buffer, op, &mut tray) {
+            let waiting = tray.first().copied();
+            let answer = model::deliver_holdback(&mut buffer, op, &mut tray);
+            let _ = match answer {
                 Answer::HadIt => writeln!(text, "had"),
                 Answer::Waiting => writeln!(text, "waiting"),
                 other => writeln!(text, "accepted {}", accepted(other)?),
             };
+            let grown = answer == Answer::Waiting && waiting != tray.first().copied();
+            taken += usize::from(grown || matches!(answer, Answer::Accepted(_)));
         }
     }
     if offered.is_empty() {
         offer_again(&mut buffer, &mut tray)?;
     }
-    let _ = writeln!(text, "{}", tray[0]);
     let file = file_of(&buffer);
+    let came = file.len() / OP_LEN - held;
+    let gone = taken - came - usize::from(tray[0]);
+    let _ = writeln!(text, "{} {gone}", tray[0]);
     Ok(Posted { file, tray, text })
 }
 

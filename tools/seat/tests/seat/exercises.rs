@@ -168,6 +168,10 @@ fn removed_nodes_take_no_new_work() {
     );
     assert_eq!(class.done("list --skipping 1.outline"), "0\n  259\n");
     assert_eq!(
+        class.done("path 1.outline 258"),
+        "258 under 257 (removed) under 0\n"
+    );
+    assert_eq!(
         class.done("list --skipping --plain 1.outline"),
         "0 0 k\n1 259 k\n"
     );

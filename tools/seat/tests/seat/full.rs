@@ -146,7 +146,15 @@ fn nothing_is_lost_where_a_changed_file_cannot_be_printed() {
         assert!(matches!(output.status.code(), Some(1 | 3)), "{line}");
         assert_eq!(folder.files(), before, "{line}");
     }
+    // A file that the shell has emptied is told, and not taken for a new one.
+    let output = script(&folder, &[], "cp a c; \"$1\" add - 0 <c >c");
+    assert_eq!(output.status.code(), Some(3));
     // The other way round: the log is changed by then, and that is told.
+    let output = script(&folder, &[], "\"$1\" column --out - a 0 2>&1 >/dev/full");
+    assert_eq!(
+        (output.status.code(), &output.stdout[..]),
+        (Some(0), &b"nothing to move\n"[..])
+    );
     let output = script(&folder, &[], "\"$1\" add --out - a 0 >/dev/full");
     let told = String::from_utf8_lossy(&output.stderr);
     assert_eq!(output.status.code(), Some(3));

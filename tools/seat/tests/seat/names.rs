@@ -7,6 +7,7 @@ use std::io::{BufRead, BufReader};
 use std::os::unix::ffi::{OsStrExt, OsStringExt};
 use std::os::unix::fs::{chown, symlink, MetadataExt, PermissionsExt};
 use std::process::{Command, Stdio};
+use std::thread;
 
 /// Spaces, bytes that are no UTF-8, what could be an option, a line feed.
 const NAMES: [&[u8]; 6] = [
@@ -98,6 +99,7 @@ fn what_is_no_file_is_told() {
         "list missing",
         "new folder/..",
         "new news/",
+        "new news/.",
         "draw --out folder folder",
     ] {
         let ran = folder.run(line.split(' '));
@@ -170,6 +172,84 @@ fn owner_and_group_stay_where_that_can_be() {
     assert_eq!((news.uid(), news.gid()), (65534, 1234));
 }
 
+/// Users of one group, each with another first group, change a file of that group.
+#[test]
+fn a_group_shares_a_file() {
+    let folder = Folder::new();
+    folder.done("new news");
+    let path = folder.path().join("news");
+    if chown(&path, Some(3000), Some(1234)).is_err() {
+        println!("only root gives files away");
+        return;
+    }
+    fs::set_permissions(&path, Permissions::from_mode(0o660)).unwrap();
+    fs::set_permissions(folder.path(), Permissions::from_mode(0o777)).unwrap();
+    let seat = folder.path().join("seat");
+    fs::copy(SEAT, &seat).unwrap();
+    // What one of them left who was killed is no hindrance.
+    folder.write(".news.seat-new", b"half a l");
+    chown(folder.path().join(".news.seat-new"), Some(4000), Some(1234)).unwrap();
+    fs::set_permissions(
+        folder.path().join(".news.seat-new"),
+        Permissions::from_mode(0o660),
+    )
+    .unwrap();
+    let work = |user: u32| {
+        for _ in 0..15 {
+            let mut command = Command::new("setpriv");
+            let user = user.to_string();
+            command.args(["--reuid", &user, "--regid", &user, "--groups", "1234"]);
+            command
+                .arg(&seat)
+                .args(["add", "news", "0", "--as", &user[..1]]);
+            let output = command
+                .current_dir(folder.path())
+                .output()
+                .expect("setpriv");
+            assert_eq!(output.status.code(), Some(0), "{output:?}");
+        }
+    };
+    thread::scope(|scope| {
+        for user in [3000, 4000, 5000] {
+            scope.spawn(move || work(user));
+        }
+    });
+    assert_eq!(
+        folder.done("check --plain news"),
+        "sound 662 0,0,15,15,15,0,0,0\n"
+    );
+    let news = fs::metadata(&path).unwrap();
+    assert_eq!((news.gid(), news.mode() & 0o777), (1234, 0o660));
+}
+
+/// Whoever cannot give a file its group gives no other group its rights.
+#[test]
+fn another_group_gets_what_others_have() {
+    let folder = Folder::new();
+    folder.done("new news");
+    let path = folder.path().join("news");
+    if chown(&path, Some(3000), Some(1234)).is_err() {
+        println!("only root gives files away");
+        return;
+    }
+    fs::set_permissions(&path, Permissions::from_mode(0o664)).unwrap();
+    fs::set_permissions(folder.path(), Permissions::from_mode(0o777)).unwrap();
+    let seat = folder.path().join("seat");
+    fs::copy(SEAT, &seat).unwrap();
+    let mut command = Command::new("setpriv");
+    command.args(["--reuid", "3000", "--regid", "3000", "--clear-groups"]);
+    command
+        .arg(&seat)
+        .args(["add", "news", "0", "--as", "3"])
+        .current_dir(folder.path());
+    assert!(command.status().expect("setpriv").success());
+    let news = fs::metadata(&path).unwrap();
+    assert_eq!(
+        (news.uid(), news.gid(), news.mode() & 0o777),
+        (3000, 3000, 0o644)
+    );
+}
+
 #[test]
 fn what_is_in_the_way_is_left() {
     let folder = Folder::new();
@@ -187,8 +267,20 @@ fn what_is_in_the_way_is_left() {
     fs::remove_file(&beside).unwrap();
     for target in ["precious", "nowhere", "."] {
         symlink(target, &beside).unwrap();
-        assert_eq!(folder.run(["add", "news", "0"]).status, Some(3), "{target}");
+        let ran = folder.run(["add", "news", "0"]);
+        assert_eq!(
+            (ran.status, ran.err.contains("is in the way")),
+            (Some(3), true),
+            "{ran:?}"
+        );
         fs::remove_file(&beside).unwrap();
+    }
+    for line in [
+        "new .news.seat-new",
+        "add .news.seat-new 0",
+        "add news 0 --out .news.seat-new",
+    ] {
+        assert_eq!(folder.run(line.split(' ')).status, Some(2), "{line}");
     }
     assert_eq!(folder.files().len(), 2);
     assert_eq!(folder.read("precious"), b"a letter");

@@ -20,11 +20,11 @@ fn early_ops_wait_in_the_tray() {
     assert_eq!(folder.done("post b tray 4 2"), "b: 0 ops came, 2 waiting\n");
     assert_eq!(folder.read("tray").len(), 449);
     assert_eq!(folder.read("b").len(), 32);
-    assert_eq!(folder.done("post --plain b tray 4"), "waiting\n2\n");
-    assert_eq!(folder.done("post --plain b tray 1"), "accepted 60\n1\n");
+    assert_eq!(folder.done("post --plain b tray 4"), "waiting\n2 0\n");
+    assert_eq!(folder.done("post --plain b tray 1"), "accepted 60\n1 0\n");
     assert_eq!(
         folder.done("post --plain b tray 1 3"),
-        "had\naccepted 88\n0\n"
+        "had\naccepted 88\n0 0\n"
     );
     assert_eq!(folder.read("a"), folder.read("b"));
     assert_eq!(folder.read("tray"), [0; 449]);
@@ -61,7 +61,8 @@ fn what_waits_is_offered_again_after_a_bundle() {
     folder.write("b", &folder.read("c"));
     assert_eq!(folder.done("post b tray"), "b: 0 ops came, 1 waiting\n");
     folder.done("open c all");
-    assert_eq!(folder.done("post --plain c tray.c"), "0\n");
+    // Both are there by now.
+    assert_eq!(folder.done("post --plain c tray.c"), "0 2\n");
     assert_eq!(folder.read("tray.c"), [0; 449]);
     assert_eq!(folder.read("a"), folder.read("c"));
 }
@@ -97,4 +98,30 @@ fn post_that_is_refused_changes_nothing() {
         folder.done("post c full 1 2 3 4"),
         "c: 36 ops came, 0 waiting\n"
     );
+}
+
+#[test]
+fn an_op_that_is_dropped_is_told() {
+    let folder = posted();
+    // Another 1:2 came before the one that waits.
+    folder.write("other", &folder.read("b"));
+    for line in [
+        "post other t 1",
+        "add other 0",
+        "post b tray 2",
+        "bundle other --out bundle",
+        "open b bundle",
+    ] {
+        folder.done(line);
+    }
+    assert_eq!(
+        folder.done("post b tray"),
+        "b: 0 ops came, 0 waiting, 1 dropped\n"
+    );
+    // So does one that waits for another outline in the same tray.
+    folder.done("new c");
+    folder.done("post c tray 2");
+    folder.write("d", &folder.read("b"));
+    folder.done("add --as 3 d 0 --out 5");
+    assert_eq!(folder.done("post --plain b tray 5"), "accepted 74\n0 1\n");
 }
