@@ -65,6 +65,30 @@ fn the_page_for_editors_says_what_is_printed() {
 }
 
 #[test]
+fn the_first_screen_says_what_is_printed() {
+    let page = fs::read_to_string(repository("README.md")).expect("the first page");
+    let folder = Folder::new();
+    let mut printed = String::new();
+    for command in page.lines().filter_map(|line| line.strip_prefix("    ")) {
+        if command.starts_with("seat ") {
+            let (status, said) = shell(&folder, command);
+            assert_eq!(status, Some(0), "{command}: {said}");
+            printed = said;
+        }
+    }
+    let table = page
+        .lines()
+        .skip_while(|line| !line.starts_with("    op   kind"));
+    let table = table.map_while(|line| line.strip_prefix("    "));
+    let table: String = table.map(|line| format!("{line}\n")).collect();
+    assert!(
+        table.lines().count() == 5 && printed.ends_with(&table),
+        "{printed}"
+    );
+    assert_eq!(folder.read("ann.outline"), folder.read("bob.outline"));
+}
+
+#[test]
 fn the_examples_of_the_help_work() {
     let overview = Folder::new().done("--help");
     let names = overview
