@@ -65,32 +65,29 @@ type Stand = Option<(Node, bool)>;
 
 impl Found {
     fn new(logs: &[Log]) -> Found {
-        let ids: BTreeSet<Id> = logs
-            .iter()
-            .flat_map(Log::ops)
-            .map(|op| Id::of(&op))
-            .collect();
-        let lacks = |log: &Log| -> Vec<Id> {
-            let missing = ids.iter().filter(|id| id.of_log(log).is_none());
-            missing.copied().collect()
+        let ids = logs.iter().flat_map(Log::ops).map(|op| Id::of(&op));
+        let ids: BTreeSet<Id> = ids.collect();
+        let lacks = |log: &Log| {
+            let lacking = ids.iter().filter(|id| id.of_log(log).is_none());
+            lacking.copied().collect()
         };
         let pairs = logs
             .iter()
             .flat_map(|one| logs.iter().map(move |other| (one, other)));
+        let conflicts = pairs.flat_map(|(one, other)| differing(one, other));
+
         let trees: Vec<Tree> = logs.iter().map(Log::tree).collect();
-        let all: BTreeSet<Node> = trees.iter().flat_map(Tree::nodes).collect();
-        let nodes = all.into_iter().map(|node| {
+        let nodes: BTreeSet<Node> = trees.iter().flat_map(Tree::nodes).collect();
+        let nodes = nodes.into_iter().map(|node| {
             let stands = trees.iter().map(|tree| stand(tree, node));
             (node, stands.collect::<Vec<_>>())
         });
+        let differ =
+            |(_, stands): &(Node, Vec<Stand>)| stands.windows(2).any(|two| two[0] != two[1]);
         Found {
             lacks: logs.iter().map(lacks).collect(),
-            conflicts: pairs
-                .flat_map(|(one, other)| differing(one, other))
-                .collect(),
-            nodes: nodes
-                .filter(|(_, stands)| stands.windows(2).any(|two| two[0] != two[1]))
-                .collect(),
+            conflicts: conflicts.collect(),
+            nodes: nodes.filter(differ).collect(),
         }
     }
 
@@ -127,27 +124,24 @@ impl Found {
             let _ = writeln!(text, "not the same op in all: {}", runs(&ids));
         }
         for (node, stands) in &self.nodes {
-            let mut kinds: Vec<Stand> = Vec::new();
-            for stand in stands {
-                if !kinds.contains(stand) {
-                    kinds.push(*stand);
-                }
-            }
-            let parts: Vec<String> = kinds
-                .into_iter()
-                .map(|kind| {
-                    let these = names
-                        .iter()
-                        .zip(stands)
-                        .filter(|(_, stand)| **stand == kind);
-                    let these: Vec<&str> = these.map(|(name, _)| name.as_str()).collect();
-                    format!("{} in {}", words(kind), these.join(", "))
-                })
-                .collect();
-            let _ = writeln!(text, "{node}: {}", parts.join("; "));
+            let _ = writeln!(text, "{node}: {}", grouped(names, stands));
         }
         text
     }
+}
+
+/// Where a node stands, with the files in which it stands there.
+fn grouped(names: &[String], stands: &[Stand]) -> String {
+    let mut groups: Vec<(Stand, Vec<&str>)> = Vec::new();
+    for (name, stand) in names.iter().zip(stands) {
+        match groups.iter_mut().find(|(known, _)| known == stand) {
+            Some((_, names)) => names.push(name),
+            None => groups.push((*stand, vec![name])),
+        }
+    }
+    let groups = groups.into_iter();
+    let groups = groups.map(|(stand, names)| format!("{} in {}", words(stand), names.join(", ")));
+    groups.collect::<Vec<_>>().join("; ")
 }
 
 fn stand(tree: &Tree, node: Node) -> Stand {
