@@ -19,9 +19,9 @@ use std::env;
 use std::process::ExitCode;
 
 fn main() -> ExitCode {
-    let mut args: Vec<_> = env::args_os().skip(1).collect();
+    let args: Vec<_> = env::args_os().skip(1).collect();
     let plain = ask::is_plain(&args);
-    match commands::run(&mut args).and_then(|report| report.tell()) {
+    match commands::run(args).and_then(|report| report.tell()) {
         Ok(()) => ExitCode::SUCCESS,
         Err(trouble) => {
             trouble.tell(plain);

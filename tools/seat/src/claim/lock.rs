@@ -59,12 +59,9 @@ pub fn lock(path: &Path, beside: &Path, of: &OsStr) -> io::Result<File> {
 fn make(path: &Path, beside: &Path) -> io::Result<File> {
     let mode = if path.exists() { 0o600 } else { 0o666 };
     let mut options = OpenOptions::new();
-    let new = options
-        .write(true)
-        .create_new(true)
-        .mode(mode)
-        .open(beside)?;
-    give_rights(&new, path)?;
+    options.write(true).create_new(true).mode(mode);
+    let new = options.open(beside)?;
+    give_rights(&new, path).inspect_err(|_| drop(fs::remove_file(beside)))?;
     Ok(new)
 }
 
@@ -88,12 +85,8 @@ pub fn give_rights(new: &File, old: &Path) -> io::Result<()> {
 /// Waits until whoever holds the new file lets it go, and takes it away if it was left.
 fn take_away(beside: &Path, wait: &mut Wait) -> io::Result<()> {
     let mut options = OpenOptions::new();
-    let left = options
-        .read(true)
-        .write(true)
-        .custom_flags(O_NOFOLLOW)
-        .open(beside);
-    let left = match left {
+    options.read(true).write(true).custom_flags(O_NOFOLLOW);
+    let left = match options.open(beside) {
         Err(why) if why.kind() == ErrorKind::NotFound => return Ok(()),
         // It has no rights yet, or is another user's.
         Err(why) if why.kind() == ErrorKind::PermissionDenied && wait.has_patience() => {

@@ -54,12 +54,10 @@ fn bundle(ask: &Ask) -> Tried<Report> {
     let streamed = put_out(ask, out, bytes)?;
     let text = match ask.is_plain() {
         true => format!("{ops} {length}\n"),
-        false => format!(
-            "{}: {}, {}\n",
-            Shown(out),
-            many(ops, "op"),
-            many(length, "byte")
-        ),
+        false => {
+            let (ops, bytes) = (many(ops, "op"), many(length, "byte"));
+            format!("{}: {ops}, {bytes}\n", Shown(out))
+        }
     };
     Ok(Report::changed(streamed, text))
 }
@@ -92,12 +90,10 @@ fn open(ask: &Ask) -> Tried<Report> {
     let streamed = put_all(vec![(file, log.as_bytes().to_vec())])?;
     let text = match ask.is_plain() {
         true => format!("{came}\n"),
-        false => format!(
-            "{}: {} came, {} now\n",
-            Shown(name),
-            many(came, "op"),
-            log.len()
-        ),
+        false => {
+            let (came, now) = (many(came, "op"), log.len());
+            format!("{}: {came} came, {now} now\n", Shown(name))
+        }
     };
     Ok(Report::changed(streamed, text))
 }

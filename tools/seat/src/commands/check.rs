@@ -1,6 +1,6 @@
 //! Whether a file is sound, and why not.
 
-use super::{many, Command};
+use super::{counts, many, Command};
 use crate::ask::Ask;
 use crate::input;
 use crate::name::Shown;
@@ -34,27 +34,19 @@ fn check(ask: &Ask) -> Tried<Report> {
         let (of, why) = (Shown(name).to_string(), why_not(&bytes));
         return Err(Trouble::Unsound { of, why });
     };
-    let counts: Vec<_> = Replica::all()
-        .map(|it| (it, log.vector().count(it)))
-        .collect();
-    let end = log.as_bytes().len();
+    let (vector, end) = (log.vector(), log.as_bytes().len());
     if ask.is_plain() {
-        let counts: Vec<_> = counts.iter().map(|(_, count)| count.to_string()).collect();
-        return Ok(Report::text(format!("sound {end} {}\n", counts.join(","))));
+        let counts = counts(&vector, ",");
+        return Ok(Report::text(format!("sound {end} {counts}\n")));
     }
-    let mut text = format!(
-        "{}: sound, {}, ends at {end}\n",
-        Shown(name),
-        many(log.len(), "op")
-    );
-    if bytes.is_empty() {
-        text = format!(
-            "{}: no bytes yet, which is an outline without ops\n",
-            Shown(name)
-        );
-    }
-    for (replica, count) in counts.into_iter().filter(|(_, count)| *count > 0) {
-        let _ = writeln!(text, "  seat {replica}: {}", many(count.into(), "op"));
+    let (name, ops) = (Shown(name), many(log.len(), "op"));
+    let mut text = match bytes.is_empty() {
+        true => format!("{name}: no bytes yet, which is an outline without ops\n"),
+        false => format!("{name}: sound, {ops}, ends at {end}\n"),
+    };
+    for replica in Replica::all().filter(|&replica| vector.count(replica) > 0) {
+        let ops = many(vector.count(replica).into(), "op");
+        let _ = writeln!(text, "  seat {replica}: {ops}");
     }
     Ok(Report::text(text))
 }

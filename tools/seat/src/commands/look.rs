@@ -1,13 +1,13 @@
 //! Looking at an outline: list, path, ops.
 
-use super::Command;
+use super::{counts, Command};
 use crate::ask::{Ask, Opt};
 use crate::input;
 use crate::judged::{judged, Id, Judged};
 use crate::report::Report;
 use crate::trouble::{self, Tried};
 use outline::plain::{self, LONGEST_PATH};
-use outline::{Kind, Node, Replica, View};
+use outline::{Kind, Node, View};
 use std::array;
 use std::fmt::Write;
 
@@ -111,13 +111,6 @@ fn ops(ask: &Ask) -> Tried<Report> {
     Ok(Report::text(text))
 }
 
-/// The counts of an op with something between them.
-fn counts(judged: &Judged, between: &str) -> String {
-    let count = |replica| judged.op.vector().count(replica).to_string();
-    let counts: Vec<String> = Replica::all().map(count).collect();
-    counts.join(between)
-}
-
 fn plain_line(judged: &Judged) -> String {
     let op = &judged.op;
     format!(
@@ -126,7 +119,7 @@ fn plain_line(judged: &Judged) -> String {
         op.kind().number(),
         op.node(),
         op.parent().unwrap_or(Node::ROOT),
-        counts(judged, ","),
+        counts(&op.vector(), ","),
         judged.timestamp,
         judged.outcome()
     )
@@ -179,7 +172,7 @@ fn row(judged: &Judged) -> [String; 7] {
         op.node().to_string(),
         op.parent()
             .map_or(String::new(), |parent| parent.to_string()),
-        counts(judged, " "),
+        counts(&op.vector(), " "),
         judged.timestamp.to_string(),
         outcome,
     ]

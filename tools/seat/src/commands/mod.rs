@@ -15,6 +15,7 @@ use crate::claim::{are_one, claim, put_all, twice};
 use crate::name::{is_stream, Shown};
 use crate::report::Report;
 use crate::trouble::{self, Tried, Trouble};
+use outline::{Replica, Vector};
 use std::ffi::{OsStr, OsString};
 use std::fmt::Write;
 use std::ops::RangeInclusive;
@@ -78,33 +79,29 @@ fn put_out(ask: &Ask, out: &OsStr, bytes: Vec<u8>) -> Tried<bool> {
 }
 
 /// Runs what is asked.
-pub fn run(args: &mut Vec<OsString>) -> Tried<Report> {
-    if args.is_empty() {
+pub fn run(args: Vec<OsString>) -> Tried<Report> {
+    let mut args = args.into_iter();
+    let Some(first) = args.next() else {
         return Err(trouble::usage(format!("no command\n{}", overview())));
-    }
-    let first = args.remove(0);
+    };
     if first == HELP.name || first == "-h" {
         return Ok(Report::text(overview()));
     }
     if first == "--version" {
-        return Ok(Report::text(format!(
-            "seat {}\n",
-            env!("CARGO_PKG_VERSION")
-        )));
+        let version = env!("CARGO_PKG_VERSION");
+        return Ok(Report::text(format!("seat {version}\n")));
     }
     let Some(command) = COMMANDS.iter().find(|command| first == command.name) else {
         let text = format!("no such command: {}. Try `seat --help`.", Shown(&first));
         return Err(trouble::usage(text));
     };
-    command
-        .start(std::mem::take(args))
-        .map_err(|why| match why {
-            Trouble::Usage { text } => {
-                let name = command.name;
-                trouble::usage(format!("{name}: {text}. Try `seat {name} --help`."))
-            }
-            other => other,
-        })
+    command.start(args.collect()).map_err(|why| match why {
+        Trouble::Usage { text } => {
+            let name = command.name;
+            trouble::usage(format!("{name}: {text}. Try `seat {name} --help`."))
+        }
+        other => other,
+    })
 }
 
 /// The help of the program.
@@ -173,4 +170,10 @@ fn many(count: usize, what: &str) -> String {
         1 => format!("1 {what}"),
         _ => format!("{count} {what}s"),
     }
+}
+
+/// The eight counts of a vector with something between them.
+fn counts(vector: &Vector, between: &str) -> String {
+    let counts = Replica::all().map(|replica| vector.count(replica).to_string());
+    counts.collect::<Vec<_>>().join(between)
 }

@@ -34,25 +34,16 @@ pub fn drawing(log: &Log, moves: bool) -> String {
     arrows.iter().for_each(|arrow| arrow.draw(&mut sheet));
     boxes(&mut sheet, &tree, &places);
     arrows.iter().for_each(|arrow| arrow.label(&mut sheet));
-    seats(
-        &mut sheet,
-        movers
-            .into_values()
-            .chain(lost.iter().map(|it| it.op.replica()))
-            .collect(),
-    );
+    let losers = lost.iter().map(|it| it.op.replica());
+    seats(&mut sheet, movers.into_values().chain(losers).collect());
     reasons(&mut sheet, &lost);
 
     let nodes = places.len() - 1;
     let removed = places.keys().filter(|&&node| tree.is_removed(node)).count();
-    let about = format!(
-        "Removed nodes: {removed}. Moves drawn that lost: {}.",
-        lost.len()
-    );
-    sheet.framed(
-        &format!("An outline; nodes below the root: {nodes}"),
-        &about,
-    )
+    let title = format!("An outline; nodes below the root: {nodes}");
+    let lost = lost.len();
+    let about = format!("Removed nodes: {removed}. Moves drawn that lost: {lost}.");
+    sheet.framed(&title, &about)
 }
 
 /// Leaves one beside another, and a parent above the middle of its children.
@@ -161,11 +152,8 @@ fn reasons(sheet: &mut Sheet, lost: &[&Judged]) {
         at.y += LINE;
         let (id, node, parent) = (Id::of(&it.op), it.op.node(), it.op.parent());
         let parent = parent.unwrap_or(Node::ROOT);
-        let why = format!(
-            "{} (outcome {})",
-            it.why().unwrap_or_default(),
-            it.outcome()
-        );
+        let (why, outcome) = (it.why().unwrap_or_default(), it.outcome());
+        let why = format!("{why} (outcome {outcome})");
         sheet.dot(at.plus(Point::new(6.0, -4.5)), sheet::colour(id.replica));
         sheet.text(
             at.plus(Point::new(20.0, 0.0)),
