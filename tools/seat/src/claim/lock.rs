@@ -1,6 +1,7 @@
 //! The new file beside another, which is its lock.
 
 use crate::name::Shown;
+use crate::stops::step;
 use std::ffi::{OsStr, OsString};
 use std::fs::{self, File, OpenOptions, Permissions, TryLockError};
 use std::io::{self, ErrorKind, Write};
@@ -61,6 +62,7 @@ fn make(path: &Path, beside: &Path) -> io::Result<File> {
     let mut options = OpenOptions::new();
     options.write(true).create_new(true).mode(mode);
     let new = options.open(beside)?;
+    step();
     give_rights(&new, path).inspect_err(|_| drop(fs::remove_file(beside)))?;
     Ok(new)
 }

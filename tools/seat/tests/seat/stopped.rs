@@ -33,10 +33,15 @@ fn file(folder: &Folder, name: &str) -> Option<Vec<u8>> {
     fs::read(folder.path().join(name)).ok()
 }
 
+/// The steps for each file that changes: a new one is made, locked, read, given its rights, half written,
+/// written, on the disk, in its place, and its folder on the disk.
+const STEPS: usize = 9;
+
 /// Kills a command at every step; `names` are the files that it changes, in the order
 /// in which it puts them in their places. Each is the old one or the new one, and none
-/// is new before those in front of it. Afterwards the same command is done.
-fn at_every_step(line: &str, names: &[&str], least: usize) {
+/// is new before those in front of it. Afterwards the next change is done, and takes away
+/// what was left.
+fn at_every_step(line: &str, names: &[&str]) {
     let done = start();
     let old: Vec<_> = names.iter().map(|name| file(&done, name)).collect();
     done.done(line);
@@ -57,40 +62,40 @@ fn at_every_step(line: &str, names: &[&str], least: usize) {
         for name in ["a", "b", "c"] {
             folder.done(&format!("check {name}"));
         }
-        // The next one is done, with what is left behind or without, and tidies up.
         for name in names.iter().filter(|name| ["a", "b", "c"].contains(name)) {
             folder.done(&format!("add {name} 0 --as 8"));
             folder.done(&format!("check {name}"));
             assert_eq!(file(&folder, &format!(".{name}.seat-new")), None);
         }
     }
-    assert!(steps >= least, "{line}: {steps} steps");
+    // And more for a file that is claimed and stays as it is.
+    assert!(steps >= STEPS * names.len(), "{line}: {steps} steps");
 }
 
 #[test]
 fn killed_while_making_and_issuing() {
-    at_every_step("new d", &["d"], 7);
-    at_every_step("new --force a", &["a"], 7);
-    at_every_step("add a 0", &["a"], 7);
-    at_every_step("column a 257 258 0", &["a"], 7);
-    at_every_step("remove a 257 --out op", &["a", "op"], 14);
+    at_every_step("new d", &["d"]);
+    at_every_step("new --force a", &["a"]);
+    at_every_step("add a 0", &["a"]);
+    at_every_step("column a 257 258 0", &["a"]);
+    at_every_step("remove a 257 --out op", &["a", "op"]);
 }
 
 #[test]
 fn killed_while_meeting() {
-    at_every_step("meet a b c", &["a", "b", "c"], 21);
-    at_every_step("meet c b a", &["c", "b", "a"], 21);
-    at_every_step("open b bundle", &["b"], 7);
+    at_every_step("meet a b c", &["a", "b", "c"]);
+    at_every_step("meet c b a", &["c", "b", "a"]);
+    at_every_step("open b bundle", &["b"]);
 }
 
 #[test]
 fn killed_while_posting() {
     // The log comes first: what leaves the tray is there.
-    at_every_step("post c tray 1", &["c", "tray"], 14);
-    at_every_step("post b new-tray 2", &["new-tray"], 7);
+    at_every_step("post c tray 1", &["c", "tray"]);
+    at_every_step("post b new-tray 2", &["new-tray"]);
 }
 
 #[test]
 fn killed_while_drawing() {
-    at_every_step("draw a --out svg", &["svg"], 7);
+    at_every_step("draw a --out svg", &["svg"]);
 }
