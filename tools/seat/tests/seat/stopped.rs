@@ -33,8 +33,9 @@ fn file(folder: &Folder, name: &str) -> Option<Vec<u8>> {
     fs::read(folder.path().join(name)).ok()
 }
 
-/// The steps for each file that changes: a new one is made, locked, read, given its rights, half written,
-/// written, on the disk, in its place, and its folder on the disk.
+/// The steps for each file that changes: a new one is made and locked, the old one is
+/// read; the new one gets its rights, half of its bytes and the rest, is on the disk and
+/// in its place, and then its folder is on the disk.
 const STEPS: usize = 9;
 
 /// Kills a command at every step; `names` are the files that it changes, in the order
