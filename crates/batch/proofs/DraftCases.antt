@@ -13,71 +13,71 @@ use mathlib.Core.Bool.{and-eq-true_iff}
 use Rattle.lists.proofs.BoolLaws.{tested}
 use Rattle.lists.proofs.ListLaws.{no_length}
 use Rattle.rules.specs.Answer.{Answer, accepted, refused, require}
-use Rattle.rules.specs.File.{Log, countsOf, logOf, width}
-use Rattle.rules.specs.Issue.{move, requestKnown, requestUnmarked}
-use Rattle.rules.specs.Op.{Vector, countIn}
+use Rattle.rules.specs.File.{Log, counts_of, log_of, width}
+use Rattle.rules.specs.Issue.{move, request_known, request_unmarked}
+use Rattle.rules.specs.Op.{Vector, count_in}
 use Rattle.rules.specs.Tree.{slot_of, slots}
-use Rattle.rules.proofs.KnownLaws.{named-valid}
-use Rattle.rules.proofs.SlotLaws.{slot-below}
+use Rattle.rules.proofs.KnownLaws.{named_valid}
+use Rattle.rules.proofs.SlotLaws.{slot_below}
 use Rattle.codec.specs.Answers.{number_of}
 use Rattle.codec.specs.declared.answer.Refusal.{Refusal}
 use Rattle.codec.specs.declared.answer.Refusal.TheVariants.{Unknown, Exhausted, Marked}
-use Rattle.delivery.specs.Adding.{roomTest}
-use Rattle.issue.specs.Issuing.{InTree, bytes_of, movedIn}
+use Rattle.delivery.specs.Adding.{room_test}
+use Rattle.issue.specs.Issuing.{InTree, bytes_of, moved_in}
 use Rattle.issue.specs.declared.draft.Draft.{Draft}
 use Rattle.issue.specs.declared.draft.Drafted.{Drafted}
 use Rattle.issue.specs.declared.draft.Drafted.TheVariants.{Op, Refused}
-use Rattle.issue.proofs.IssueCases.{drafted-names, known_small, passes}
-use Rattle.batch.specs.Planning.{Drawable, Next, Turn, draftedIn, nextBy, putNext}
+use Rattle.issue.proofs.IssueCases.{drafted_names, known_small, passes}
+use Rattle.batch.specs.Planning.{Drawable, Next, Turn, drafted_in, next_by, put_next}
 
 ---- the tests 9, 7, 11 and 10
 
 module _ (log : Log) (u : Vector) (t : List ℕ) (s n p : ℕ) where
-  pub exhausted : ltb (countIn u s) 255 ≡ false → Refused Exhausted ≡ draftedIn log u t s n p
-  unfolding draftedIn
+  pub exhausted : ltb (count_in u s) 255 ≡ false → Refused Exhausted ≡ drafted_in log u t s n p
+  unfolding drafted_in
   exhausted e = rw e
 
-  module _ (a : ltb (countIn u s) 255 ≡ true) where
-    pub unknown : requestKnown log (move n p) ≡ false → Refused Unknown ≡ draftedIn log u t s n p
-    unfolding draftedIn
+  module _ (a : ltb (count_in u s) 255 ≡ true) where
+    pub unknown : request_known log (move n p) ≡ false → Refused Unknown ≡ drafted_in log u t s n p
+    unfolding drafted_in
     unknown e = rw (a, e)
 
-    module _ (b : requestKnown log (move n p) ≡ true) where
-      pub marked : requestUnmarked log (move n p) ≡ false → Refused Marked ≡ draftedIn log u t s n p
-      unfolding draftedIn
+    module _ (b : request_known log (move n p) ≡ true) where
+      pub marked : request_unmarked log (move n p) ≡ false → Refused Marked ≡ drafted_in log u t s n p
+      unfolding drafted_in
       marked e = rw (a, b, e)
 
-      pub drafts : requestUnmarked log (move n p) ≡ true → (r : Drafted) → r ≡ movedIn t n p → r ≡ draftedIn log u t s n p
-      unfolding draftedIn
+      pub drafts : request_unmarked log (move n p) ≡ true → (r : Drafted) → r ≡ moved_in t n p → r ≡ drafted_in log u t s n p
+      unfolding drafted_in
       drafts e r is = rw (a, b, e) is
 
-pub in_tree : (t : List ℕ) → length t ≡ slots → (log : Log) (n p : ℕ) → requestKnown log (move n p) ≡ true → InTree t n
+pub in_tree : (t : List ℕ) → length t ≡ slots → (log : Log) (n p : ℕ) → request_known log (move n p) ≡ true → InTree t n
 in_tree t h log n p e = record { size = h; small = known_small log n p e }
 
 -- what a draft says
-module _ (log : Log) (u : Vector) (t : List ℕ) (s n p : ℕ) (d : Draft) (e : draftedIn log u t s n p ≡ Op d) where
-  opened : (requestKnown log (move n p) ≡ true) × (movedIn t n p ≡ Op d)
-  unfolding draftedIn
+module _ (log : Log) (u : Vector) (t : List ℕ) (s n p : ℕ) (d : Draft) (e : drafted_in log u t s n p ≡ Op d) where
+  opened : (request_known log (move n p) ≡ true) × (moved_in t n p ≡ Op d)
+  unfolding drafted_in
   opened =
-      let a = passes (ltb (countIn u s) 255) Exhausted _ d e in
-      let b = passes (requestKnown log (move n p)) Unknown _ d a.1 in
-      (b.0, (passes (requestUnmarked log (move n p)) Marked _ d b.1).1)
+      let a = passes (ltb (count_in u s) 255) Exhausted _ d e in
+      let b = passes (request_known log (move n p)) Unknown _ d a.1 in
+      (b.0, (passes (request_unmarked log (move n p)) Marked _ d b.1).1)
 
-  pub draft-moved : movedIn t n p ≡ Op d
-  draft-moved = opened.1
+  pub draft_moved : moved_in t n p ≡ Op d
+  draft_moved = opened.1
 
-  pub draft-node : d.node ≡ n
-  draft-node = (drafted-names t n p d draft-moved).0
+  pub draft_node : d.node ≡ n
+  draft_node = (drafted_names t n p d draft_moved).0
 
-  pub draft-parent : d.parent ≡ p
-  draft-parent = (drafted-names t n p d draft-moved).1
+  pub draft_parent : d.parent ≡ p
+  draft_parent = (drafted_names t n p d draft_moved).1
 
   -- its node has a slot
-  draft-slot : slot_of d.node < slots
-  unfolding requestKnown
-  draft-slot =
+  draft_slot : slot_of d.node < slots
+  unfolding request_known
+  draft_slot =
       let names = simp and-eq-true_iff at opened.0 in
-      rw draft-node (slot-below n (named-valid log (countsOf log) n (inr names.0.0)))
+      rw draft_node (slot_below n (named_valid log (counts_of log) n (inr names.0.0)))
 
 ---- number 8, and what a move leaves
 
@@ -88,38 +88,38 @@ abbrev next : Answer → (tree op : List ℕ) → Next
 next a t op = record { answer = a; tree = t; op = op }
 
 module _ (size end : ℕ) (u : Vector) (s : ℕ) (t op : List ℕ) where
-  pub no_room : (d : Draft) → end ≤ size → size - end < width → next (refused 8) t op ≡ putNext size end u s t op d
-  unfolding putNext roomTest require
+  pub no_room : (d : Draft) → end ≤ size → size - end < width → next (refused 8) t op ≡ put_next size end u s t op d
+  unfolding put_next room_test require
   no_room d l h = rw (lt-leb (end + width) size (omega arith))
 
-  pub put-there : (d : Draft) → end ≤ size → width ≤ size - end → length op ≡ width → (tree bytes : List ℕ)
+  pub put_there : (d : Draft) → end ≤ size → width ≤ size - end → length op ≡ width → (tree bytes : List ℕ)
       → tree ≡ set t (slot_of d.node) d.parent → bytes ≡ bytes_of s d u ++ drop 14 op
-      → next (accepted (end + width)) tree bytes ≡ putNext size end u s t op d
-  unfolding putNext roomTest require
-  put-there d i h l tree bytes et eb =
+      → next (accepted (end + width)) tree bytes ≡ put_next size end u s t op d
+  unfolding put_next room_test require
+  put_there d i h l tree bytes et eb =
       let none : drop 14 op ≡ [] = no_length _ (rw (length-drop, l)) in
       let b : bytes ≡ bytes_of s d u = eb ∙ rw (none, append-nil) in
       rw (le-leb (end + width) size (omega arith), et, b)
 
   module _ (r : Drafted) (x : Drafted) (is : r ≡ x) where
-    pub next-refused : (why : Refusal) → r ≡ Refused why → next (refused (number_of why)) t op ≡ nextBy size end u s t op x
-    unfolding nextBy
-    next-refused why e = rw (← is, e)
+    pub next_refused : (why : Refusal) → r ≡ Refused why → next (refused (number_of why)) t op ≡ next_by size end u s t op x
+    unfolding next_by
+    next_refused why e = rw (← is, e)
 
-    pub next-put : (d : Draft) → r ≡ Op d → (y : Next) → y ≡ putNext size end u s t op d → y ≡ nextBy size end u s t op x
-    unfolding nextBy
-    next-put d e y h = rw (← is, e) h
+    pub next_put : (d : Draft) → r ≡ Op d → (y : Next) → y ≡ put_next size end u s t op d → y ≡ next_by size end u s t op x
+    unfolding next_by
+    next_put d e y h = rw (← is, e) h
 
 pub drawable : (f : List ℕ) (u : Vector) (marks : List ℕ) (end : ℕ) (t : List ℕ) (s : ℕ) (op : List ℕ) → Turn f u marks end t s op
-    → (v : Vector) (n p : ℕ) (r : Drafted) → r ≡ draftedIn (logOf width f) v t s n p → (d : Draft) → r ≡ Op d
+    → (v : Vector) (n p : ℕ) (r : Drafted) → r ≡ drafted_in (log_of width f) v t s n p → (d : Draft) → r ≡ Op d
     → (size : ℕ) → size ≡ length f → Drawable t op d end size
 drawable f u marks end t s op x v n p r is d e size l = record {
-  there = rw x.ground.size (draft-slot (logOf width f) v t s n p d (sym is ∙ e));
+  there = rw x.ground.size (draft_slot (log_of width f) v t s n p d (sym is ∙ e));
   bytes = x.bytes;
   inside = rw l x.inside;
 }
 
 ---- what the code of one move needs: search drafting
-pub ruleset leaving = (hung, no_room, put-there, next-refused, next-put, drawable)
+pub ruleset leaving = (hung, no_room, put_there, next_refused, next_put, drawable)
 
 pub ruleset drafting = (rules, tested, exhausted, unknown, marked, drafts, in_tree, leaving)

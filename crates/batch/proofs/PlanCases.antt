@@ -10,125 +10,125 @@ use lib.Seq.{drop-cons, length-take-le, take_all, take_at, take-suc}
 use borrow.Author.Rules.{rules}
 use Rattle.lists.specs.Lists.{concat}
 use Rattle.lists.proofs.BoolLaws.{never, tested}
-use Rattle.lists.proofs.ListLaws.{concat-append}
-use Rattle.rules.specs.Answer.{Answer, accepted, unlessRefused}
-use Rattle.rules.specs.File.{Log, countsOf, fileEnd, headerCounts, logOf, start_of, width}
-use Rattle.rules.specs.Issue.{move, issueAnswer, issued, requestKnown, requestUnmarked, Issued}
-use Rattle.rules.specs.Log.{knownParent}
-use Rattle.rules.specs.Op.{Vector, countIn, isReplica}
-use Rattle.rules.specs.Replay.{parentsOf}
+use Rattle.lists.proofs.ListLaws.{concat_append}
+use Rattle.rules.specs.Answer.{Answer, accepted, unless_refused}
+use Rattle.rules.specs.File.{Log, counts_of, file_end, header_counts, log_of, start_of, width}
+use Rattle.rules.specs.Issue.{move, issue_answer, issued, request_known, request_unmarked, Issued}
+use Rattle.rules.specs.Log.{known_parent}
+use Rattle.rules.specs.Op.{Vector, count_in, is_replica}
+use Rattle.rules.specs.Replay.{parents_of}
 use Rattle.rules.specs.Tree.{slot_of, slots}
-use Rattle.rules.proofs.FileLaws.{counts-logOf}
-use Rattle.rules.proofs.IssueLaws.{issue-admitted}
-use Rattle.rules.proofs.ReplicaLaws.{replica-high, replica-low}
-use Rattle.rules.proofs.SoundLaws.{sound-good, sound-laid}
-use Rattle.rules.proofs.StepLaws.{tables-full}
-use Rattle.codec.specs.Asked.{isAccepted}
-use Rattle.codec.proofs.AnswerLaws.{accepted-with, if-accepted}
-use Rattle.delivery.specs.Adding.{lastTest, roomTest}
+use Rattle.rules.proofs.FileLaws.{counts_log_of}
+use Rattle.rules.proofs.IssueLaws.{issue_admitted}
+use Rattle.rules.proofs.ReplicaLaws.{replica_high, replica_low}
+use Rattle.rules.proofs.SoundLaws.{sound_good, sound_laid}
+use Rattle.rules.proofs.StepLaws.{tables_full}
+use Rattle.codec.specs.Asked.{is_accepted}
+use Rattle.codec.proofs.AnswerLaws.{accepted_with, if_accepted_law}
+use Rattle.delivery.specs.Adding.{last_test, room_test}
 use Rattle.oplog.proofs.HeaderLaws.{end_is}
-use Rattle.issue.specs.Issuing.{Lent, bytes_of, clearedOp, drafted, putOut}
+use Rattle.issue.specs.Issuing.{Lent, bytes_of, cleared_op, drafted, put_out}
 use Rattle.issue.specs.declared.draft.Drafted.{Drafted}
 use Rattle.issue.specs.declared.draft.Drafted.TheVariants.{Op, Refused}
-use Rattle.issue.proofs.IssueCases.{issue-put, issue-refused, op-of}
+use Rattle.issue.proofs.IssueCases.{issue_put, issue_refused, op_of}
 use Rattle.marks.specs.Knowing.{MarkedLog}
-use Rattle.batch_rules.specs.Batch.{moveBuffer, movesAnswer, movesBuffer, movesOps, mostMoves}
-use Rattle.batch_rules.proofs.BatchLaws.{AllTaken, Carried, Settled, yes, no, issue-settled, ops-parts, parents-after, taken-answer, taken-both, taken-carried, taken-first}
-use Rattle.batch.specs.Planning.{Next, Planned, Prepared, Turn, draftedIn, nextBy, putNext}
-use Rattle.batch.proofs.DraftCases.{draft-moved, draft-node, draft-parent}
-use Rattle.batch.proofs.TakenLaws.{taken-count, taken-counts, taken-end}
+use Rattle.batch_rules.specs.Batch.{move_buffer, moves_answer, moves_buffer, moves_ops, most_moves}
+use Rattle.batch_rules.proofs.BatchLaws.{AllTaken, Carried, Settled, yes, no, issue_settled, ops_parts, parents_after, taken_answer, taken_both, taken_carried, taken_first}
+use Rattle.batch.specs.Planning.{Next, Planned, Prepared, Turn, drafted_in, next_by, put_next}
+use Rattle.batch.proofs.DraftCases.{draft_moved, draft_node, draft_parent}
+use Rattle.batch.proofs.TakenLaws.{taken_count, taken_counts, taken_end}
 
 ---- a move is tested at f, with the counts and the tree of g, as it would be at g
 
-module _ (f g : List ℕ) (c : Carried f g) (s : ℕ) (is : isReplica s ≡ true) (n p : ℕ) where
+module _ (f g : List ℕ) (c : Carried f g) (s : ℕ) (is : is_replica s ≡ true) (n p : ℕ) where
   abbrev there : Log
-  there = logOf width g
+  there = log_of width g
 
-  same-draft : draftedIn (logOf width f) (countsOf there) (parentsOf there) s n p ≡ drafted there s (move n p)
-  unfolding draftedIn drafted clearedOp requestKnown requestUnmarked knownParent
-  same-draft = rw (c.knows n, c.knows p)
+  same_draft : drafted_in (log_of width f) (counts_of there) (parents_of there) s n p ≡ drafted there s (move n p)
+  unfolding drafted_in drafted cleared_op request_known request_unmarked known_parent
+  same_draft = rw (c.knows n, c.knows p)
 
   -- what is drafted, and bytes for an op
   module _ (op : List ℕ) (long : length op ≡ width) where
     lent : Lent g (length op) s
-    lent = record { issuer = record { is-sound = c.is-sound; is-replica = is }; space = omega (arith, long) }
+    lent = record { issuer = record { is_sound_so = c.is_sound_so; is_replica_so = is }; space = omega (arith, long) }
 
     abbrev left : Drafted → Next
-    left r = nextBy (length f) (fileEnd width g) (countsOf there) s (parentsOf there) op r
+    left r = next_by (length f) (file_end width g) (counts_of there) s (parents_of there) op r
 
-    answer-is : (r : Drafted) → r ≡ drafted there s (move n p) → (left r).answer ≡ issueAnswer width g width s (move n p)
-    unfolding nextBy putNext roomTest putOut lastTest
-    answer-is (Refused why) e =
-        ap (λ (x : Issued). x.answer) (issue-refused g op s (move n p) lent (Refused why) e why refl)
-        ∙ ap (λ k. issueAnswer width g k s (move n p)) long
-    answer-is (Op d) e =
-        rw (← c.size) (ap (λ (x : Issued). x.answer) (issue-put g op s (move n p) lent (Op d) e d refl _ refl)
-        ∙ ap (λ k. issueAnswer width g k s (move n p)) long)
+    answer_is : (r : Drafted) → r ≡ drafted there s (move n p) → (left r).answer ≡ issue_answer width g width s (move n p)
+    unfolding next_by put_next room_test put_out last_test
+    answer_is (Refused why) e =
+        ap (λ (x : Issued). x.answer) (issue_refused g op s (move n p) lent (Refused why) e why refl)
+        ∙ ap (λ k. issue_answer width g k s (move n p)) long
+    answer_is (Op d) e =
+        rw (← c.size) (ap (λ (x : Issued). x.answer) (issue_put g op s (move n p) lent (Op d) e d refl _ refl)
+        ∙ ap (λ k. issue_answer width g k s (move n p)) long)
 
     abbrev draft : Drafted
-    draft = draftedIn (logOf width f) (countsOf there) (parentsOf there) s n p
+    draft = drafted_in (log_of width f) (counts_of there) (parents_of there) s n p
 
-    left_by : (r : Drafted) → draft ≡ r → isAccepted (left r).answer ≡ true
-        → ((left r).op ≡ issued there s (move n p)) × ((left r).tree ≡ set (parentsOf there) (slot_of n) p)
-    unfolding nextBy putNext clearedOp isAccepted
+    left_by : (r : Drafted) → draft ≡ r → is_accepted (left r).answer ≡ true
+        → ((left r).op ≡ issued there s (move n p)) × ((left r).tree ≡ set (parents_of there) (slot_of n) p)
+    unfolding next_by put_next cleared_op is_accepted
     left_by (Refused why) e a = never a
     left_by (Op d) e a =
-        let moved = draft-moved (logOf width f) (countsOf there) (parentsOf there) s n p d e in
-        let node = draft-node (logOf width f) (countsOf there) (parentsOf there) s n p d e in
-        let parent = draft-parent (logOf width f) (countsOf there) (parentsOf there) s n p d e in (
-          if-accepted (bytes_of s d (countsOf there)) op (roomTest (length f) (fileEnd width g)) a ∙ sym (op-of there s (move n p) d moved),
-          if-accepted (set (parentsOf there) (slot_of d.node) d.parent) (parentsOf there) (roomTest (length f) (fileEnd width g)) a
+        let moved = draft_moved (log_of width f) (counts_of there) (parents_of there) s n p d e in
+        let node = draft_node (log_of width f) (counts_of there) (parents_of there) s n p d e in
+        let parent = draft_parent (log_of width f) (counts_of there) (parents_of there) s n p d e in (
+          if_accepted_law (bytes_of s d (counts_of there)) op (room_test (length f) (file_end width g)) a ∙ sym (op_of there s (move n p) d moved),
+          if_accepted_law (set (parents_of there) (slot_of d.node) d.parent) (parents_of there) (room_test (length f) (file_end width g)) a
               ∙ rw (node, parent),
         )
 
     -- x is what the move left
     module _ (x : Next) (so : x ≡ left draft) where
-      turn-answer : x.answer ≡ issueAnswer width g width s (move n p)
-      turn-answer = ap (λ (y : Next). y.answer) so ∙ answer-is draft same-draft
+      turn_answer : x.answer ≡ issue_answer width g width s (move n p)
+      turn_answer = ap (λ (y : Next). y.answer) so ∙ answer_is draft same_draft
 
-      module _ (a : isAccepted x.answer ≡ true) where
-        turn-left : ((left draft).op ≡ issued there s (move n p)) × ((left draft).tree ≡ set (parentsOf there) (slot_of n) p)
-        turn-left = left_by draft refl (ap (λ (y : Next). isAccepted y.answer) (sym so) ∙ a)
+      module _ (a : is_accepted x.answer ≡ true) where
+        turn_left : ((left draft).op ≡ issued there s (move n p)) × ((left draft).tree ≡ set (parents_of there) (slot_of n) p)
+        turn_left = left_by draft refl (ap (λ (y : Next). is_accepted y.answer) (sym so) ∙ a)
 
-        turn-op : x.op ≡ issued there s (move n p)
-        turn-op = ap (λ (y : Next). y.op) so ∙ turn-left.0
+        turn_op : x.op ≡ issued there s (move n p)
+        turn_op = ap (λ (y : Next). y.op) so ∙ turn_left.0
 
-        turn-taken : (m : ℕ) × (issueAnswer width g width s (move n p) ≡ accepted m)
-        turn-taken = let (m, e) = accepted-with x.answer a in (m, sym turn-answer ∙ e)
+        turn_taken : (m : ℕ) × (issue_answer width g width s (move n p) ≡ accepted m)
+        turn_taken = let (m, e) = accepted_with x.answer a in (m, sym turn_answer ∙ e)
 
-        turn-tree : x.tree ≡ parentsOf (logOf width (moveBuffer width g s n p))
-        turn-tree =
-            let (m, e) = turn-taken in
-            ap (λ (y : Next). y.tree) so ∙ turn-left.1 ∙ sym (parents-after g s n p m e)
+        turn_tree : x.tree ≡ parents_of (log_of width (move_buffer width g s n p))
+        turn_tree =
+            let (m, e) = turn_taken in
+            ap (λ (y : Next). y.tree) so ∙ turn_left.1 ∙ sym (parents_after g s n p m e)
 
 ---- the loop
 
 -- the buffer after the first i moves
 abbrev reached : (f : List ℕ) (s : ℕ) (ns : List ℕ) (p i : ℕ) → List ℕ
-reached f s ns p i = movesBuffer width f s (take i ns) p
+reached f s ns p i = moves_buffer width f s (take i ns) p
 
 -- i moves are planned: t is the tree that they leave of the first one, and their ops are the first bytes of ops
 pub record PlannedTo (f : List ℕ) (u : Vector) (marks : List ℕ) (s : ℕ) (ns : List ℕ) (p start k end : ℕ)
     (first t ops : List ℕ) (i : ℕ) : Type 0 where
   pub marked : MarkedLog f u marks
-  pub is-replica : isReplica s ≡ true
-  pub most : length ns ≤ mostMoves
-  pub start_is : start ≡ start_of width (headerCounts f) 9
+  pub is_replica_so : is_replica s ≡ true
+  pub most : length ns ≤ most_moves
+  pub start_is : start ≡ start_of width (header_counts f) 9
   pub wide : k ≡ s
   pub whole : end ≡ length ns
   pub few : i ≤ length ns
   pub taken : AllTaken f s (take i ns) p
-  pub tree : t ≡ parentsOf (logOf width (reached f s ns p i))
+  pub tree : t ≡ parents_of (log_of width (reached f s ns p i))
   pub same : length t ≡ length first
   pub size : length ops ≡ width * length ns
-  pub written : take (width * i) ops ≡ concat (movesOps width f s (take i ns) p)
+  pub written : take (width * i) ops ≡ concat (moves_ops width f s (take i ns) p)
 
-pub plan-starts : (f : List ℕ) (u : Vector) (marks t : List ℕ) (s : ℕ) (ns ops : List ℕ) (p start k : ℕ) → Prepared f u marks t s ns ops
-    → start ≡ start_of width (headerCounts f) 9 → k ≡ s → PlannedTo f u marks s ns p start k (length ns) t t ops 0
-unfolding movesBuffer movesOps concat
-plan-starts f u marks t s ns ops p start k x es ek = record {
+pub plan_starts : (f : List ℕ) (u : Vector) (marks t : List ℕ) (s : ℕ) (ns ops : List ℕ) (p start k : ℕ) → Prepared f u marks t s ns ops
+    → start ≡ start_of width (header_counts f) 9 → k ≡ s → PlannedTo f u marks s ns p start k (length ns) t t ops 0
+unfolding moves_buffer moves_ops concat
+plan_starts f u marks t s ns ops p start k x es ek = record {
   marked = x.marked;
-  is-replica = x.plannable.is-replica;
+  is_replica_so = x.plannable.is_replica_so;
   most = x.plannable.few;
   start_is = es;
   wide = ek;
@@ -146,169 +146,169 @@ module _ (f : List ℕ) (u : Vector) (marks : List ℕ) (s : ℕ) (ns : List ℕ
   abbrev here : List ℕ
   here = reached f s ns p i
 
-  few-taken : length (take i ns) ≡ i
-  few-taken = length-take-le i ns x.few
+  few_taken : length (take i ns) ≡ i
+  few_taken = length-take-le i ns x.few
 
   carried : Carried f here
-  carried = taken-carried (take i ns) f s p x.marked.tallied.is-sound x.taken
+  carried = taken_carried (take i ns) f s p x.marked.tallied.is_sound_so x.taken
 
-  start-end : start ≡ fileEnd width f
-  start-end = x.start_is ∙ end_is width f
+  start_end : start ≡ file_end width f
+  start_end = x.start_is ∙ end_is width f
 
-  end-here : fileEnd width here ≡ start + width * i
-  end-here = omega (arith, taken-end s p x.is-replica (take i ns) f x.taken, start-end, few-taken)
+  end_here : file_end width here ≡ start + width * i
+  end_here = omega (arith, taken_end s p x.is_replica_so (take i ns) f x.taken, start_end, few_taken)
 
-  pub plan-inside : start + width * i ≤ length f
-  plan-inside = omega (arith, end-here, carried.size, (sound-laid width here carried.is-sound).fits)
+  pub plan_inside : start + width * i ≤ length f
+  plan_inside = omega (arith, end_here, carried.size, (sound_laid width here carried.is_sound_so).fits)
 
-  pub plan-fits : length f < 2 ^ 64 → (at : ℕ) → at ≡ width * i → start + at < 2 ^ 64
-  plan-fits h at e = omega (arith, plan-inside)
+  pub plan_fits : length f < 2 ^ 64 → (at : ℕ) → at ≡ width * i → start + at < 2 ^ 64
+  plan_fits h at e = omega (arith, plan_inside)
 
-  pub plan-small : length ns ≤ 16
-  plan-small = x.most
+  pub plan_small : length ns ≤ 16
+  plan_small = x.most
 
-  pub plan-counts : (1 ≤ k) × (k ≤ 8) × (countIn u k + i ≤ 255)
-  plan-counts =
-      let low = replica-low s x.is-replica in
-      let high = replica-high s x.is-replica in
-      let below = (sound-good width here carried.is-sound).counts s low high in
-      let more = taken-count s p x.is-replica (take i ns) f x.taken in
-      rw (x.wide, x.marked.tallied.counts) (low, high, omega (arith, few-taken))
+  pub plan_counts : (1 ≤ k) × (k ≤ 8) × (count_in u k + i ≤ 255)
+  plan_counts =
+      let low = replica_low s x.is_replica_so in
+      let high = replica_high s x.is_replica_so in
+      let below = (sound_good width here carried.is_sound_so).counts s low high in
+      let more = taken_count s p x.is_replica_so (take i ns) f x.taken in
+      rw (x.wide, x.marked.tallied.counts) (low, high, omega (arith, few_taken))
 
-  plan-table : length t ≡ slots
-  unfolding parentsOf
-  plan-table = rw x.tree (tables-full (logOf width here) (countsOf (logOf width here))).parents-full
+  plan_table : length t ≡ slots
+  unfolding parents_of
+  plan_table = rw x.tree (tables_full (log_of width here) (counts_of (log_of width here))).parents_full
 
   module _ (h : i < end) (at to : ℕ) (ha : at ≡ width * i) (ht : to ≡ at + width) where
-    pub plan-node : i < length ns
-    plan-node = omega (arith, x.whole)
+    pub plan_node : i < length ns
+    plan_node = omega (arith, x.whole)
 
-    pub plan-part : to ≤ length ops
-    plan-part = omega (arith, x.size, x.whole)
+    pub plan_part : to ≤ length ops
+    plan_part = omega (arith, x.size, x.whole)
 
     abbrev part : List ℕ
     part = take (to - at) (drop at ops)
 
-    part-long : length part ≡ width
-    part-long = simp (length-take, length-drop) (omega (arith, plan-part))
+    part_long : length part ≡ width
+    part_long = simp (length-take, length-drop) (omega (arith, plan_part))
 
-    pub plan-asks : Turn f u marks (start + at) t s part
-    plan-asks = record {
-      ground = record { marked = x.marked; size = plan-table; is-replica = x.is-replica };
-      bytes = part-long;
-      inside = omega (arith, plan-inside);
+    pub plan_asks : Turn f u marks (start + at) t s part
+    plan_asks = record {
+      ground = record { marked = x.marked; size = plan_table; is_replica_so = x.is_replica_so };
+      bytes = part_long;
+      inside = omega (arith, plan_inside);
     }
 
     abbrev node : ℕ
     node = get_or ns i 0
 
-    next-nodes : drop i ns ≡ node ∷ drop (suc i) ns
-    next-nodes = drop-cons ns i 0 plan-node
+    next_nodes : drop i ns ≡ node ∷ drop (suc i) ns
+    next_nodes = drop-cons ns i 0 plan_node
 
-    nodes-to : take (i + 1) ns ≡ take i ns ++ (node ∷ [])
-    nodes-to = rw add-one (take-suc ns i 0 plan-node)
+    nodes_to : take (i + 1) ns ≡ take i ns ++ (node ∷ [])
+    nodes_to = rw add-one (take-suc ns i 0 plan_node)
 
-    here-next : reached f s ns p (i + 1) ≡ moveBuffer width here s node p
-    unfolding movesBuffer
-    here-next = rw (nodes-to, foldl-append)
+    here_next : reached f s ns p (i + 1) ≡ move_buffer width here s node p
+    unfolding moves_buffer
+    here_next = rw (nodes_to, foldl-append)
 
     later : Answer
-    later = movesAnswer width (moveBuffer width here s node p) s (drop (suc i) ns) p
+    later = moves_answer width (move_buffer width here s node p) s (drop (suc i) ns) p
 
-    rest : movesAnswer width f s ns p ≡ unlessRefused (issueAnswer width here width s (move node p)) later
-    unfolding movesAnswer later
+    rest : moves_answer width f s ns p ≡ unless_refused (issue_answer width here width s (move node p)) later
+    unfolding moves_answer later
     rest =
-        ap (λ ms. movesAnswer width f s ms p) (sym (take-append-drop i ns))
-        ∙ taken-first (take i ns) (drop i ns) f s p x.taken
-        ∙ ap (λ ms. movesAnswer width here s ms p) next-nodes
+        ap (λ ms. moves_answer width f s ms p) (sym (take-append-drop i ns))
+        ∙ taken_first (take i ns) (drop i ns) f s p x.taken
+        ∙ ap (λ ms. moves_answer width here s ms p) next_nodes
 
     -- c are the counts there, and a, t' and o what the move left
-    module _ (c : Vector) (hc : c ≡ set u (k - 1) (countIn u k + i)) (a : Answer) (t' o : List ℕ)
+    module _ (c : Vector) (hc : c ≡ set u (k - 1) (count_in u k + i)) (a : Answer) (t' o : List ℕ)
         (e : record { answer = a; tree = t'; op = o }
-        ≡ nextBy (length f) (start + at) c s t part (draftedIn (logOf width f) c t s node p)) where
+        ≡ next_by (length f) (start + at) c s t part (drafted_in (log_of width f) c t s node p)) where
       abbrev y : Next
       y = record { answer = a; tree = t'; op = o }
 
-      counts-here : c ≡ countsOf (logOf width here)
-      counts-here =
-          let held : u ≡ headerCounts f = x.marked.tallied.counts ∙ counts-logOf width f in
-          hc ∙ rw (x.wide, held) (sym (taken-counts s p x.is-replica (take i ns) f x.taken ∙ rw few-taken))
+      counts_here : c ≡ counts_of (log_of width here)
+      counts_here =
+          let held : u ≡ header_counts f = x.marked.tallied.counts ∙ counts_log_of width f in
+          hc ∙ rw (x.wide, held) (sym (taken_counts s p x.is_replica_so (take i ns) f x.taken ∙ rw few_taken))
 
-      so : y ≡ left f here carried s x.is-replica node p part part-long (draft f here carried s x.is-replica node p part part-long)
-      so = let z : start + at ≡ fileEnd width here = omega (arith, end-here) in e ∙ rw (z, counts-here, x.tree)
+      so : y ≡ left f here carried s x.is_replica_so node p part part_long (draft f here carried s x.is_replica_so node p part part_long)
+      so = let z : start + at ≡ file_end width here = omega (arith, end_here) in e ∙ rw (z, counts_here, x.tree)
 
-      answer-here : a ≡ issueAnswer width here width s (move node p)
-      answer-here = turn-answer f here carried s x.is-replica node p part part-long y so
+      answer_here : a ≡ issue_answer width here width s (move node p)
+      answer_here = turn_answer f here carried s x.is_replica_so node p part part_long y so
 
-      pub plan-refused : isAccepted a ≡ false → (b : List ℕ) → Planned f s ns p a b
-      unfolding isAccepted unlessRefused
-      plan-refused h b = record {
-        answered = sym (rest ∙ go (sym answer-here) (issue-settled here width s (move node p)));
+      pub plan_refused : is_accepted a ≡ false → (b : List ℕ) → Planned f s ns p a b
+      unfolding is_accepted unless_refused
+      plan_refused h b = record {
+        answered = sym (rest ∙ go (sym answer_here) (issue_settled here width s (move node p)));
         written = λ w. never (sym h ∙ w);
       }
         where
-          go : {b : Answer} → b ≡ a → Settled b → unlessRefused b later ≡ a
+          go : {b : Answer} → b ≡ a → Settled b → unless_refused b later ≡ a
           go q (no m) = q
-          go q (yes m) = never (sym h ∙ ap isAccepted (sym q))
+          go q (yes m) = never (sym h ∙ ap is_accepted (sym q))
 
-      module _ (w : isAccepted a ≡ true) where
-        took : (m : ℕ) × (issueAnswer width here width s (move node p) ≡ accepted m)
-        took = turn-taken f here carried s x.is-replica node p part part-long y so w
+      module _ (w : is_accepted a ≡ true) where
+        took : (m : ℕ) × (issue_answer width here width s (move node p) ≡ accepted m)
+        took = turn_taken f here carried s x.is_replica_so node p part part_long y so w
 
-        op-is : o ≡ issued (logOf width here) s (move node p)
-        op-is = turn-op f here carried s x.is-replica node p part part-long y so w
+        op_is : o ≡ issued (log_of width here) s (move node p)
+        op_is = turn_op f here carried s x.is_replica_so node p part part_long y so w
 
-        op-long : length o ≡ width
-        op-long = let (m, q) = took in rw op-is (issue-admitted here width s (move node p) m q).long
+        op_long : length o ≡ width
+        op_long = let (m, q) = took in rw op_is (issue_admitted here width s (move node p) m q).long
 
-        ops-next : movesOps width f s (take (i + 1) ns) p ≡ movesOps width f s (take i ns) p ++ (o ∷ [])
-        unfolding movesOps
-        ops-next = rw (nodes-to, ops-parts (take i ns) (node ∷ []) f s p, op-is)
+        ops_next : moves_ops width f s (take (i + 1) ns) p ≡ moves_ops width f s (take i ns) p ++ (o ∷ [])
+        unfolding moves_ops
+        ops_next = rw (nodes_to, ops_parts (take i ns) (node ∷ []) f s p, op_is)
 
-        tree-next : t' ≡ parentsOf (logOf width (reached f s ns p (i + 1)))
-        tree-next = rw here-next (turn-tree f here carried s x.is-replica node p part part-long y so w)
+        tree_next : t' ≡ parents_of (log_of width (reached f s ns p (i + 1)))
+        tree_next = rw here_next (turn_tree f here carried s x.is_replica_so node p part part_long y so w)
 
-        pub plan-on : length t' ≡ length t
+        pub plan_on : length t' ≡ length t
             → PlannedTo f u marks s ns p start k end first t' (take at ops ++ (o ++ drop (to - at) (drop at ops))) (i + 1)
         unfolding concat
-        plan-on l =
-            let front : length (take at ops) ≡ at = length-take-le at ops (omega (arith, plan-part)) in
-            let both : length (take at ops ++ o) ≡ width * (i + 1) = rw (length-append, front, op-long) (omega arith) in
+        plan_on l =
+            let front : length (take at ops) ≡ at = length-take-le at ops (omega (arith, plan_part)) in
+            let both : length (take at ops ++ o) ≡ width * (i + 1) = rw (length-append, front, op_long) (omega arith) in
             let back : List ℕ = drop (to - at) (drop at ops) in
             let parts : take at ops ++ (o ++ back) ≡ (take at ops ++ o) ++ back = sym (append_assoc (take at ops) o back) in
             record {
               marked = x.marked;
-              is-replica = x.is-replica;
+              is_replica_so = x.is_replica_so;
               most = x.most;
               start_is = x.start_is;
               wide = x.wide;
               whole = x.whole;
-              few = omega (arith, plan-node);
-              taken = rw nodes-to (taken-both (take i ns) (node ∷ []) f s p x.taken (took, tt));
-              tree = tree-next;
+              few = omega (arith, plan_node);
+              taken = rw nodes_to (taken_both (take i ns) (node ∷ []) f s p x.taken (took, tt));
+              tree = tree_next;
               same = l ∙ x.same;
-              size = rw (parts, length-append, both, length-drop, length-drop) (omega (arith, x.size, plan-part));
+              size = rw (parts, length-append, both, length-drop, length-drop) (omega (arith, x.size, plan_part));
               written =
                   ap (take (width * (i + 1))) parts ∙ take_at (take at ops ++ o) back (width * (i + 1)) both
-                  ∙ rw (ops-next, concat-append, append-nil, ha, x.written);
+                  ∙ rw (ops_next, concat_append, append-nil, ha, x.written);
             }
 
-  pub plan-end-fits : length f < 2 ^ 64 → end ≤ i → (m : ℕ) → m ≡ width * length ns → start + m < 2 ^ 64
-  plan-end-fits l h m e =
+  pub plan_end_fits : length f < 2 ^ 64 → end ≤ i → (m : ℕ) → m ≡ width * length ns → start + m < 2 ^ 64
+  plan_end_fits l h m e =
       let all : i ≡ length ns = omega (arith, x.whole, x.few) in
-      omega (arith, plan-inside, ap (λ (j : ℕ). width * j) all)
+      omega (arith, plan_inside, ap (λ (j : ℕ). width * j) all)
 
-  pub plan-ends : end ≤ i → (m : ℕ) → m ≡ length ns → Planned f s ns p (accepted (start + width * m)) ops
-  plan-ends h m em =
+  pub plan_ends : end ≤ i → (m : ℕ) → m ≡ length ns → Planned f s ns p (accepted (start + width * m)) ops
+  plan_ends h m em =
       let all : i ≡ length ns = omega (arith, x.whole, x.few) in
       let every : take i ns ≡ ns = take_all i ns (omega arith) in
       let taken : AllTaken f s ns p = rw every at x.taken in
       record {
-        answered = sym (taken-answer ns f s p taken ∙ ap accepted (taken-end s p x.is-replica ns f taken ∙ rw (em, start-end)));
+        answered = sym (taken_answer ns f s p taken ∙ ap accepted (taken_end s p x.is_replica_so ns f taken ∙ rw (em, start_end)));
         written = λ _. sym (take_all (width * i) ops (omega (arith, x.size))) ∙ x.written ∙ rw every;
       }
 
 ---- what the code of planning needs: search planning
-pub ruleset turning = (plan-counts, plan-node, plan-part, plan-asks, plan-refused, plan-on)
+pub ruleset turning = (plan_counts, plan_node, plan_part, plan_asks, plan_refused, plan_on)
 
-pub ruleset planning = (rules, tested, plan-starts, plan-inside, plan-fits, plan-end-fits, plan-small, turning, plan-ends)
+pub ruleset planning = (rules, tested, plan_starts, plan_inside, plan_fits, plan_end_fits, plan_small, turning, plan_ends)

@@ -10,49 +10,49 @@ use borrow.Author.Tests.{le-leb, leb-true, lt-leb}
 use Rattle.lists.proofs.BoolLaws.{and_left, and_right, tested}
 use Rattle.rules.specs.Answer.{refused, require}
 use Rattle.rules.specs.File.{width}
-use Rattle.rules.specs.Op.{isReplica}
+use Rattle.rules.specs.Op.{is_replica}
 use Rattle.rules.specs.Sound.{sound}
 use Rattle.issue.proofs.IssueCases.{handed}
-use Rattle.batch_rules.specs.Batch.{batchAnswer, batchBuffer, batchFits, batchOut, mostMoves}
+use Rattle.batch_rules.specs.Batch.{batch_answer, batch_buffer, batch_fits, batch_out, most_moves}
 use Rattle.batch_rules.specs.Claims.{Tested}
 use Rattle.batch_rules.specs.Batch as rules
 
 module _ (n room : ℕ) where
-  pub too_many : 16 < n → false ≡ batchFits width n room
-  unfolding batchFits
-  too_many h = rw (lt-leb n mostMoves h)
+  pub too_many : 16 < n → false ≡ batch_fits width n room
+  unfolding batch_fits
+  too_many h = rw (lt-leb n most_moves h)
 
-  pub few-enough : n ≤ 16 → leb (width * n) room ≡ batchFits width n room
-  unfolding batchFits
-  few-enough h = rw (le-leb n mostMoves h)
+  pub few_enough : n ≤ 16 → leb (width * n) room ≡ batch_fits width n room
+  unfolding batch_fits
+  few_enough h = rw (le-leb n most_moves h)
 
 module _ (f out : List ℕ) (s : ℕ) (ns : List ℕ) (p : ℕ) where
-  pub batch-unsound : sound width f ≡ false → handed (refused 1) f out ≡ rules.issueMoves width f out s ns p
-  unfolding batchAnswer batchBuffer batchOut require
-  batch-unsound a = rw a
+  pub batch_unsound : sound width f ≡ false → handed (refused 1) f out ≡ rules.issue_moves width f out s ns p
+  unfolding batch_answer batch_buffer batch_out require
+  batch_unsound a = rw a
 
   module _ (a : sound width f ≡ true) where
-    pub batch-short : batchFits width (length ns) (length out) ≡ false
-        → handed (refused 2) f out ≡ rules.issueMoves width f out s ns p
-    unfolding batchAnswer batchBuffer batchOut require
-    batch-short b = rw (a, b)
+    pub batch_short : batch_fits width (length ns) (length out) ≡ false
+        → handed (refused 2) f out ≡ rules.issue_moves width f out s ns p
+    unfolding batch_answer batch_buffer batch_out require
+    batch_short b = rw (a, b)
 
-    pub batch-no-replica : batchFits width (length ns) (length out) ≡ true → isReplica s ≡ false
-        → handed (refused 3) f out ≡ rules.issueMoves width f out s ns p
-    unfolding batchAnswer batchBuffer batchOut require
-    batch-no-replica b c = rw (a, b, c)
+    pub batch_no_replica : batch_fits width (length ns) (length out) ≡ true → is_replica s ≡ false
+        → handed (refused 3) f out ≡ rules.issue_moves width f out s ns p
+    unfolding batch_answer batch_buffer batch_out require
+    batch_no_replica b c = rw (a, b, c)
 
-pub batch-tested : (f : List ℕ) (room s : ℕ) (ns : List ℕ) → sound width f ≡ true → batchFits width (length ns) room ≡ true
-    → isReplica s ≡ true → Tested f room s ns
-unfolding batchFits
-batch-tested f room s ns a b c = record {
-  is-sound = a;
-  few = leb-true _ _ (and_left (leb (length ns) mostMoves) _ b);
-  space = leb-true _ _ (and_right (leb (length ns) mostMoves) _ b);
-  is-replica = c;
+pub batch_tested : (f : List ℕ) (room s : ℕ) (ns : List ℕ) → sound width f ≡ true → batch_fits width (length ns) room ≡ true
+    → is_replica s ≡ true → Tested f room s ns
+unfolding batch_fits
+batch_tested f room s ns a b c = record {
+  is_sound_so = a;
+  few = leb-true _ _ (and_left (leb (length ns) most_moves) _ b);
+  space = leb-true _ _ (and_right (leb (length ns) most_moves) _ b);
+  is_replica_so = c;
 }
 
 ---- what the code of the tests needs: search fitting, search testing
-pub ruleset fitting = (rules, too_many, few-enough)
+pub ruleset fitting = (rules, too_many, few_enough)
 
-pub ruleset testing = (rules, tested, batch-unsound, batch-short, batch-no-replica, batch-tested)
+pub ruleset testing = (rules, tested, batch_unsound, batch_short, batch_no_replica, batch_tested)

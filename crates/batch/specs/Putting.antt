@@ -1,23 +1,23 @@
 -- Putting the ops of a planned batch into the log and out, as the code goes about it.
 use Rattle.std.specs.Prelude.{ℕ, ◌+◌, ◌*◌, ◌≤◌, ◌≡◌, true, List, ◌++◌, drop, length}
 use Rattle.lists.specs.Lists.{concat}
-use Rattle.rules.specs.File.{countsOf, fileEnd, logOf, width}
-use Rattle.rules.specs.Op.{Op, countIn, isReplica}
+use Rattle.rules.specs.File.{counts_of, file_end, log_of, width}
+use Rattle.rules.specs.Op.{Op, count_in, is_replica}
 use Rattle.rules.specs.Sound.{sound}
-use Rattle.oplog.specs.Append.{appendedAll}
+use Rattle.oplog.specs.Append.{appended_all}
 use Rattle.batch_rules.specs.Claims.{Tested}
 
 -- the buffer with ops of replica s added, and these in the first bytes of what is lent for them
-abbrev pub withOps : (f out : List ℕ) (s : ℕ) → List Op → List ℕ × List ℕ
-withOps f out s ops = (appendedAll width f s ops, concat ops ++ drop (width * length ops) out)
+abbrev pub with_ops : (f out : List ℕ) (s : ℕ) → List Op → List ℕ × List ℕ
+with_ops f out s ops = (appended_all width f s ops, concat ops ++ drop (width * length ops) out)
 
 -- n ops of replica s, which it may issue, and room for them
 pub record Puttable (f : List ℕ) (s : ℕ) (ops : List ℕ) (n : ℕ) (out : List ℕ) : Type 0 where
-  pub is-sound : sound width f ≡ true
-  pub is-replica : isReplica s ≡ true
-  pub below : countIn (countsOf (logOf width f)) s + n ≤ 255
+  pub is_sound_so : sound width f ≡ true
+  pub is_replica_so : is_replica s ≡ true
+  pub below : count_in (counts_of (log_of width f)) s + n ≤ 255
   pub bytes : length ops ≡ width * n
-  pub room : fileEnd width f + width * n ≤ length f
+  pub room : file_end width f + width * n ≤ length f
   pub space : width * n ≤ length out
 
 -- the tests 1, 2 and 3 passed; there are nodes, and bytes for just their ops

@@ -1,6 +1,6 @@
 ghost use Rattle.std.specs.Prelude.{◌≡◌};
-ghost use Rattle.rules.specs.File.{width, logOf};
-ghost use Rattle.batch.specs.Planning.{Ground, draftedIn};
+ghost use Rattle.rules.specs.File.{width, log_of};
+ghost use Rattle.batch.specs.Planning.{Ground, drafted_in};
 
 use codec::Refusal;
 use issue::{Drafted, draft_move, has_left};
@@ -20,7 +20,7 @@ pub(crate) fn draft_next(
     parent: u16,
 ) -> Drafted
     requires { Ground file.now held marks.now parents.now replica }
-    ensures { result ≡ draftedIn (logOf width file.now) counts parents.now replica node parent }
+    ensures { result ≡ drafted_in (log_of width file.now) counts parents.now replica node parent }
 {
     if !has_left(counts, replica) {
         return Drafted::Refused(Refusal::Exhausted);

@@ -2,7 +2,7 @@ ghost use Rattle.std.specs.Prelude.{◌≡◌, true};
 ghost use Rattle.rules.specs.File.{width};
 ghost use Rattle.rules.specs.Sound.{sound};
 ghost use Rattle.codec.specs.Answers.{answer_of};
-ghost use Rattle.batch_rules.specs.Batch.{batchFits};
+ghost use Rattle.batch_rules.specs.Batch.{batch_fits};
 ghost use Rattle.batch_rules.specs.Batch as rules;
 
 use crate::putting::{MOST, issue_all};
@@ -12,7 +12,7 @@ use soundness::{WIDTH, is_sound};
 
 // Number 2: few enough nodes, and bytes for an op of each.
 fn fits(n: usize, room: usize) -> bool
-    ensures { result ≡ batchFits width n room }
+    ensures { result ≡ batch_fits width n room }
 {
     if MOST < n {
         return false;
@@ -24,7 +24,7 @@ fn fits(n: usize, room: usize) -> bool
 fn issue_sound(buf: &mut [u8], replica: u8, nodes: &[u16], parent: u16, out: &mut [u8]) -> Answer
     requires { sound width buf.old ≡ true }
     ensures { record { answer = answer_of result; buffer = buf.new; out = out.new }
-        ≡ rules.issueMoves width buf.old out.old replica nodes.now parent }
+        ≡ rules.issue_moves width buf.old out.old replica nodes.now parent }
 {
     if !fits(nodes.len(), out.len()) {
         return Answer::Refused(Refusal::Length);
@@ -46,7 +46,7 @@ pub fn issue_moves(
     out: &mut [u8],
 ) -> Answer
     ensures { record { answer = answer_of result; buffer = buf.new; out = out.new }
-        ≡ rules.issueMoves width buf.old out.old replica nodes.now parent }
+        ≡ rules.issue_moves width buf.old out.old replica nodes.now parent }
 {
     if !is_sound(buf) {
         return Answer::Refused(Refusal::Unsound);

@@ -1,9 +1,9 @@
 ghost use Rattle.std.specs.Prelude.{◌≡◌, ◌<◌, length, set};
-ghost use Rattle.rules.specs.File.{width, logOf};
+ghost use Rattle.rules.specs.File.{width, log_of};
 ghost use Rattle.rules.specs.Tree.{slot_of};
 ghost use Rattle.codec.specs.Answers.{answer_of};
 ghost use Rattle.batch.specs.Planning.{Drawable, Plannable, Planned, Prepared, Turn};
-ghost use Rattle.batch.specs.Planning.{draftedIn, nextBy, putNext};
+ghost use Rattle.batch.specs.Planning.{drafted_in, next_by, put_next};
 
 use crate::drafting::draft_next;
 use codec::{Answer, Refusal, is_accepted, widen, write_op};
@@ -35,7 +35,7 @@ fn put_next(
 ) -> Answer
     requires { Drawable parents.old op.old draft end size }
     ensures { record { answer = answer_of result; tree = parents.new; op = op.new }
-        ≡ putNext size end counts replica parents.old op.old draft }
+        ≡ put_next size end counts replica parents.old op.old draft }
 {
     if size - end < WIDTH {
         return Answer::Refused(Refusal::NoRoom);
@@ -63,8 +63,8 @@ fn plan_next(
 ) -> Answer
     requires { Turn file.now held marks.now end parents.old replica op.old }
     ensures { record { answer = answer_of result; tree = parents.new; op = op.new }
-        ≡ nextBy (length file.now) end counts replica parents.old op.old
-        (draftedIn (logOf width file.now) counts parents.old replica node parent) }
+        ≡ next_by (length file.now) end counts replica parents.old op.old
+        (drafted_in (log_of width file.now) counts parents.old replica node parent) }
 {
     let size = file.len();
     match draft_next(file, held, marks, counts, parents, replica, node, parent) {

@@ -1,7 +1,7 @@
 ghost use Rattle.std.specs.Prelude.{◌≡◌, length};
 ghost use Rattle.rules.specs.File.{width, chunks};
 ghost use Rattle.codec.specs.Answers.{answer_of};
-ghost use Rattle.batch.specs.Putting.{Puttable, SomeMoves, withOps};
+ghost use Rattle.batch.specs.Putting.{Puttable, SomeMoves, with_ops};
 ghost use Rattle.batch_rules.specs.Claims.{Tested};
 ghost use Rattle.batch_rules.specs.Batch as rules;
 
@@ -19,7 +19,7 @@ const BYTES: usize = 224;
 fn put_all(buf: &mut [u8], replica: u8, ops: &[u8], n: usize, out: &mut [u8])
     requires { Puttable buf.old replica ops.now n out.old }
     ensures { (buf.new, out.new)
-        ≡ withOps buf.old out.old replica (chunks width n ops.now) }
+        ≡ with_ops buf.old out.old replica (chunks width n ops.now) }
 {
     let counts = counts_of(buf, WIDTH);
     append_ops(buf, counts, widen(replica), ops, n, WIDTH);
@@ -37,7 +37,7 @@ fn issue_some(
 ) -> Answer
     requires { SomeMoves buf.old replica nodes.now ops.old out.old }
     ensures { record { answer = answer_of result; buffer = buf.new; out = out.new }
-        ≡ rules.issueMoves width buf.old out.old replica nodes.now parent }
+        ≡ rules.issue_moves width buf.old out.old replica nodes.now parent }
 {
     let answer = plan(buf, replica, nodes, parent, ops);
     if !is_accepted(answer) {
@@ -57,7 +57,7 @@ pub(crate) fn issue_all(
 ) -> Answer
     requires { Tested buf.old (length out.old) replica nodes.now }
     ensures { record { answer = answer_of result; buffer = buf.new; out = out.new }
-        ≡ rules.issueMoves width buf.old out.old replica nodes.now parent }
+        ≡ rules.issue_moves width buf.old out.old replica nodes.now parent }
 {
     let n = nodes.len();
     if n == 0 {

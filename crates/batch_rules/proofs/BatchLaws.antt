@@ -7,26 +7,26 @@ use mathlib.Core.Bool.{Bool, true, false}
 use mathlib.Core.List.{List, [], ◌∷◌, ◌++◌, foldl}
 use mathlib.Core.Path.{◌≡◌, refl, sym, ap, ◌∙◌}
 use native.Mathlib.Omega.{arith}
-use Rattle.rules.specs.Answer.{Answer, refused, accepted, require, unlessRefused}
-use Rattle.rules.specs.File.{Log, append, appended, countsOf, fileEnd, logOf, width}
-use Rattle.rules.specs.Issue.{Request, move, issueAnswer, issueBuffer, issued, requestClear}
+use Rattle.rules.specs.Answer.{Answer, refused, accepted, require, unless_refused}
+use Rattle.rules.specs.File.{Log, append, appended, counts_of, file_end, log_of, width}
+use Rattle.rules.specs.Issue.{Request, move, issue_answer, issue_buffer, issued, request_clear}
 use Rattle.rules.specs.Marks.{knowledge}
-use Rattle.rules.specs.Op.{Op, countIn, is_move, node_of, parent_of, replicaOf, vectorOf}
-use Rattle.rules.specs.Replay.{outcomeSlot, outcomesOf, parentsOf}
+use Rattle.rules.specs.Op.{Op, count_in, is_move, node_of, parent_of, replica_of, vector_of}
+use Rattle.rules.specs.Replay.{outcome_slot, outcomes_of, parents_of}
 use Rattle.rules.specs.Sound.{sound}
-use Rattle.rules.specs.Tree.{atOrBelow, slot, slot_of}
-use Rattle.rules.proofs.AppendLaws.{new-seq, own-count}
-use Rattle.rules.proofs.DeliverLaws.{Admitted, appended-end, appended-length, appended-log, appended-sound}
-use Rattle.rules.proofs.IssueLaws.{Allowed, allowed, bytes-node, bytes-parent, issue-admitted, issued-moves}
-use Rattle.rules.proofs.PutOutLaws.{issued-origin, issued-vector}
-use Rattle.rules.proofs.ReplicaLaws.{replica-high, replica-low}
-use Rattle.rules.proofs.SoundLaws.{sound-good}
-use Rattle.rules.proofs.StepLaws.{tables-full}
+use Rattle.rules.specs.Tree.{at_or_below, slot, slot_of}
+use Rattle.rules.proofs.AppendLaws.{new_seq, own_count_law}
+use Rattle.rules.proofs.DeliverLaws.{Admitted, appended_end, appended_length, appended_log, appended_sound}
+use Rattle.rules.proofs.IssueLaws.{Allowed, allowed, bytes_node, bytes_parent, issue_admitted, issued_moves}
+use Rattle.rules.proofs.PutOutLaws.{issued_origin, issued_vector}
+use Rattle.rules.proofs.ReplicaLaws.{replica_high, replica_low}
+use Rattle.rules.proofs.SoundLaws.{sound_good}
+use Rattle.rules.proofs.StepLaws.{tables_full}
 use Rattle.rules.proofs.StructureLaws.{GoodLog}
-use Rattle.rules.proofs.TurnLaws.{OneLog, issue-alike, one_end}
+use Rattle.rules.proofs.TurnLaws.{OneLog, issue_alike, one_end}
 use Rattle.rules.proofs.FileLaws.{Wide}
-use Rattle.order.proofs.IssuedLaws.{knowledge-still, outcomes-moved, parents-moved}
-use Rattle.batch_rules.specs.Batch.{moveBuffer, movesAnswer, movesBuffer, movesOps}
+use Rattle.order.proofs.IssuedLaws.{knowledge_still, outcomes_moved, parents_moved}
+use Rattle.batch_rules.specs.Batch.{move_buffer, moves_answer, moves_buffer, moves_ops}
 
 ---- an answer to an issue is a refusal or an acceptance
 
@@ -39,224 +39,224 @@ unfolding require
 settles true k a h = h
 settles false k a h = no k
 
-pub issue-settled : (f : List ℕ) (room s : ℕ) (q : Request) → Settled (issueAnswer width f room s q)
-unfolding issueAnswer
-issue-settled f room s q =
+pub issue_settled : (f : List ℕ) (room s : ℕ) (q : Request) → Settled (issue_answer width f room s q)
+unfolding issue_answer
+issue_settled f room s q =
     settles _ _ _ (settles _ _ _ (settles _ _ _ (settles _ _ _ (settles _ _ _ (settles _ _ _ (settles _ _ _ (settles _ _ _ (yes _))))))))
 
 ---- a move that is accepted
 
-module _ (f : List ℕ) (s n p m : ℕ) (e : issueAnswer width f width s (move n p) ≡ accepted m) where
+module _ (f : List ℕ) (s n p m : ℕ) (e : issue_answer width f width s (move n p) ≡ accepted m) where
   abbrev log : Log
-  log = logOf width f
+  log = log_of width f
 
   abbrev op : Op
   op = issued log s (move n p)
 
   abbrev after : List ℕ
-  after = moveBuffer width f s n p
+  after = move_buffer width f s n p
 
   passes : Admitted width f op m
-  passes = issue-admitted f width s (move n p) m e
+  passes = issue_admitted f width s (move n p) m e
 
   asked : Allowed width f width s (move n p) m
   asked = allowed width f width s (move n p) m e
 
   good : GoodLog log
-  good = sound-good width f passes.is-sound
+  good = sound_good width f passes.is_sound_so
 
   pub after_is : after ≡ appended width f op
-  unfolding moveBuffer issueBuffer
+  unfolding move_buffer issue_buffer
   after_is = rw e
 
-  pub after-log : logOf width after ≡ append log op
-  after-log = rw after_is (appended-log width f op m passes)
+  pub after_log : log_of width after ≡ append log op
+  after_log = rw after_is (appended_log width f op m passes)
 
-  after-sound : sound width after ≡ true
-  after-sound = rw after_is (appended-sound width f op m passes)
+  after_sound : sound width after ≡ true
+  after_sound = rw after_is (appended_sound width f op m passes)
 
-  after-length : length after ≡ length f
-  after-length = rw after_is (appended-length width f op m passes)
+  after_length : length after ≡ length f
+  after_length = rw after_is (appended_length width f op m passes)
 
-  pub after-end : fileEnd width after ≡ fileEnd width f + width
-  after-end = rw after_is (appended-end width f op m passes)
+  pub after_end : file_end width after ≡ file_end width f + width
+  after_end = rw after_is (appended_end width f op m passes)
 
-  vector : vectorOf op ≡ countsOf log
-  vector = issued-vector log good s (move n p)
+  vector : vector_of op ≡ counts_of log
+  vector = issued_vector log good s (move n p)
 
   moves : is_move op ≡ true
-  moves = issued-moves log s n p
+  moves = issued_moves log s n p
 
   node : node_of op ≡ n
   unfolding issued
-  node = bytes-node _ s n p (countsOf log)
+  node = bytes_node _ s n p (counts_of log)
 
   parent : parent_of op ≡ p
   unfolding issued
-  parent = bytes-parent _ s n p (countsOf log)
+  parent = bytes_parent _ s n p (counts_of log)
 
-  clear : atOrBelow (parentsOf log) (parent_of op) (node_of op) ≡ false
-  unfolding requestClear
+  clear : at_or_below (parents_of log) (parent_of op) (node_of op) ≡ false
+  unfolding request_clear
   clear = rw (node, parent) (not-true _ asked.clear)
 
-  knows_after : (k : ℕ) → knowledge (logOf width after) (countsOf (logOf width after)) k ≡ knowledge log (countsOf log) k
-  knows_after k = rw after-log (knowledge-still log good op passes.admits moves k)
+  knows_after : (k : ℕ) → knowledge (log_of width after) (counts_of (log_of width after)) k ≡ knowledge log (counts_of log) k
+  knows_after k = rw after_log (knowledge_still log good op passes.admits moves k)
 
-  pub parents-after : parentsOf (logOf width after) ≡ set (parentsOf log) (slot_of n) p
-  parents-after = ap parentsOf after-log ∙ parents-moved log good op passes.admits vector moves clear ∙ rw (node, parent)
+  pub parents_after : parents_of (log_of width after) ≡ set (parents_of log) (slot_of n) p
+  parents_after = ap parents_of after_log ∙ parents_moved log good op passes.admits vector moves clear ∙ rw (node, parent)
 
-  pub outcomes-after : outcomesOf (logOf width after) ≡ set (outcomesOf log) (outcomeSlot op) 1
-  outcomes-after = ap outcomesOf after-log ∙ outcomes-moved log good op passes.admits vector moves clear
+  pub outcomes_after : outcomes_of (log_of width after) ≡ set (outcomes_of log) (outcome_slot op) 1
+  outcomes_after = ap outcomes_of after_log ∙ outcomes_moved log good op passes.admits vector moves clear
 
-  origin : replicaOf op ≡ s
-  origin = issued-origin log s (move n p)
+  origin : replica_of op ≡ s
+  origin = issued_origin log s (move n p)
 
   -- the counts, and where the op's outcome stands
-  pub count-after : countIn (countsOf (logOf width after)) s ≡ suc (countIn (countsOf log) s)
-  count-after = rw after-log (rw origin at (own-count log op good passes.admits))
+  pub count_after : count_in (counts_of (log_of width after)) s ≡ suc (count_in (counts_of log) s)
+  count_after = rw after_log (rw origin at (own_count_law log op good passes.admits))
 
-  pub slot-there : outcomeSlot op ≡ slot s (suc (countIn (countsOf log) s))
-  unfolding outcomeSlot
-  slot-there = rw (new-seq log op good passes.admits, origin)
+  pub slot_there : outcome_slot op ≡ slot s (suc (count_in (counts_of log) s))
+  unfolding outcome_slot
+  slot_there = rw (new_seq log op good passes.admits, origin)
 
-  pub slot-in : outcomeSlot op < length (outcomesOf log)
-  unfolding outcomesOf slot
-  slot-in =
-      let low = replica-low s asked.is-replica in
-      let high = replica-high s asked.is-replica in
-      omega (arith, slot-there, asked.count, (tables-full log (countsOf log)).outcomes-full)
+  pub slot_in : outcome_slot op < length (outcomes_of log)
+  unfolding outcomes_of slot
+  slot_in =
+      let low = replica_low s asked.is_replica_so in
+      let high = replica_high s asked.is_replica_so in
+      omega (arith, slot_there, asked.count, (tables_full log (counts_of log)).outcomes_full)
 
 ---- moves that are all accepted
 
 abbrev pub AllTaken : (f : List ℕ) (s : ℕ) (ns : List ℕ) (p : ℕ) → Type 0
 AllTaken f s [] p = Unit {0}
-AllTaken f s (n ∷ ns) p = ((m : ℕ) × (issueAnswer width f width s (move n p) ≡ accepted m)) × AllTaken (moveBuffer width f s n p) s ns p
+AllTaken f s (n ∷ ns) p = ((m : ℕ) × (issue_answer width f width s (move n p) ≡ accepted m)) × AllTaken (move_buffer width f s n p) s ns p
 
 -- the answer, and back
-pub all-taken : (ns : List ℕ) (f : List ℕ) (s p end : ℕ) → movesAnswer width f s ns p ≡ accepted end → AllTaken f s ns p
-unfolding movesAnswer unlessRefused
-all-taken [] f s p end e = tt
-all-taken (n ∷ ns) f s p end e =
-    go refl (issue-settled f width s (move n p)) e (all-taken ns (moveBuffer width f s n p) s p end)
+pub all_taken : (ns : List ℕ) (f : List ℕ) (s p end : ℕ) → moves_answer width f s ns p ≡ accepted end → AllTaken f s ns p
+unfolding moves_answer unless_refused
+all_taken [] f s p end e = tt
+all_taken (n ∷ ns) f s p end e =
+    go refl (issue_settled f width s (move n p)) e (all_taken ns (move_buffer width f s n p) s p end)
   where
     rest : Answer
-    rest = movesAnswer width (moveBuffer width f s n p) s ns p
+    rest = moves_answer width (move_buffer width f s n p) s ns p
 
-    go : {a : Answer} → issueAnswer width f width s (move n p) ≡ a → Settled a → unlessRefused a rest ≡ accepted end
-        → (rest ≡ accepted end → AllTaken (moveBuffer width f s n p) s ns p) → AllTaken f s (n ∷ ns) p
+    go : {a : Answer} → issue_answer width f width s (move n p) ≡ a → Settled a → unless_refused a rest ≡ accepted end
+        → (rest ≡ accepted end → AllTaken (move_buffer width f s n p) s ns p) → AllTaken f s (n ∷ ns) p
     go q (no k) e ih = let z : ◌≡◌ {A = ℕ} 0 1 = cc in absurd (omega arith)
     go q (yes m) e ih = ((m, q), ih e)
 
-pub taken-answer : (ns : List ℕ) (f : List ℕ) (s p : ℕ) → AllTaken f s ns p
-    → movesAnswer width f s ns p ≡ accepted (fileEnd width (movesBuffer width f s ns p))
-unfolding movesAnswer movesBuffer unlessRefused
-taken-answer [] f s p t = refl
-taken-answer (n ∷ ns) f s p t = rw t.0.1 (taken-answer ns (moveBuffer width f s n p) s p t.1)
+pub taken_answer : (ns : List ℕ) (f : List ℕ) (s p : ℕ) → AllTaken f s ns p
+    → moves_answer width f s ns p ≡ accepted (file_end width (moves_buffer width f s ns p))
+unfolding moves_answer moves_buffer unless_refused
+taken_answer [] f s p t = refl
+taken_answer (n ∷ ns) f s p t = rw t.0.1 (taken_answer ns (move_buffer width f s n p) s p t.1)
 
 -- in two parts, and back
-pub taken-parts : (xs ys : List ℕ) (f : List ℕ) (s p : ℕ) → AllTaken f s (xs ++ ys) p
-    → AllTaken f s xs p × AllTaken (movesBuffer width f s xs p) s ys p
-unfolding movesBuffer
-taken-parts [] ys f s p t = (tt, t)
-taken-parts (x ∷ xs) ys f s p t =
-    let parts = taken-parts xs ys (moveBuffer width f s x p) s p t.1 in
+pub taken_parts : (xs ys : List ℕ) (f : List ℕ) (s p : ℕ) → AllTaken f s (xs ++ ys) p
+    → AllTaken f s xs p × AllTaken (moves_buffer width f s xs p) s ys p
+unfolding moves_buffer
+taken_parts [] ys f s p t = (tt, t)
+taken_parts (x ∷ xs) ys f s p t =
+    let parts = taken_parts xs ys (move_buffer width f s x p) s p t.1 in
     ((t.0, parts.0), parts.1)
 
-pub taken-both : (xs ys : List ℕ) (f : List ℕ) (s p : ℕ) → AllTaken f s xs p → AllTaken (movesBuffer width f s xs p) s ys p
+pub taken_both : (xs ys : List ℕ) (f : List ℕ) (s p : ℕ) → AllTaken f s xs p → AllTaken (moves_buffer width f s xs p) s ys p
     → AllTaken f s (xs ++ ys) p
-unfolding movesBuffer
-taken-both [] ys f s p t r = r
-taken-both (x ∷ xs) ys f s p t r = (t.0, taken-both xs ys (moveBuffer width f s x p) s p t.1 r)
+unfolding moves_buffer
+taken_both [] ys f s p t r = r
+taken_both (x ∷ xs) ys f s p t r = (t.0, taken_both xs ys (move_buffer width f s x p) s p t.1 r)
 
 -- the answer to moves after some that are accepted
-pub taken-first : (xs ys : List ℕ) (f : List ℕ) (s p : ℕ) → AllTaken f s xs p
-    → movesAnswer width f s (xs ++ ys) p ≡ movesAnswer width (movesBuffer width f s xs p) s ys p
-unfolding movesAnswer movesBuffer unlessRefused
-taken-first [] ys f s p t = refl
-taken-first (x ∷ xs) ys f s p t = rw t.0.1 (taken-first xs ys (moveBuffer width f s x p) s p t.1)
+pub taken_first : (xs ys : List ℕ) (f : List ℕ) (s p : ℕ) → AllTaken f s xs p
+    → moves_answer width f s (xs ++ ys) p ≡ moves_answer width (moves_buffer width f s xs p) s ys p
+unfolding moves_answer moves_buffer unless_refused
+taken_first [] ys f s p t = refl
+taken_first (x ∷ xs) ys f s p t = rw t.0.1 (taken_first xs ys (move_buffer width f s x p) s p t.1)
 
 -- what f still is in g, a buffer after some of the moves
 pub record Carried (f g : List ℕ) : Type 0 where
-  pub is-sound : sound width g ≡ true
+  pub is_sound_so : sound width g ≡ true
   pub size : length g ≡ length f
-  pub knows : (n : ℕ) → knowledge (logOf width g) (countsOf (logOf width g)) n ≡ knowledge (logOf width f) (countsOf (logOf width f)) n
+  pub knows : (n : ℕ) → knowledge (log_of width g) (counts_of (log_of width g)) n ≡ knowledge (log_of width f) (counts_of (log_of width f)) n
 
-pub taken-carried : (ns f : List ℕ) (s p : ℕ) → sound width f ≡ true → AllTaken f s ns p → Carried f (movesBuffer width f s ns p)
-unfolding movesBuffer
-taken-carried [] f s p a t = record { is-sound = a; size = refl; knows = λ n. refl }
-taken-carried (n ∷ ns) f s p a t =
+pub taken_carried : (ns f : List ℕ) (s p : ℕ) → sound width f ≡ true → AllTaken f s ns p → Carried f (moves_buffer width f s ns p)
+unfolding moves_buffer
+taken_carried [] f s p a t = record { is_sound_so = a; size = refl; knows = λ n. refl }
+taken_carried (n ∷ ns) f s p a t =
     let (m, e) = t.0 in
-    let rest = taken-carried ns (moveBuffer width f s n p) s p (after-sound f s n p m e) t.1 in
+    let rest = taken_carried ns (move_buffer width f s n p) s p (after_sound f s n p m e) t.1 in
     record {
-      is-sound = rest.is-sound;
-      size = rest.size ∙ after-length f s n p m e;
+      is_sound_so = rest.is_sound_so;
+      size = rest.size ∙ after_length f s n p m e;
       knows = λ k. rest.knows k ∙ knows_after f s n p m e k;
     }
 
 -- the tree
-pub taken-tree : (ns : List ℕ) (f : List ℕ) (s p : ℕ) → AllTaken f s ns p
-    → parentsOf (logOf width (movesBuffer width f s ns p)) ≡ foldl (λ t n. set t (slot_of n) p) (parentsOf (logOf width f)) ns
-unfolding movesBuffer
-taken-tree [] f s p t = refl
-taken-tree (n ∷ ns) f s p t =
-    taken-tree ns (moveBuffer width f s n p) s p t.1
-    ∙ ap (λ tree. foldl (λ t n. set t (slot_of n) p) tree ns) (parents-after f s n p t.0.0 t.0.1)
+pub taken_tree : (ns : List ℕ) (f : List ℕ) (s p : ℕ) → AllTaken f s ns p
+    → parents_of (log_of width (moves_buffer width f s ns p)) ≡ foldl (λ t n. set t (slot_of n) p) (parents_of (log_of width f)) ns
+unfolding moves_buffer
+taken_tree [] f s p t = refl
+taken_tree (n ∷ ns) f s p t =
+    taken_tree ns (move_buffer width f s n p) s p t.1
+    ∙ ap (λ tree. foldl (λ t n. set t (slot_of n) p) tree ns) (parents_after f s n p t.0.0 t.0.1)
 
 -- the outcomes of the replica's ops before them stay
-pub taken-outcome : (ns : List ℕ) (f : List ℕ) (s p i : ℕ) → AllTaken f s ns p → i ≤ slot s (countIn (countsOf (logOf width f)) s)
-    → get_or (outcomesOf (logOf width (movesBuffer width f s ns p))) i 0 ≡ get_or (outcomesOf (logOf width f)) i 0
-unfolding movesBuffer slot
-taken-outcome [] f s p i t h = refl
-taken-outcome (n ∷ ns) f s p i t h =
+pub taken_outcome : (ns : List ℕ) (f : List ℕ) (s p i : ℕ) → AllTaken f s ns p → i ≤ slot s (count_in (counts_of (log_of width f)) s)
+    → get_or (outcomes_of (log_of width (moves_buffer width f s ns p))) i 0 ≡ get_or (outcomes_of (log_of width f)) i 0
+unfolding moves_buffer slot
+taken_outcome [] f s p i t h = refl
+taken_outcome (n ∷ ns) f s p i t h =
     let (m, e) = t.0 in
-    let k : ℕ = outcomeSlot (issued (logOf width f) s (move n p)) in
-    taken-outcome ns (moveBuffer width f s n p) s p i t.1 (omega (arith, count-after f s n p m e))
-    ∙ ap (λ os. get_or os i 0) (outcomes-after f s n p m e)
-    ∙ get_or-set_other (outcomesOf (logOf width f)) k i 1 0 (λ z. omega (arith, slot-there f s n p m e))
+    let k : ℕ = outcome_slot (issued (log_of width f) s (move n p)) in
+    taken_outcome ns (move_buffer width f s n p) s p i t.1 (omega (arith, count_after f s n p m e))
+    ∙ ap (λ os. get_or os i 0) (outcomes_after f s n p m e)
+    ∙ get_or-set_other (outcomes_of (log_of width f)) k i 1 0 (λ z. omega (arith, slot_there f s n p m e))
 
 ---- the ops
 
-pub ops-count : (ns f : List ℕ) (s p : ℕ) → length (movesOps width f s ns p) ≡ length ns
-unfolding movesOps
-ops-count [] f s p = refl
-ops-count (n ∷ ns) f s p = ap suc (ops-count ns (moveBuffer width f s n p) s p)
+pub ops_count : (ns f : List ℕ) (s p : ℕ) → length (moves_ops width f s ns p) ≡ length ns
+unfolding moves_ops
+ops_count [] f s p = refl
+ops_count (n ∷ ns) f s p = ap suc (ops_count ns (move_buffer width f s n p) s p)
 
-pub ops-parts : (xs ys f : List ℕ) (s p : ℕ)
-    → movesOps width f s (xs ++ ys) p ≡ movesOps width f s xs p ++ movesOps width (movesBuffer width f s xs p) s ys p
-unfolding movesOps movesBuffer
-ops-parts [] ys f s p = refl
-ops-parts (x ∷ xs) ys f s p = ap (◌∷◌ (issued (logOf width f) s (move x p))) (ops-parts xs ys (moveBuffer width f s x p) s p)
+pub ops_parts : (xs ys f : List ℕ) (s p : ℕ)
+    → moves_ops width f s (xs ++ ys) p ≡ moves_ops width f s xs p ++ moves_ops width (moves_buffer width f s xs p) s ys p
+unfolding moves_ops moves_buffer
+ops_parts [] ys f s p = refl
+ops_parts (x ∷ xs) ys f s p = ap (◌∷◌ (issued (log_of width f) s (move x p))) (ops_parts xs ys (move_buffer width f s x p) s p)
 
-pub ops-wide : (ns f : List ℕ) (s p : ℕ) → AllTaken f s ns p → Wide width (movesOps width f s ns p)
-unfolding movesOps
-ops-wide [] f s p t = tt
-ops-wide (n ∷ ns) f s p t =
+pub ops_wide : (ns f : List ℕ) (s p : ℕ) → AllTaken f s ns p → Wide width (moves_ops width f s ns p)
+unfolding moves_ops
+ops_wide [] f s p t = tt
+ops_wide (n ∷ ns) f s p t =
     let (m, e) = t.0 in
-    ((issue-admitted f width s (move n p) m e).long, ops-wide ns (moveBuffer width f s n p) s p t.1)
+    ((issue_admitted f width s (move n p) m e).long, ops_wide ns (move_buffer width f s n p) s p t.1)
 
 ---- the log and the buffer's length settle it
 
 module _ (s p : ℕ) where
-  move-alike : (f g : List ℕ) → OneLog width f g → (n : ℕ) → OneLog width (moveBuffer width f s n p) (moveBuffer width g s n p)
-  unfolding moveBuffer issueBuffer
-  move-alike f g x n = go refl (issue-settled f width s (move n p))
+  move_alike : (f g : List ℕ) → OneLog width f g → (n : ℕ) → OneLog width (move_buffer width f s n p) (move_buffer width g s n p)
+  unfolding move_buffer issue_buffer
+  move_alike f g x n = go refl (issue_settled f width s (move n p))
     where
-      go : {a : Answer} → issueAnswer width f width s (move n p) ≡ a → Settled a
-          → OneLog width (moveBuffer width f s n p) (moveBuffer width g s n p)
-      go e (no k) = rw (← issue-alike width f g x width s (move n p), e) x
+      go : {a : Answer} → issue_answer width f width s (move n p) ≡ a → Settled a
+          → OneLog width (move_buffer width f s n p) (move_buffer width g s n p)
+      go e (no k) = rw (← issue_alike width f g x width s (move n p), e) x
       go e (yes m) =
-          let d = sym (issue-alike width f g x width s (move n p)) ∙ e in
+          let d = sym (issue_alike width f g x width s (move n p)) ∙ e in
           record {
-            first = after-sound f s n p m e;
-            second = after-sound g s n p m d;
-            log = after-log f s n p m e ∙ ap (λ log. append log (issued log s (move n p))) x.log ∙ sym (after-log g s n p m d);
-            size = after-length f s n p m e ∙ x.size ∙ sym (after-length g s n p m d);
+            first = after_sound f s n p m e;
+            second = after_sound g s n p m d;
+            log = after_log f s n p m e ∙ ap (λ log. append log (issued log s (move n p))) x.log ∙ sym (after_log g s n p m d);
+            size = after_length f s n p m e ∙ x.size ∙ sym (after_length g s n p m d);
           }
 
-  pub moves-alike : (ns f g : List ℕ) → OneLog width f g
-      → (movesAnswer width f s ns p ≡ movesAnswer width g s ns p) × (movesOps width f s ns p ≡ movesOps width g s ns p)
-  unfolding movesAnswer movesOps
-  moves-alike [] f g x = (ap accepted (one_end width f g x.log), refl)
-  moves-alike (n ∷ ns) f g x =
-      let rest = moves-alike ns (moveBuffer width f s n p) (moveBuffer width g s n p) (move-alike f g x n) in
-      (rw (issue-alike width f g x width s (move n p), rest.0), rw (x.log, rest.1))
+  pub moves_alike : (ns f g : List ℕ) → OneLog width f g
+      → (moves_answer width f s ns p ≡ moves_answer width g s ns p) × (moves_ops width f s ns p ≡ moves_ops width g s ns p)
+  unfolding moves_answer moves_ops
+  moves_alike [] f g x = (ap accepted (one_end width f g x.log), refl)
+  moves_alike (n ∷ ns) f g x =
+      let rest = moves_alike ns (move_buffer width f s n p) (move_buffer width g s n p) (move_alike f g x n) in
+      (rw (issue_alike width f g x width s (move n p), rest.0), rw (x.log, rest.1))

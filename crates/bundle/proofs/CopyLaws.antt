@@ -11,130 +11,130 @@ use mathlib.Core.Logic.{⊎_elim}
 use mathlib.Core.Path.{◌≡◌, refl, sym, ap, ◌∙◌}
 use native.Mathlib.Omega.{arith}
 use Rattle.lists.proofs.ListLaws.{drop_past}
-use Rattle.rules.specs.Answer.{Answer, refused, hadIt, waiting, done, accepted, require, ifAccepted}
-use Rattle.rules.specs.Bundle.{turnsAnswer, turnsBuffer}
-use Rattle.rules.specs.Deliver.{admitAnswer, deliverAnswer, deliverBuffer, heldAnswer, is_held}
-use Rattle.rules.specs.File.{append, appended, countsOf, fileEnd, fileOf, largest, logOf}
-use Rattle.rules.specs.Log.{closed, covered, namesKnown}
-use Rattle.rules.specs.Op.{Op, Vector, countIn, replicaOf, seqOf, vectorOf, wellFormed}
+use Rattle.rules.specs.Answer.{Answer, refused, had_it, waiting, done, accepted, require, if_accepted}
+use Rattle.rules.specs.Bundle.{turns_answer, turns_buffer}
+use Rattle.rules.specs.Deliver.{admit_answer, deliver_answer, deliver_buffer, held_answer, is_held}
+use Rattle.rules.specs.File.{append, appended, counts_of, file_end, file_of, largest, log_of}
+use Rattle.rules.specs.Log.{closed, covered, names_known}
+use Rattle.rules.specs.Op.{Op, Vector, count_in, replica_of, seq_of, vector_of, well_formed}
 use Rattle.rules.specs.Sound.{sound}
-use Rattle.rules.proofs.AppendLaws.{replica-formed}
-use Rattle.rules.proofs.CausalLaws.{end-room}
-use Rattle.rules.proofs.DeliverLaws.{admitted, appended-end, appended-length, appended-past, appended-sound}
-use Rattle.rules.proofs.FileLaws.{counts-logOf}
-use Rattle.rules.proofs.IssueLaws.{counts-eight}
-use Rattle.rules.proofs.SoundLaws.{sound-good}
+use Rattle.rules.proofs.AppendLaws.{replica_formed}
+use Rattle.rules.proofs.CausalLaws.{end_room}
+use Rattle.rules.proofs.DeliverLaws.{admitted, appended_end, appended_length, appended_past, appended_sound}
+use Rattle.rules.proofs.FileLaws.{counts_log_of}
+use Rattle.rules.proofs.IssueLaws.{counts_eight}
+use Rattle.rules.proofs.SoundLaws.{sound_good}
 use Rattle.bundle.specs.Opening.{Reaches}
-use Rattle.rules.proofs.FrontLaws.{end-front, front_length, log-front, sound-front}
+use Rattle.rules.proofs.FrontLaws.{end_front, front_length, log_front, sound_front}
 
 -- test 8 counts only for an op that is well formed and not held
-tests-alike : (l a b : Bool) (held : Answer) (next : Bool → Answer) (t u : Bool) → (a ≡ true → b ≡ false → t ≡ u)
+tests_alike : (l a b : Bool) (held : Answer) (next : Bool → Answer) (t u : Bool) → (a ≡ true → b ≡ false → t ≡ u)
     → require l 2 (require a 3 (cond b held (next t))) ≡ require l 2 (require a 3 (cond b held (next u)))
 unfolding require
-tests-alike l true true held next t u h = refl
-tests-alike l true false held next t u h = ap (λ (k : Bool). require l 2 (next k)) (h refl refl)
-tests-alike l false b held next t u h = refl
+tests_alike l true true held next t u h = refl
+tests_alike l true false held next t u h = ap (λ (k : Bool). require l 2 (next k)) (h refl refl)
+tests_alike l false b held next t u h = refl
 
 ---- a front that reaches as far as a file can
 
 module _ (w n : ℕ) (f : List ℕ) (x : Reaches w n f) (r : Op) where
   -- a log that lacks a well-formed op is not full
-  not_full : wellFormed r ≡ true → is_held (logOf w f) r ≡ false → fileEnd w f + w ≤ largest w
-  unfolding is_held fileEnd seqOf
+  not_full : well_formed r ≡ true → is_held (log_of w f) r ≡ false → file_end w f + w ≤ largest w
+  unfolding is_held file_end seq_of
   not_full formed e =
-      let i = replica-formed r formed in
-      let good = sound-good w f x.is-sound in
-      let v : Vector = countsOf (logOf w f) in
-      let s : ℕ = replicaOf r in
-      let lacks : countIn v s < seqOf r = leb-false (seqOf r) (countIn v s) e in
-      rw (counts-logOf w f) at (end-room w v (counts-eight (logOf w f) good) good.counts s i.0 i.1 (omega (arith, i.2)))
+      let i = replica_formed r formed in
+      let good = sound_good w f x.is_sound_so in
+      let v : Vector = counts_of (log_of w f) in
+      let s : ℕ = replica_of r in
+      let lacks : count_in v s < seq_of r = leb-false (seq_of r) (count_in v s) e in
+      rw (counts_log_of w f) at (end_room w v (counts_eight (log_of w f) good) good.counts s i.0 i.1 (omega (arith, i.2)))
 
-  room-alike : wellFormed r ≡ true → is_held (logOf w f) r ≡ false → leb (fileEnd w f + w) n ≡ leb (fileEnd w f + w) (length f)
-  room-alike formed e = ⊎_elim
+  room_alike : well_formed r ≡ true → is_held (log_of w f) r ≡ false → leb (file_end w f + w) n ≡ leb (file_end w f + w) (length f)
+  room_alike formed e = ⊎_elim
       (λ (z : n ≡ length f). rw z)
       (λ (z : largest w ≤ n).
       let fits = not_full formed e in
-      le-leb (fileEnd w f + w) n (omega arith) ∙ sym (le-leb (fileEnd w f + w) (length f) (omega (arith, x.short))))
+      le-leb (file_end w f + w) n (omega arith) ∙ sym (le-leb (file_end w f + w) (length f) (omega (arith, x.short))))
       x.enough
 
   abbrev front : List ℕ
   front = take n f
 
-  is_front : (sound w front ≡ true) × (logOf w front ≡ logOf w f) × (fileEnd w front ≡ fileEnd w f) × (length front ≡ n)
+  is_front : (sound w front ≡ true) × (log_of w front ≡ log_of w f) × (file_end w front ≡ file_end w f) × (length front ≡ n)
   is_front = (
-    sound-front w n f x.inside x.short x.is-sound,
-    log-front w n f x.inside,
-    end-front w n f x.inside,
-    front_length w n f x.inside x.short x.is-sound,
+    sound_front w n f x.inside x.short x.is_sound_so,
+    log_front w n f x.inside,
+    end_front w n f x.inside,
+    front_length w n f x.inside x.short x.is_sound_so,
   )
 
-  deliver-part : deliverAnswer w front r ≡ deliverAnswer w f r
-  unfolding deliverAnswer admitAnswer require
-  deliver-part =
-      rw (is_front.0, x.is-sound, is_front.1, is_front.2, is_front.3)
-      (tests-alike (eqb (length r) w) (wellFormed r) (is_held (logOf w f) r) (heldAnswer (logOf w f) r)
-      (λ t. require (covered (logOf w f) (vectorOf r)) 5 (require (closed (logOf w f) (vectorOf r)) 6
-      (require (namesKnown (logOf w f) r) 7 (require t 8 (accepted (fileEnd w f + w)))))) _ _ room-alike)
+  deliver_part : deliver_answer w front r ≡ deliver_answer w f r
+  unfolding deliver_answer admit_answer require
+  deliver_part =
+      rw (is_front.0, x.is_sound_so, is_front.1, is_front.2, is_front.3)
+      (tests_alike (eqb (length r) w) (well_formed r) (is_held (log_of w f) r) (held_answer (log_of w f) r)
+      (λ t. require (covered (log_of w f) (vector_of r)) 5 (require (closed (log_of w f) (vector_of r)) 6
+      (require (names_known (log_of w f) r) 7 (require t 8 (accepted (file_end w f + w)))))) _ _ room_alike)
 
-  split-front : fileEnd w f + w ≤ n → appended w f r ≡ appended w front r ++ drop n f
+  split_front : file_end w f + w ≤ n → appended w f r ≡ appended w front r ++ drop n f
   unfolding appended
-  split-front room =
-      let file : List ℕ = fileOf w (append (logOf w f) r) in
-      let end : ℕ = fileEnd w f + w in
+  split_front room =
+      let file : List ℕ = file_of w (append (log_of w f) r) in
+      let end : ℕ = file_end w f + w in
       let past : drop end f ≡ drop end front ++ drop n f =
       ap (drop end) (sym (take-append-drop n f)) ∙ drop-append-le end front (drop n f) (rw is_front.3 room) in
       rw (is_front.1, is_front.2) (ap (λ (t : List ℕ). file ++ t) past ∙ sym (append_assoc file (drop end front) (drop n f)))
 
   -- what the delivery leaves
   record Delivered (a : Answer) : Type 0 where
-    reaches : Reaches w n (ifAccepted a (appended w f r) f)
-    same-front : ifAccepted a (appended w front r) front ≡ take n (ifAccepted a (appended w f r) f)
-    same-past : drop n (ifAccepted a (appended w f r) f) ≡ drop n f
+    reaches : Reaches w n (if_accepted a (appended w f r) f)
+    same_front : if_accepted a (appended w front r) front ≡ take n (if_accepted a (appended w f r) f)
+    same_past : drop n (if_accepted a (appended w f r) f) ≡ drop n f
 
-  delivered-part : (a : Answer) → deliverAnswer w f r ≡ a → Delivered a
-  delivered-part (refused k) e = record { reaches = x; same-front = refl; same-past = refl }
-  delivered-part hadIt e = record { reaches = x; same-front = refl; same-past = refl }
-  delivered-part waiting e = record { reaches = x; same-front = refl; same-past = refl }
-  delivered-part done e = record { reaches = x; same-front = refl; same-past = refl }
-  delivered-part (accepted k) e =
+  delivered_part : (a : Answer) → deliver_answer w f r ≡ a → Delivered a
+  delivered_part (refused k) e = record { reaches = x; same_front = refl; same_past = refl }
+  delivered_part had_it e = record { reaches = x; same_front = refl; same_past = refl }
+  delivered_part waiting e = record { reaches = x; same_front = refl; same_past = refl }
+  delivered_part done e = record { reaches = x; same_front = refl; same_past = refl }
+  delivered_part (accepted k) e =
       let h = admitted w f r k e in
-      let g = admitted w front r k (deliver-part ∙ e) in
-      let room : fileEnd w f + w ≤ n = omega (arith, g.room, is_front.2, is_front.3) in
+      let g = admitted w front r k (deliver_part ∙ e) in
+      let room : file_end w f + w ≤ n = omega (arith, g.room, is_front.2, is_front.3) in
       record {
         reaches = record {
-          is-sound = appended-sound w f r k h;
-          inside = rw (appended-end w f r k h) room;
-          short = rw (appended-length w f r k h) x.short;
-          enough = rw (appended-length w f r k h) x.enough;
+          is_sound_so = appended_sound w f r k h;
+          inside = rw (appended_end w f r k h) room;
+          short = rw (appended_length w f r k h) x.short;
+          enough = rw (appended_length w f r k h) x.enough;
         };
-        same-front =
-            sym (ap (take n) (split-front room)
-            ∙ take_at (appended w front r) (drop n f) n (appended-length w front r k g ∙ is_front.3));
-        same-past = drop_past (appended w f r) f (fileEnd w f + w) n room (appended-past w f r k h);
+        same_front =
+            sym (ap (take n) (split_front room)
+            ∙ take_at (appended w front r) (drop n f) n (appended_length w front r k g ∙ is_front.3));
+        same_past = drop_past (appended w f r) f (file_end w f + w) n room (appended_past w f r k h);
       }
 
-  after : Reaches w n (deliverBuffer w f r)
-  unfolding deliverBuffer
-  after = (delivered-part (deliverAnswer w f r) refl).reaches
+  after : Reaches w n (deliver_buffer w f r)
+  unfolding deliver_buffer
+  after = (delivered_part (deliver_answer w f r) refl).reaches
 
-  front-after : deliverBuffer w front r ≡ take n (deliverBuffer w f r)
-  unfolding deliverBuffer
-  front-after = rw deliver-part (delivered-part (deliverAnswer w f r) refl).same-front
+  front_after : deliver_buffer w front r ≡ take n (deliver_buffer w f r)
+  unfolding deliver_buffer
+  front_after = rw deliver_part (delivered_part (deliver_answer w f r) refl).same-front
 
-  past_after : drop n (deliverBuffer w f r) ≡ drop n f
-  unfolding deliverBuffer
-  past_after = (delivered-part (deliverAnswer w f r) refl).same-past
+  past_after : drop n (deliver_buffer w f r) ≡ drop n f
+  unfolding deliver_buffer
+  past_after = (delivered_part (deliver_answer w f r) refl).same-past
 
 -- ops in turn
-pub turns-part : (w n : ℕ) (rs : List Op) (f : List ℕ) → Reaches w n f
-    → (turnsAnswer w (take n f) rs ≡ turnsAnswer w f rs) × (turnsBuffer w (take n f) rs ≡ take n (turnsBuffer w f rs))
-    × (drop n (turnsBuffer w f rs) ≡ drop n f)
-unfolding turnsAnswer turnsBuffer
-turns-part w n [] f x = (ap accepted (end-front w n f x.inside), refl, refl)
-turns-part w n (r ∷ rs) f x =
-    let step : deliverBuffer w (take n f) r ≡ take n (deliverBuffer w f r) = front-after w n f x r in
-    let rest = turns-part w n rs (deliverBuffer w f r) (after w n f x r) in (
-      rw (deliver-part w n f x r, step, rest.0),
-      ap (λ (g : List ℕ). turnsBuffer w g rs) step ∙ rest.1,
+pub turns_part : (w n : ℕ) (rs : List Op) (f : List ℕ) → Reaches w n f
+    → (turns_answer w (take n f) rs ≡ turns_answer w f rs) × (turns_buffer w (take n f) rs ≡ take n (turns_buffer w f rs))
+    × (drop n (turns_buffer w f rs) ≡ drop n f)
+unfolding turns_answer turns_buffer
+turns_part w n [] f x = (ap accepted (end_front w n f x.inside), refl, refl)
+turns_part w n (r ∷ rs) f x =
+    let step : deliver_buffer w (take n f) r ≡ take n (deliver_buffer w f r) = front_after w n f x r in
+    let rest = turns_part w n rs (deliver_buffer w f r) (after w n f x r) in (
+      rw (deliver_part w n f x r, step, rest.0),
+      ap (λ (g : List ℕ). turns_buffer w g rs) step ∙ rest.1,
       rest.2 ∙ past_after w n f x r,
     )

@@ -14,18 +14,18 @@ use native.Mathlib.Omega.{arith}
 use Rattle.lists.specs.Lists.{concat, filter, sum}
 use Rattle.lists.proofs.BoolLaws.{tested}
 use Rattle.rules.specs.Answer.{Answer, accepted, refused, require}
-use Rattle.rules.specs.Bundle.{beyondCounts, bundleAnswer, bundleCall, bundleOf, headByte, head_of, opsBeyond}
-use Rattle.rules.specs.File.{headerCounts, logOf, width}
+use Rattle.rules.specs.Bundle.{beyond_counts, bundle_answer, bundle_call, bundle_of, head_byte, head_of, ops_beyond}
+use Rattle.rules.specs.File.{header_counts, log_of, width}
 use Rattle.rules.specs.Op.{Vector}
 use Rattle.rules.specs.Path.{Written}
 use Rattle.rules.specs.Sound.{sound}
-use Rattle.rules.proofs.BundleLaws.{ones-head}
-use Rattle.rules.proofs.FileLaws.{counts-logOf}
-use Rattle.rules.proofs.SoundLaws.{sound-good, sound-wide}
-use Rattle.order.proofs.BeyondLaws.{bundle-length}
-use Rattle.bundle.specs.Bodies.{Output, WholeRoom, laidOver, output}
-use Rattle.bundle_head.specs.Head.{HeadRoom, beyondAt, beyondOf}
-use Rattle.bundle.specs.Making.{Fillable, bundleSize}
+use Rattle.rules.proofs.BundleLaws.{ones_head}
+use Rattle.rules.proofs.FileLaws.{counts_log_of}
+use Rattle.rules.proofs.SoundLaws.{sound_good, sound_wide}
+use Rattle.order.proofs.BeyondLaws.{bundle_length}
+use Rattle.bundle.specs.Bodies.{Output, WholeRoom, laid_over, output}
+use Rattle.bundle_head.specs.Head.{HeadRoom, beyond_at, beyond_of}
+use Rattle.bundle.specs.Making.{Fillable, bundle_size}
 
 -- what a call hands back
 abbrev handed : Answer → (out : List ℕ) → Written
@@ -33,49 +33,49 @@ handed a o = record { answer = a; out = o }
 
 ---- how long it is
 
-pub size_is : (v : Vector) (h k n : ℕ) → h ≡ headByte v → k ≡ 1 + ones h → n ≡ sum v → k + 14 * n ≡ bundleSize v
-unfolding bundleSize
-size_is v h k n hh hk hn = rw (hn, hk, hh, ones-head v)
+pub size_is : (v : Vector) (h k n : ℕ) → h ≡ head_byte v → k ≡ 1 + ones h → n ≡ sum v → k + 14 * n ≡ bundle_size v
+unfolding bundle_size
+size_is v h k n hh hk hn = rw (hn, hk, hh, ones_head v)
 
 module _ (f : List ℕ) (a : sound width f ≡ true) (counts : Vector) where
-  whole_length : length (bundleOf (logOf width f) counts) ≡ bundleSize (beyondCounts (logOf width f) counts)
-  unfolding bundleSize
-  whole_length = bundle-length (logOf width f) (sound-good width f a) counts width (sound-wide width f a)
+  whole_length : length (bundle_of (log_of width f) counts) ≡ bundle_size (beyond_counts (log_of width f) counts)
+  unfolding bundle_size
+  whole_length = bundle_length (log_of width f) (sound_good width f a) counts width (sound_wide width f a)
 
-  module _ (held beyond : Vector) (hh : held ≡ headerCounts f) (hb : beyond ≡ beyondOf held counts) where
-    pub is-beyond : beyond ≡ beyondCounts (logOf width f) counts
-    unfolding beyondOf beyondAt beyondCounts
-    is-beyond = hb ∙ rw (hh, ← counts-logOf width f)
+  module _ (held beyond : Vector) (hh : held ≡ header_counts f) (hb : beyond ≡ beyond_of held counts) where
+    pub is_beyond_so : beyond ≡ beyond_counts (log_of width f) counts
+    unfolding beyond_of beyond_at beyond_counts
+    is_beyond_so = hb ∙ rw (hh, ← counts_log_of width f)
 
-    module _ (size : ℕ) (hs : size ≡ bundleSize beyond) where
-      is-size : size ≡ length (bundleOf (logOf width f) counts)
-      is-size = hs ∙ rw is-beyond (sym whole_length)
+    module _ (size : ℕ) (hs : size ≡ bundle_size beyond) where
+      is_size : size ≡ length (bundle_of (log_of width f) counts)
+      is_size = hs ∙ rw is_beyond_so (sym whole_length)
 
       module _ (out : List ℕ) where
-        pub make-short : length out < size → handed (refused 8) out ≡ bundleCall width f counts out
-        unfolding bundleCall bundleAnswer require
-        make-short l = rw (a, ← is-size, lt-leb size (length out) l)
+        pub make_short : length out < size → handed (refused 8) out ≡ bundle_call width f counts out
+        unfolding bundle_call bundle_answer require
+        make_short l = rw (a, ← is_size, lt-leb size (length out) l)
 
         module _ (l : size ≤ length out) where
-          pub make-fills : Fillable f counts beyond (take size out)
-          make-fills = record { is-sound = a; is-beyond = is-beyond; size = rw (length-take, ← is-size) (omega arith) }
+          pub make_fills : Fillable f counts beyond (take size out)
+          make_fills = record { is_sound_so = a; is_beyond_so = is_beyond_so; size = rw (length-take, ← is_size) (omega arith) }
 
-          pub make-done : (lent : List ℕ) → lent ≡ bundleOf (logOf width f) counts
-              → handed (accepted size) (lent ++ drop size out) ≡ bundleCall width f counts out
-          unfolding bundleCall bundleAnswer require
-          make-done lent e = rw (a, ← is-size, le-leb size (length out) l, e)
+          pub make_done : (lent : List ℕ) → lent ≡ bundle_of (log_of width f) counts
+              → handed (accepted size) (lent ++ drop size out) ≡ bundle_call width f counts out
+          unfolding bundle_call bundle_answer require
+          make_done lent e = rw (a, ← is_size, le-leb size (length out) l, e)
 
-pub make-unsound : (f : List ℕ) (counts : Vector) (out : List ℕ) → sound width f ≡ false
-    → handed (refused 1) out ≡ bundleCall width f counts out
-unfolding bundleCall bundleAnswer require
-make-unsound f counts out e = rw e
+pub make_unsound : (f : List ℕ) (counts : Vector) (out : List ℕ) → sound width f ≡ false
+    → handed (refused 1) out ≡ bundle_call width f counts out
+unfolding bundle_call bundle_answer require
+make_unsound f counts out e = rw e
 
 ---- the head: its first byte, then the count bytes
 
 -- a first byte over that of a list
-first-set : (out rest : List ℕ) (h : ℕ) → 0 < length out → set (take 1 out ++ rest) 0 h ≡ h ∷ rest
-first-set [] rest h l = absurd (not-suc-le-zero l)
-first-set (x ∷ out) rest h l = refl
+first_set : (out rest : List ℕ) (h : ℕ) → 0 < length out → set (take 1 out ++ rest) 0 h ≡ h ∷ rest
+first_set [] rest h l = absurd (not-suc-le-zero l)
+first_set (x ∷ out) rest h l = refl
 
 module _ (out : List ℕ) (beyond : Vector) (x : length (head_of beyond) ≤ length out) where
   abbrev bytes : List ℕ
@@ -85,75 +85,75 @@ module _ (out : List ℕ) (beyond : Vector) (x : length (head_of beyond) ≤ len
   unfolding head_of
   some_out = omega arith
 
-  pub head-counts : (head : ℕ) → head ≡ headByte beyond → HeadRoom out head beyond
+  pub head_counts : (head : ℕ) → head ≡ head_byte beyond → HeadRoom out head beyond
   unfolding head_of
-  head-counts head hh = record { is-head = hh; room = omega arith }
+  head_counts head hh = record { is_head = hh; room = omega arith }
 
   module _ (after : List ℕ) (e : after ≡ take 1 out ++ (bytes ++ drop (1 + length bytes) out)) where
-    pub head-some : length after ≡ length out → 0 < length after
-    head-some n = omega (arith, some_out)
+    pub head_some : length after ≡ length out → 0 < length after
+    head_some n = omega (arith, some_out)
 
-    pub head_done : (head size : ℕ) → head ≡ headByte beyond → size ≡ 1 + ones head
-        → output (set after 0 head) size ≡ laidOver out 0 (head_of beyond)
-    unfolding laidOver head_of
+    pub head_done : (head size : ℕ) → head ≡ head_byte beyond → size ≡ 1 + ones head
+        → output (set after 0 head) size ≡ laid_over out 0 (head_of beyond)
+    unfolding laid_over head_of
     head_done head size hh hs =
-        let k : size ≡ 1 + length bytes = hs ∙ rw (hh, ones-head beyond) in
+        let k : size ≡ 1 + length bytes = hs ∙ rw (hh, ones_head beyond) in
         let n : 0 + suc (length bytes) ≡ size = omega arith in
-        rw (e, first-set out (bytes ++ drop (1 + length bytes) out) head some_out, ← k, n, hh)
+        rw (e, first_set out (bytes ++ drop (1 + length bytes) out) head some_out, ← k, n, hh)
 
 ---- filling it: the head, then the bodies
 
 module _ (f : List ℕ) (counts beyond : Vector) (out : List ℕ) (x : Fillable f counts beyond out) where
   abbrev ops : List ℕ
-  ops = concat (opsBeyond (logOf width f) counts)
+  ops = concat (ops_beyond (log_of width f) counts)
 
   long : length out ≡ length (head_of beyond) + length ops
-  unfolding bundleOf
-  long = x.size ∙ length-append (head_of (beyondCounts (logOf width f) counts)) ops ∙ rw (← x.is-beyond)
+  unfolding bundle_of
+  long = x.size ∙ length-append (head_of (beyond_counts (log_of width f) counts)) ops ∙ rw (← x.is_beyond_so)
 
-  pub fill-head : length (head_of beyond) ≤ length out
-  fill-head = omega (arith, long)
+  pub fill_head : length (head_of beyond) ≤ length out
+  fill_head = omega (arith, long)
 
-  module _ (headed : List ℕ) (size : ℕ) (e : output headed size ≡ laidOver out 0 (head_of beyond)) where
-    size-is-head : size ≡ length (head_of beyond)
-    unfolding laidOver
-    size-is-head = ap (λ (o : Output). o.behind) e ∙ omega arith
+  module _ (headed : List ℕ) (size : ℕ) (e : output headed size ≡ laid_over out 0 (head_of beyond)) where
+    size_is_head : size ≡ length (head_of beyond)
+    unfolding laid_over
+    size_is_head = ap (λ (o : Output). o.behind) e ∙ omega arith
 
-    headed-is : headed ≡ head_of beyond ++ drop size out
-    unfolding laidOver
-    headed-is =
-        let m : 0 + length (head_of beyond) ≡ size = omega (arith, size-is-head) in
+    headed_is : headed ≡ head_of beyond ++ drop size out
+    unfolding laid_over
+    headed_is =
+        let m : 0 + length (head_of beyond) ≡ size = omega (arith, size_is_head) in
         ap (λ (o : Output). o.bytes) e ∙ rw m
 
     pub fill_start : size ≤ length headed
-    fill_start = rw (headed-is, length-append, length-drop) (omega (arith, size-is-head))
+    fill_start = rw (headed_is, length-append, length-drop) (omega (arith, size_is_head))
 
     -- the part behind the head
-    rest-long : length (drop size headed) ≡ length ops
-    rest-long =
-        rw (headed-is, drop_at (head_of beyond) (drop size out) size (sym size-is-head), length-drop) (omega (arith, long, size-is-head))
+    rest_long : length (drop size headed) ≡ length ops
+    rest_long =
+        rw (headed_is, drop_at (head_of beyond) (drop size out) size (sym size_is_head), length-drop) (omega (arith, long, size_is_head))
 
     to_end : length headed - size ≡ length (drop size headed)
     to_end = rw length-drop
 
-    pub fill-bodies : WholeRoom f counts (take (length headed - size) (drop size headed))
-    fill-bodies = record {
-      is-sound = x.is-sound;
-      room = rw (to_end, take_all (length (drop size headed)) (drop size headed) (le_refl _)) (sym rest-long);
+    pub fill_bodies : WholeRoom f counts (take (length headed - size) (drop size headed))
+    fill_bodies = record {
+      is_sound_so = x.is_sound_so;
+      room = rw (to_end, take_all (length (drop size headed)) (drop size headed) (le_refl _)) (sym rest_long);
     }
 
     pub fill_done : (bodies : List ℕ) → bodies ≡ ops
-        → take size headed ++ (bodies ++ drop (length headed - size) (drop size headed)) ≡ bundleOf (logOf width f) counts
-    unfolding bundleOf
+        → take size headed ++ (bodies ++ drop (length headed - size) (drop size headed)) ≡ bundle_of (log_of width f) counts
+    unfolding bundle_of
     fill_done bodies b =
         let none : drop (length (drop size headed)) (drop size headed) ≡ [] =
         drop_of_length-le (drop size headed) {i = length (drop size headed)} (le_refl _) in
-        rw (to_end, none, append-nil, headed-is, take_at (head_of beyond) (drop size out) size (sym size-is-head), b, ← x.is-beyond)
+        rw (to_end, none, append-nil, headed_is, take_at (head_of beyond) (drop size out) size (sym size_is_head), b, ← x.is_beyond_so)
 
 ---- what the code of making needs: search making
 
-pub ruleset heads = (head-some, head-counts, head_done)
+pub ruleset heads = (head_some, head_counts, head_done)
 
-pub ruleset fills = (fill-head, fill_start, fill-bodies, fill_done)
+pub ruleset fills = (fill_head, fill_start, fill_bodies, fill_done)
 
-pub ruleset making = (rules, tested, size_is, make-unsound, make-short, make-fills, make-done, heads, fills)
+pub ruleset making = (rules, tested, size_is, make_unsound, make_short, make_fills, make_done, heads, fills)

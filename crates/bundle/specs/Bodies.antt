@@ -1,11 +1,11 @@
 -- What the functions that write a bundle's bodies ask and leave.
 use Rattle.std.specs.Prelude.{ℕ, ◌+◌, ◌≤◌, ◌<◌, cond, true, List, [], ◌++◌, map, ◌≡◌, ltb, drop, get_or, length, take}
 use Rattle.lists.specs.Lists.{concat, up_from}
-use Rattle.rules.specs.Bundle.{opsBeyond}
-use Rattle.rules.specs.File.{Log, logOf, width}
-use Rattle.rules.specs.Op.{Vector, countIn}
+use Rattle.rules.specs.Bundle.{ops_beyond}
+use Rattle.rules.specs.File.{Log, log_of, width}
+use Rattle.rules.specs.Op.{Vector, count_in}
 use Rattle.rules.specs.Sound.{sound}
-use Rattle.tree.specs.Slots.{InSlot, opIn, replicaIn, sequenceIn}
+use Rattle.tree.specs.Slots.{InSlot, op_in, replica_in, sequence_in}
 
 -- lent bytes, and the place behind those that are written
 pub record Output : Type 0 where
@@ -16,16 +16,16 @@ abbrev pub output : List ℕ → ℕ → Output
 output bytes n = record { bytes = bytes; behind = n }
 
 -- bytes laid over those from a place on
-unfoldable pub laidOver : (out : List ℕ) (at : ℕ) (bytes : List ℕ) → Output
-laidOver out at xs = output (take at out ++ (xs ++ drop (at + length xs) out)) (at + length xs)
+unfoldable pub laid_over : (out : List ℕ) (at : ℕ) (bytes : List ℕ) → Output
+laid_over out at xs = output (take at out ++ (xs ++ drop (at + length xs) out)) (at + length xs)
 
 -- the op of a slot, if it is beyond the counts
 unfoldable pub body_of : Log → Vector → ℕ → List ℕ
-body_of log v n = cond (ltb (countIn v (replicaIn n)) (sequenceIn n)) (opIn log n) []
+body_of log v n = cond (ltb (count_in v (replica_in n)) (sequence_in n)) (op_in log n) []
 
 -- those of the slots of a table from place i on, n of them
-unfoldable pub bodiesAlong : Log → Vector → (order : List ℕ) (i n : ℕ) → List ℕ
-bodiesAlong log v order i n = concat (map (λ k. body_of log v (get_or order k 0)) (up_from i n))
+unfoldable pub bodies_along : Log → Vector → (order : List ℕ) (i n : ℕ) → List ℕ
+bodies_along log v order i n = concat (map (λ k. body_of log v (get_or order k 0)) (up_from i n))
 
 -- the body at a place of the file, copied to a place of the lent bytes
 unfoldable pub copied : (f : List ℕ) (from : ℕ) (out : List ℕ) (at : ℕ) → List ℕ
@@ -38,14 +38,14 @@ pub record Copied (f : List ℕ) (from : ℕ) (out : List ℕ) (at : ℕ) : Type
   pub room : at + width ≤ length out
 
 pub record BodyRoom (f : List ℕ) (counts : Vector) (slot : ℕ) (out : List ℕ) (at : ℕ) : Type 0 where
-  pub in-slot : InSlot width f slot
-  pub room : at + length (body_of (logOf width f) counts slot) ≤ length out
+  pub in_slot : InSlot width f slot
+  pub room : at + length (body_of (log_of width f) counts slot) ≤ length out
 
 pub record BodiesRoom (f : List ℕ) (counts : Vector) (order : List ℕ) (n : ℕ) (out : List ℕ) : Type 0 where
   pub long : n ≤ length order
-  pub in-slots : (i : ℕ) → i < n → InSlot width f (get_or order i 0)
-  pub room : length (bodiesAlong (logOf width f) counts order 0 n) ≡ length out
+  pub in_slots : (i : ℕ) → i < n → InSlot width f (get_or order i 0)
+  pub room : length (bodies_along (log_of width f) counts order 0 n) ≡ length out
 
 pub record WholeRoom (f : List ℕ) (counts : Vector) (out : List ℕ) : Type 0 where
-  pub is-sound : sound width f ≡ true
-  pub room : length (concat (opsBeyond (logOf width f) counts)) ≡ length out
+  pub is_sound_so : sound width f ≡ true
+  pub room : length (concat (ops_beyond (log_of width f) counts)) ≡ length out

@@ -1,8 +1,8 @@
 ghost use Rattle.std.specs.Prelude.{◌≡◌};
 ghost use Rattle.lists.specs.Lists.{concat};
-ghost use Rattle.rules.specs.Bundle.{opsBeyond};
-ghost use Rattle.rules.specs.File.{logOf, width};
-ghost use Rattle.bundle.specs.Bodies.{Copied, copied, BodyRoom, BodiesRoom, WholeRoom, body_of, laidOver, output, bodiesAlong};
+ghost use Rattle.rules.specs.Bundle.{ops_beyond};
+ghost use Rattle.rules.specs.File.{log_of, width};
+ghost use Rattle.bundle.specs.Bodies.{Copied, copied, BodyRoom, BodiesRoom, WholeRoom, body_of, laid_over, output, bodies_along};
 
 use codec::{widen, widen16};
 use oplog::{counts_of, put_front};
@@ -25,7 +25,7 @@ fn copy_body(file: &[u8], from: usize, out: &mut [u8], at: usize)
 fn write_body(file: &[u8], counts: [u8; 8], slot: usize, out: &mut [u8], at: usize) -> usize
     requires { BodyRoom file.now counts slot out.old at }
     ensures { output out.new result
-        ≡ laidOver out.old at (body_of (logOf width file.now) counts slot) }
+        ≡ laid_over out.old at (body_of (log_of width file.now) counts slot) }
 {
     let s = slot_replica(slot);
     if slot_sequence(slot) <= widen(counts[s - 1]) {
@@ -40,7 +40,7 @@ fn write_body(file: &[u8], counts: [u8; 8], slot: usize, out: &mut [u8], at: usi
 fn write_along(file: &[u8], counts: [u8; 8], order: &[u16], n: usize, out: &mut [u8])
     requires { BodiesRoom file.now counts order.now n out.old }
     ensures { out.new
-        ≡ bodiesAlong (logOf width file.now) counts order.now 0 n }
+        ≡ bodies_along (log_of width file.now) counts order.now 0 n }
 {
     let mut at = 0;
     for i in 0..n {
@@ -52,7 +52,7 @@ fn write_along(file: &[u8], counts: [u8; 8], order: &[u16], n: usize, out: &mut 
 // Writes all ops beyond the other's counts in the order of replay.
 pub(crate) fn write_bodies(file: &[u8], counts: [u8; 8], out: &mut [u8])
     requires { WholeRoom file.now counts out.old }
-    ensures { out.new ≡ concat (opsBeyond (logOf width file.now) counts) }
+    ensures { out.new ≡ concat (ops_beyond (log_of width file.now) counts) }
 {
     let mut order = [0u16; OPS];
     let mut times = [0u16; OPS];

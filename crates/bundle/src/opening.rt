@@ -1,10 +1,10 @@
 ghost use Rattle.std.specs.Prelude.{◌≡◌, true, length, take};
-ghost use Rattle.rules.specs.Answer.{accepted, unlessRefused};
-ghost use Rattle.rules.specs.Bundle.{bodiesIn, openBundle};
-ghost use Rattle.rules.specs.File.{chunks, fileEnd, width};
+ghost use Rattle.rules.specs.Answer.{accepted, unless_refused};
+ghost use Rattle.rules.specs.Bundle.{bodies_in, open_bundle};
+ghost use Rattle.rules.specs.File.{chunks, file_end, width};
 ghost use Rattle.rules.specs.Sound.{sound};
 ghost use Rattle.codec.specs.Answers.{answer_of};
-ghost use Rattle.bundle.specs.Opening.{Openable, Bodies, Ended, Trial, Tried, reachOf, takeBody};
+ghost use Rattle.bundle.specs.Opening.{Openable, Bodies, Ended, Trial, Tried, reach_of, take_body};
 
 use bundle_head::{head_size, is_whole};
 use codec::{Answer, Read, Refusal, is_accepted, read_op};
@@ -16,7 +16,7 @@ use soundness::{LARGEST, WIDTH, is_sound};
 // already and is passed by.
 fn passed(file: &[u8], answer: Answer) -> Answer
     requires { sound width file.now ≡ true }
-    ensures { answer_of result ≡ unlessRefused (answer_of answer) (accepted (fileEnd width file.now)) }
+    ensures { answer_of result ≡ unless_refused (answer_of answer) (accepted (file_end width file.now)) }
 {
     let end = end_of(file, 8, WIDTH);
     match answer {
@@ -31,7 +31,7 @@ fn passed(file: &[u8], answer: Answer) -> Answer
 // Delivers a body to a sound log. A body that does not read ends the opening there.
 fn take_body(buf: &mut [u8], body: &[u8]) -> Answer
     requires { sound width buf.old ≡ true }
-    ensures { record { answer = answer_of result; buffer = buf.new } ≡ takeBody buf.old body.now }
+    ensures { record { answer = answer_of result; buffer = buf.new } ≡ take_body buf.old body.now }
 {
     let read = read_op(body, WIDTH);
     let Read::Op(fields) = read else {
@@ -62,7 +62,7 @@ fn take_bodies(buf: &mut [u8], bodies: &[u8], n: usize) -> Answer
 
 // As much of a buffer as the largest file can take.
 fn reach(len: usize) -> usize
-    ensures { result ≡ reachOf len }
+    ensures { result ≡ reach_of len }
 {
     if len <= LARGEST {
         return len;
@@ -73,7 +73,7 @@ fn reach(len: usize) -> usize
 // Delivers the bodies of a whole bundle in turn to a copy of a buffer's front.
 fn try_bodies(file: &[u8], bundle: &[u8], copy: &mut [u8]) -> Answer
     requires { Trial file.now bundle.now copy.old }
-    ensures { Tried (take (length copy.old) file.now) (bodiesIn width bundle.now) (answer_of result)
+    ensures { Tried (take (length copy.old) file.now) (bodies_in width bundle.now) (answer_of result)
         copy.new }
 {
     let size = head_size(bundle);
@@ -87,7 +87,7 @@ fn try_bodies(file: &[u8], bundle: &[u8], copy: &mut [u8]) -> Answer
 fn copy_back(buf: &mut [u8], bundle: &[u8], copy: &[u8], tried: Answer) -> Answer
     requires { Ended buf.old bundle.now copy.now (answer_of tried) }
     ensures { record { answer = answer_of result; buffer = buf.new }
-        ≡ openBundle width buf.old bundle.now }
+        ≡ open_bundle width buf.old bundle.now }
 {
     if !is_accepted(tried) {
         return tried;
@@ -100,7 +100,7 @@ fn copy_back(buf: &mut [u8], bundle: &[u8], copy: &[u8], tried: Answer) -> Answe
 fn open_in(buf: &mut [u8], bundle: &[u8], copy: &mut [u8]) -> Answer
     requires { Trial buf.old bundle.now copy.old }
     ensures { record { answer = answer_of result; buffer = buf.new }
-        ≡ openBundle width buf.old bundle.now }
+        ≡ open_bundle width buf.old bundle.now }
 {
     let answer = try_bodies(buf, bundle, copy);
     copy_back(buf, bundle, copy, answer)
@@ -110,7 +110,7 @@ fn open_in(buf: &mut [u8], bundle: &[u8], copy: &mut [u8]) -> Answer
 fn open_whole(buf: &mut [u8], bundle: &[u8]) -> Answer
     requires { Openable buf.old bundle.now }
     ensures { record { answer = answer_of result; buffer = buf.new }
-        ≡ openBundle width buf.old bundle.now }
+        ≡ open_bundle width buf.old bundle.now }
 {
     let len = reach(buf.len());
     let mut copy = [0u8; LARGEST];
@@ -121,7 +121,7 @@ fn open_whole(buf: &mut [u8], bundle: &[u8]) -> Answer
 // nothing changes.
 pub fn open(buf: &mut [u8], bundle: &[u8]) -> Answer
     ensures { record { answer = answer_of result; buffer = buf.new }
-        ≡ openBundle width buf.old bundle.now }
+        ≡ open_bundle width buf.old bundle.now }
 {
     if !is_sound(buf) {
         return Answer::Refused(Refusal::Unsound);

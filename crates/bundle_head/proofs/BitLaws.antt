@@ -11,15 +11,15 @@ use mir.Val.{Fits}
 use native.Mathlib.Nat.{div-div-eq-div-mul, pow-suc, pow-succ', not-suc-le-zero, le_of_suc-le-suc}
 use native.Mathlib.Omega.{arith}
 use Rattle.lists.specs.Lists.{filter}
-use Rattle.lists.proofs.NumberLaws.{lowest-bit, above-bit}
-use Rattle.rules.proofs.BundleLaws.{some-eqb, some-ltb}
-use Rattle.rules.specs.Bundle.{countsRead, headByte}
+use Rattle.lists.proofs.NumberLaws.{lowest_bit, above_bit}
+use Rattle.rules.proofs.BundleLaws.{some_eqb, some_ltb}
+use Rattle.rules.specs.Bundle.{counts_read, head_byte}
 use Rattle.rules.specs.Bytes.{byte}
 use Rattle.rules.specs.Op.{Vector}
 
 -- halving once more
-half-above : (h z : ℕ) → h / 2 ^ suc z ≡ h / 2 / 2 ^ z
-half-above h z = ap (λ (x : ℕ). h / x) (pow-succ' 2 z) ∙ sym (div-div-eq-div-mul h 2 (2 ^ z))
+half_above : (h z : ℕ) → h / 2 ^ suc z ≡ h / 2 / 2 ^ z
+half_above h z = ap (λ (x : ℕ). h / x) (pow-succ' 2 z) ∙ sym (div-div-eq-div-mul h 2 (2 ^ z))
 
 ---- reading: bit z is the lowest that is set of k bits
 
@@ -28,24 +28,24 @@ pub record LowestSet (k h z : ℕ) : Type 0 where
   pub above : h / 2 ^ suc z < 2 ^ (k - suc z)
   pub counted : ones h ≡ suc (ones (h / 2 ^ suc z))
   -- nothing for the replicas below it, the next count byte for its replica
-  pub read : (bs : List ℕ) → countsRead k h bs ≡ replicate z 0 ++ (byte bs 0 ∷ countsRead (k - suc z) (h / 2 ^ suc z) (drop 1 bs))
+  pub read : (bs : List ℕ) → counts_read k h bs ≡ replicate z 0 ++ (byte bs 0 ∷ counts_read (k - suc z) (h / 2 ^ suc z) (drop 1 bs))
 
-none-set : (k h : ℕ) → k ≡ 0 → h < 2 ^ k → h ≡ 0
-none-set k h e l = let z : h < 1 = rw e at l in omega arith
+none_set : (k h : ℕ) → k ≡ 0 → h < 2 ^ k → h ≡ 0
+none_set k h e l = let z : h < 1 = rw e at l in omega arith
 
 -- one bit read
-even-read : (k h : ℕ) (bs : List ℕ) → h % 2 ≡ 0 → countsRead (suc k) h bs ≡ 0 ∷ countsRead k (h / 2) bs
-unfolding countsRead
-even-read k h bs e = rw e
+even_read : (k h : ℕ) (bs : List ℕ) → h % 2 ≡ 0 → counts_read (suc k) h bs ≡ 0 ∷ counts_read k (h / 2) bs
+unfolding counts_read
+even_read k h bs e = rw e
 
-odd-read : (k h : ℕ) (bs : List ℕ) → h % 2 ≡ 1 → countsRead (suc k) h bs ≡ byte bs 0 ∷ countsRead k (h / 2) (drop 1 bs)
-unfolding countsRead
-odd-read k h bs e = rw e
+odd_read : (k h : ℕ) (bs : List ℕ) → h % 2 ≡ 1 → counts_read (suc k) h bs ≡ byte bs 0 ∷ counts_read k (h / 2) (drop 1 bs)
+unfolding counts_read
+odd_read k h bs e = rw e
 
 pub lowest_set : (most k h : ℕ) → k ≤ most → h < 2 ^ k → (h ≡ 0 → ⊥) → LowestSet k h (count_trailing_zeros most h)
 unfolding count_trailing_zeros
-lowest_set zero k h m l nz = absurd (nz (none-set k h (omega arith) l))
-lowest_set (suc most) zero h m l nz = absurd (nz (none-set 0 h refl l))
+lowest_set zero k h m l nz = absurd (nz (none_set k h (omega arith) l))
+lowest_set (suc most) zero h m l nz = absurd (nz (none_set 0 h refl l))
 lowest_set (suc most) (suc k) h m l nz = go (h % 2) refl (lowest_set most k (h / 2) (le_of_suc-le-suc m) half)
   where
     half : h / 2 < 2 ^ k
@@ -56,22 +56,22 @@ lowest_set (suc most) (suc k) h m l nz = go (h % 2) refl (lowest_set most k (h /
     go zero e ih =
         let x = ih (λ z. nz (omega arith)) in
         let t : ℕ = count_trailing_zeros most (h / 2) in
-        let up : h / 2 ^ suc (suc t) ≡ h / 2 / 2 ^ suc t = half-above h (suc t) in
+        let up : h / 2 ^ suc (suc t) ≡ h / 2 / 2 ^ suc t = half_above h (suc t) in
         let less : suc k - suc (suc t) ≡ k - suc t = omega arith in
         record {
           low = omega (arith, x.low);
           above = rw (up, less) x.above;
           counted = ones_step h ∙ rw (e, up) (omega (arith, x.counted));
-          read = λ bs. even-read k h bs e ∙ rw (up, less, x.read bs);
+          read = λ bs. even_read k h bs e ∙ rw (up, less, x.read bs);
         }
     go (suc d) e ih =
-        let up : h / 2 ^ 1 ≡ h / 2 = half-above h 0 ∙ omega arith in
+        let up : h / 2 ^ 1 ≡ h / 2 = half_above h 0 ∙ omega arith in
         let less : suc k - 1 ≡ k = omega arith in
         record {
           low = omega arith;
           above = rw (up, less) half;
           counted = ones_step h ∙ rw up (omega arith);
-          read = λ bs. odd-read k h bs (omega arith) ∙ rw (up, less);
+          read = λ bs. odd_read k h bs (omega arith) ∙ rw (up, less);
         }
 
 ---- writing: the first count that is not 0
@@ -79,50 +79,50 @@ lowest_set (suc most) (suc k) h m l nz = go (h % 2) refl (lowest_set most k (h /
 pub record FirstCount (ns : Vector) (z : ℕ) : Type 0 where
   pub low : z < length ns
   pub first : filter (ltb 0) ns ≡ get_or ns z 0 ∷ filter (ltb 0) (drop (suc z) ns)
-  pub above : headByte ns / 2 ^ suc z ≡ headByte (drop (suc z) ns)
+  pub above : head_byte ns / 2 ^ suc z ≡ head_byte (drop (suc z) ns)
 
-pub first_count : (most : ℕ) (ns : Vector) → length ns ≤ most → (headByte ns ≡ 0 → ⊥) → FirstCount ns (count_trailing_zeros most (headByte ns))
-unfolding count_trailing_zeros headByte filter
+pub first_count : (most : ℕ) (ns : Vector) → length ns ≤ most → (head_byte ns ≡ 0 → ⊥) → FirstCount ns (count_trailing_zeros most (head_byte ns))
+unfolding count_trailing_zeros head_byte filter
 first_count most [] m nz = absurd (nz refl)
 first_count zero (n ∷ ns) m nz = absurd (not-suc-le-zero m)
 first_count (suc most) (zero ∷ ns) m nz =
-    let bit = lowest-bit 0 (headByte ns) (lit< tt) in
-    let up = above-bit 0 (headByte ns) (lit< tt) in
+    let bit = lowest_bit 0 (head_byte ns) (lit< tt) in
+    let up = above_bit 0 (head_byte ns) (lit< tt) in
     let x = first_count most ns (le_of_suc-le-suc m) (λ z. nz (rw z)) in
     rw (bit, up) (record {
       low = omega (arith, x.low);
       first = x.first;
-      above = half-above (0 + 2 * headByte ns) (suc (count_trailing_zeros most (headByte ns))) ∙ rw up x.above;
+      above = half_above (0 + 2 * head_byte ns) (suc (count_trailing_zeros most (head_byte ns))) ∙ rw up x.above;
     })
 first_count (suc most) (suc n ∷ ns) m nz =
-    let bit = lowest-bit 1 (headByte ns) (lit< tt) in
-    let up = above-bit 1 (headByte ns) (lit< tt) in
-    rw (some-eqb n, bit) (record {
+    let bit = lowest_bit 1 (head_byte ns) (lit< tt) in
+    let up = above_bit 1 (head_byte ns) (lit< tt) in
+    rw (some_eqb n, bit) (record {
       low = omega arith;
-      first = rw (some-ltb n);
-      above = rw (some-eqb n) (half-above (1 + 2 * headByte ns) 0 ∙ rw up (omega arith));
+      first = rw (some_ltb n);
+      above = rw (some_eqb n) (half_above (1 + 2 * head_byte ns) 0 ∙ rw up (omega arith));
     })
 
-pub no-count : (ns : Vector) → headByte ns ≡ 0 → filter (ltb 0) ns ≡ []
-unfolding headByte filter
-no-count [] e = refl
-no-count (zero ∷ ns) e = no-count ns (omega arith)
-no-count (suc n ∷ ns) e = let z : 1 + 2 * headByte ns ≡ 0 = rw (some-eqb n) at e in absurd (omega arith)
+pub no_count : (ns : Vector) → head_byte ns ≡ 0 → filter (ltb 0) ns ≡ []
+unfolding head_byte filter
+no_count [] e = refl
+no_count (zero ∷ ns) e = no_count ns (omega arith)
+no_count (suc n ∷ ns) e = let z : 1 + 2 * head_byte ns ≡ 0 = rw (some_eqb n) at e in absurd (omega arith)
 
 ---- a byte
 
 module _ (n : ℕ) where
-  pub ones-few : n < 256 → ones n ≤ 8
-  ones-few l = ones-le 8 n l
+  pub ones_few : n < 256 → ones n ≤ 8
+  ones_few l = ones-le 8 n l
 
-  pub ones-fits : n < 256 → Fits w64 (ones n)
-  ones-fits l = Fits-under w64 (ones n) 9 (omega (arith, ones-few l)) tt
+  pub ones_fits : n < 256 → Fits w64 (ones n)
+  ones_fits l = Fits-under w64 (ones n) 9 (omega (arith, ones_few l)) tt
 
-  pub zeros-few : count_trailing_zeros 8 n ≤ 8
-  zeros-few = trailing_le 8 n
+  pub zeros_few : count_trailing_zeros 8 n ≤ 8
+  zeros_few = trailing_le 8 n
 
-  pub zeros-fit : Fits w64 (count_trailing_zeros 8 n)
-  zeros-fit = Fits-under w64 (count_trailing_zeros 8 n) 9 (omega (arith, zeros-few)) tt
+  pub zeros_fit : Fits w64 (count_trailing_zeros 8 n)
+  zeros_fit = Fits-under w64 (count_trailing_zeros 8 n) 9 (omega (arith, zeros_few)) tt
 
-  pub bits-above-are : n / 2 ^ count_trailing_zeros 8 n / 2 ≡ n / 2 ^ suc (count_trailing_zeros 8 n)
-  bits-above-are = div-div-eq-div-mul n (2 ^ count_trailing_zeros 8 n) 2 ∙ ap (λ (x : ℕ). n / x) (sym (pow-suc 2 (count_trailing_zeros 8 n)))
+  pub bits_above_are : n / 2 ^ count_trailing_zeros 8 n / 2 ≡ n / 2 ^ suc (count_trailing_zeros 8 n)
+  bits_above_are = div-div-eq-div-mul n (2 ^ count_trailing_zeros 8 n) 2 ∙ ap (λ (x : ℕ). n / x) (sym (pow-suc 2 (count_trailing_zeros 8 n)))

@@ -11,27 +11,27 @@ use mathlib.Core.Path.{◌≡◌, refl, sym, ap, ◌∙◌}
 use native.Mathlib.Numerals.{add-one}
 use native.Mathlib.Omega.{arith}
 use Rattle.lists.specs.Lists.{filter, sum, up_from}
-use Rattle.lists.proofs.ListLaws.{drop-replicate, stores, stores-are, sum-suc, take-replicate}
-use Rattle.rules.specs.Bundle.{countsRead, headByte, headCounts, headSize}
+use Rattle.lists.proofs.ListLaws.{drop_replicate, stores, stores_are, sum_suc, take_replicate}
+use Rattle.rules.specs.Bundle.{counts_read, head_byte, head_counts, head_size}
 use Rattle.rules.specs.Bytes.{byte}
-use Rattle.rules.specs.Op.{Vector, countIn, replicas}
+use Rattle.rules.specs.Op.{Vector, count_in, replicas}
 use Rattle.rules.proofs.BundleLaws.{reads_none}
-use Rattle.rules.proofs.FileLaws.{vector-eta}
-use Rattle.vector.proofs.VectorLaws.{Built, build-none, build-more, build-all, count_of}
-use Rattle.bundle_head.specs.Head.{HeadRoom, WholeHead, beyondAt, beyondOf, bit_of}
-use Rattle.bundle_head.proofs.BitLaws.{FirstCount, LowestSet, first_count, lowest_set, no-count}
+use Rattle.rules.proofs.FileLaws.{vector_eta}
+use Rattle.vector.proofs.VectorLaws.{Built, build_none, build_more, build_all, count_of}
+use Rattle.bundle_head.specs.Head.{HeadRoom, WholeHead, beyond_at, beyond_of, bit_of}
+use Rattle.bundle_head.proofs.BitLaws.{FirstCount, LowestSet, first_count, lowest_set, no_count}
 
 ---- counts
 
 module _ (held counts v : Vector) where
-  pub beyond-more : (i x : ℕ) → Built (beyondAt held counts) v i → i < 8 → x ≡ get_or held i 0 - get_or counts i 0
-      → Built (beyondAt held counts) (set v i x) (i + 1)
-  unfolding beyondAt
-  beyond-more i x b h e = build-more (beyondAt held counts) v i x b h (e ∙ rw (count_of held, count_of counts))
+  pub beyond_more : (i x : ℕ) → Built (beyond_at held counts) v i → i < 8 → x ≡ get_or held i 0 - get_or counts i 0
+      → Built (beyond_at held counts) (set v i x) (i + 1)
+  unfolding beyond_at
+  beyond_more i x b h e = build_more (beyond_at held counts) v i x b h (e ∙ rw (count_of held, count_of counts))
 
-  pub beyond-all : (i : ℕ) → Built (beyondAt held counts) v i → 8 ≤ i → v ≡ beyondOf held counts
-  unfolding beyondOf
-  beyond-all i b h = build-all (beyondAt held counts) v i b h
+  pub beyond_all : (i : ℕ) → Built (beyond_at held counts) v i → 8 ≤ i → v ≡ beyond_of held counts
+  unfolding beyond_of
+  beyond_all i b h = build_all (beyond_at held counts) v i b h
 
 -- the first i counts are summed up
 pub record Summed (counts : Vector) (n i : ℕ) : Type 0 where
@@ -40,93 +40,93 @@ pub record Summed (counts : Vector) (n i : ℕ) : Type 0 where
   pub few : n ≤ 255 * i
 
 module _ (counts : Vector) where
-  pub sum-none : Summed counts 0 0
+  pub sum_none : Summed counts 0 0
   unfolding sum
-  sum-none = record { made = omega arith; part = refl; few = omega arith }
+  sum_none = record { made = omega arith; part = refl; few = omega arith }
 
   module _ (n i : ℕ) (x : Summed counts n i) where
     pub sum_more : length counts ≡ 8 → i < 8 → (k : ℕ) → k ≡ get_or counts i 0 → k ≤ 255 → Summed counts (n + k) (i + 1)
     sum_more e h k is small = record {
       made = omega arith;
-      part = rw (add-one i, sum-suc counts i (omega arith), ← x.part, is);
+      part = rw (add-one i, sum_suc counts i (omega arith), ← x.part, is);
       few = omega (arith, x.few);
     }
 
     pub sum_fits : i < 8 → (k : ℕ) → k ≤ 255 → n + k ≤ 2040
     sum_fits h k small = omega (arith, x.few)
 
-    pub sum-all : length counts ≡ 8 → 8 ≤ i → (n ≡ sum counts) × (n ≤ 2040)
-    sum-all e h =
+    pub sum_all : length counts ≡ 8 → 8 ≤ i → (n ≡ sum counts) × (n ≤ 2040)
+    sum_all e h =
         let eight : i ≡ 8 = omega (arith, x.made) in
         (x.part ∙ rw (eight, take_all 8 counts (omega arith)), omega (arith, x.few))
 
 ---- the first byte
 
 module _ (n : ℕ) where
-  pub bit-none : n ≡ 0 → (0 ≡ bit_of n) × (0 ≤ 1)
+  pub bit_none : n ≡ 0 → (0 ≡ bit_of n) × (0 ≤ 1)
   unfolding bit_of
-  bit-none e = (rw (eq-eqb n 0 e), omega arith)
+  bit_none e = (rw (eq-eqb n 0 e), omega arith)
 
-  pub bit-set : (n ≡ 0 → ⊥) → (1 ≡ bit_of n) × (1 ≤ 1)
+  pub bit_set : (n ≡ 0 → ⊥) → (1 ≡ bit_of n) × (1 ≤ 1)
   unfolding bit_of
-  bit-set e = (rw (ne_eqb n 0 e), omega arith)
+  bit_set e = (rw (ne_eqb n 0 e), omega arith)
 
 abbrev IsBit : ℕ → ℕ → Type 0
 IsBit b n = (b ≡ bit_of n) × (b ≤ 1)
 
 pub four_are : (a b c d p q r s : ℕ) → IsBit p a → IsBit q b → IsBit r c → IsBit s d
-    → (p + 2 * (q + 2 * (r + 2 * s)) ≡ headByte (a ∷ b ∷ c ∷ d ∷ [])) × (p + 2 * (q + 2 * (r + 2 * s)) ≤ 15)
-unfolding headByte bit_of
+    → (p + 2 * (q + 2 * (r + 2 * s)) ≡ head_byte (a ∷ b ∷ c ∷ d ∷ [])) × (p + 2 * (q + 2 * (r + 2 * s)) ≤ 15)
+unfolding head_byte bit_of
 four_are a b c d p q r s x y z u =
     (rw (x.0, y.0, z.0, u.0) (omega arith), omega (arith, x.1, y.1, z.1, u.1))
 
 pub eight_are : (v : Vector) → length v ≡ 8 → (l h : ℕ)
-    → l ≡ headByte (get_or v 0 0 ∷ get_or v 1 0 ∷ get_or v 2 0 ∷ get_or v 3 0 ∷ [])
-    → h ≡ headByte (get_or v 4 0 ∷ get_or v 5 0 ∷ get_or v 6 0 ∷ get_or v 7 0 ∷ []) → l + 16 * h ≡ headByte v
-unfolding headByte replicas up_from countIn
-eight_are v e l h hl hh = rw (hl, hh) (omega arith) ∙ ap headByte (vector-eta v e)
+    → l ≡ head_byte (get_or v 0 0 ∷ get_or v 1 0 ∷ get_or v 2 0 ∷ get_or v 3 0 ∷ [])
+    → h ≡ head_byte (get_or v 4 0 ∷ get_or v 5 0 ∷ get_or v 6 0 ∷ get_or v 7 0 ∷ []) → l + 16 * h ≡ head_byte v
+unfolding head_byte replicas up_from count_in
+eight_are v e l h hl hh = rw (hl, hh) (omega arith) ∙ ap head_byte (vector_eta v e)
 
 ---- writing the counts that are not 0: those before index are written before at
 
 pub record PutAt (counts out₀ out : List ℕ) (bits index at : ℕ) : Type 0 where
   pub made : index ≤ 8
   pub eight : length counts ≡ 8
-  pub is-bits : bits ≡ headByte (drop index counts)
+  pub is_bits : bits ≡ head_byte (drop index counts)
   pub left : stores out₀ 1 (filter (ltb 0) counts) ≡ stores out at (filter (ltb 0) (drop index counts))
   pub room : at + length (filter (ltb 0) (drop index counts)) ≤ length out
   pub size : length out ≡ length out₀
 
-pub put-starts : (counts : Vector) → length counts ≡ 8 → (out : List ℕ) (head : ℕ) → HeadRoom out head counts
+pub put_starts : (counts : Vector) → length counts ≡ 8 → (out : List ℕ) (head : ℕ) → HeadRoom out head counts
     → PutAt counts out out head 0 1
-put-starts counts e out head x = record {
+put_starts counts e out head x = record {
   made = omega arith;
   eight = e;
-  is-bits = x.is-head;
+  is_bits = x.is_head;
   left = refl;
   room = omega (arith, x.room);
   size = refl;
 }
 
 module _ (counts out₀ out : List ℕ) (bits index at : ℕ) (x : PutAt counts out₀ out bits index at) where
-  left-long : length (drop index counts) ≡ 8 - index
-  left-long = rw length-drop (omega (arith, x.eight))
+  left_long : length (drop index counts) ≡ 8 - index
+  left_long = rw length-drop (omega (arith, x.eight))
 
   module _ (nz : bits ≡ 0 → ⊥) where
     first : FirstCount (drop index counts) (count_trailing_zeros 8 bits)
-    first = rw x.is-bits (first_count 8 (drop index counts) (omega (arith, left-long)) (λ z. nz (x.is-bits ∙ z)))
+    first = rw x.is_bits (first_count 8 (drop index counts) (omega (arith, left_long)) (λ z. nz (x.is_bits ∙ z)))
 
-    pub put-below : count_trailing_zeros 8 bits < 8
-    put-below = omega (arith, first.low, left-long)
+    pub put_below : count_trailing_zeros 8 bits < 8
+    put_below = omega (arith, first.low, left_long)
 
-    pub put-place : at < length out
-    put-place = let n = ap length first.first in omega (arith, x.room)
+    pub put_place : at < length out
+    put_place = let n = ap length first.first in omega (arith, x.room)
 
     module _ (z next : ℕ) (hz : z ≡ count_trailing_zeros 8 bits) (hn : next ≡ index + z) where
-      pub put-index : next < 8
-      put-index = omega (arith, first.low, left-long)
+      pub put_index : next < 8
+      put_index = omega (arith, first.low, left_long)
 
-      pub put-less : 8 - (next + 1) < 8 - index
-      put-less = omega (arith, put-index)
+      pub put_less : 8 - (next + 1) < 8 - index
+      put_less = omega (arith, put_index)
 
       behind : drop (suc (count_trailing_zeros 8 bits)) (drop index counts) ≡ drop (next + 1) counts
       behind =
@@ -144,20 +144,20 @@ module _ (counts out₀ out : List ℕ) (bits index at : ℕ) (x : PutAt counts 
       put_on above is =
           let n = ap length counted in
           record {
-            made = omega (arith, put-index);
+            made = omega (arith, put_index);
             eight = x.eight;
-            is-bits = is ∙ ap (λ (n : ℕ). n / 2 ^ suc (count_trailing_zeros 8 bits)) x.is-bits ∙ first.above ∙ ap headByte behind;
+            is_bits = is ∙ ap (λ (n : ℕ). n / 2 ^ suc (count_trailing_zeros 8 bits)) x.is_bits ∙ first.above ∙ ap head_byte behind;
             left = x.left ∙ rw counted;
             room = omega (arith, x.room, length-set out at (get_or counts next 0));
             size = length-set out at (get_or counts next 0) ∙ x.size;
           }
 
-  pub put-ends : 1 + length (filter (ltb 0) counts) ≤ length out₀ → bits ≡ 0
+  pub put_ends : 1 + length (filter (ltb 0) counts) ≤ length out₀ → bits ≡ 0
       → out ≡ take 1 out₀ ++ (filter (ltb 0) counts ++ drop (1 + length (filter (ltb 0) counts)) out₀)
   unfolding stores
-  put-ends enough e =
-      let none : filter (ltb 0) (drop index counts) ≡ [] = no-count (drop index counts) (sym x.is-bits ∙ e) in
-      sym (x.left ∙ rw none) ∙ stores-are (filter (ltb 0) counts) out₀ 1 enough
+  put_ends enough e =
+      let none : filter (ltb 0) (drop index counts) ≡ [] = no_count (drop index counts) (sym x.is_bits ∙ e) in
+      sym (x.left ∙ rw none) ∙ stores_are (filter (ltb 0) counts) out₀ 1 enough
 
 ---- reading the counts: those before index are read, off the bytes before at
 
@@ -165,24 +165,24 @@ pub record ReadAt (b counts : List ℕ) (bits index at : ℕ) : Type 0 where
   pub made : index ≤ 8
   pub eight : length counts ≡ 8
   pub small : bits < 2 ^ (8 - index)
-  pub left : headCounts b ≡ take index counts ++ countsRead (8 - index) bits (drop at b)
+  pub left : head_counts b ≡ take index counts ++ counts_read (8 - index) bits (drop at b)
   pub unread : drop index counts ≡ replicate (8 - index) 0
   pub room : at + ones bits ≤ length b
 
-pub read-starts : (b : List ℕ) (h : ℕ) → WholeHead b h → h < 256 → ReadAt b (replicate 8 0) h 0 1
-unfolding headCounts headSize
-read-starts b h x small = record {
+pub read_starts : (b : List ℕ) (h : ℕ) → WholeHead b h → h < 256 → ReadAt b (replicate 8 0) h 0 1
+unfolding head_counts head_size
+read_starts b h x small = record {
   made = omega arith;
   eight = refl;
   small = small;
-  left = rw x.is-head;
+  left = rw x.is_head;
   unread = refl;
-  room = rw x.is-head (omega (arith, x.whole));
+  room = rw x.is_head (omega (arith, x.whole));
 }
 
 module _ (b counts : List ℕ) (bits index at : ℕ) (x : ReadAt b counts bits index at) where
-  pub read-ends : bits ≡ 0 → counts ≡ headCounts b
-  read-ends e =
+  pub read_ends : bits ≡ 0 → counts ≡ head_counts b
+  read_ends e =
       sym (x.left ∙ rw (e, reads_none (8 - index) (drop at b), ← x.unread) (take-append-drop index counts))
 
   module _ (nz : bits ≡ 0 → ⊥) where
@@ -192,19 +192,19 @@ module _ (b counts : List ℕ) (bits index at : ℕ) (x : ReadAt b counts bits i
     pub read_below : count_trailing_zeros 8 bits < 8
     read_below = omega (arith, lowest.low)
 
-    pub read-place : at < length b
-    read-place = omega (arith, lowest.counted, x.room)
+    pub read_place : at < length b
+    read_place = omega (arith, lowest.counted, x.room)
 
     module _ (z next : ℕ) (hz : z ≡ count_trailing_zeros 8 bits) (hn : next ≡ index + z) where
-      pub read-index : next < 8
-      read-index = omega (arith, lowest.low)
+      pub read_index : next < 8
+      read_index = omega (arith, lowest.low)
 
-      pub read-less : 8 - (next + 1) < 8 - index
-      read-less = omega (arith, read-index)
+      pub read_less : 8 - (next + 1) < 8 - index
+      read_less = omega (arith, read_index)
 
-      pub read-on : (above : ℕ) → above ≡ bits / 2 ^ suc (count_trailing_zeros 8 bits)
+      pub read_on : (above : ℕ) → above ≡ bits / 2 ^ suc (count_trailing_zeros 8 bits)
           → ReadAt b (set counts next (get_or b at 0)) above (next + 1) (at + 1)
-      read-on above is =
+      read_on above is =
           let k : 8 - index - suc (count_trailing_zeros 8 bits) ≡ 8 - (next + 1) = omega arith in
           let v : ℕ = get_or b at 0 in
           let zeros : take next counts ≡ take index counts ++ replicate (count_trailing_zeros 8 bits) 0 =
@@ -213,14 +213,14 @@ module _ (b counts : List ℕ) (bits index at : ℕ) (x : ReadAt b counts bits i
             hz,
             take-add index (count_trailing_zeros 8 bits) counts,
             x.unread,
-            take-replicate 0 (count_trailing_zeros 8 bits) (8 - index) (omega (arith, lowest.low)),
+            take_replicate 0 (count_trailing_zeros 8 bits) (8 - index) (omega (arith, lowest.low)),
           ) in
           let one : byte (drop at b) 0 ≡ v = let e : at + 0 ≡ at = omega arith in get_or-drop at b 0 0 ∙ rw e in
           let rest : drop (next + 1) counts ≡ drop (suc (count_trailing_zeros 8 bits)) (drop index counts) =
           let e : index + suc (count_trailing_zeros 8 bits) ≡ next + 1 = omega arith in
           sym (drop-drop (suc (count_trailing_zeros 8 bits)) index counts ∙ rw e) in
           record {
-            made = omega (arith, read-index);
+            made = omega (arith, read_index);
             eight = length-set counts next v ∙ x.eight;
             small = rw (is, ← k) lowest.above;
             left =
@@ -233,23 +233,23 @@ module _ (b counts : List ℕ) (bits index at : ℕ) (x : ReadAt b counts bits i
                   ← is,
                   add-one next,
                   take-suc-set counts next v
-                      (omega (arith, x.eight, read-index)),
+                      (omega (arith, x.eight, read_index)),
                   zeros,
                   append_assoc,
                   append_assoc,
                 );
             unread =
                 drop-set-lt (next + 1) counts next v (omega arith)
-                ∙ rw (rest, x.unread, drop-replicate 0 (suc (count_trailing_zeros 8 bits)) (8 - index), k);
+                ∙ rw (rest, x.unread, drop_replicate 0 (suc (count_trailing_zeros 8 bits)) (8 - index), k);
             room = rw is (omega (arith, lowest.counted, x.room));
           }
 
 ---- what the code of a head needs: search heading
 
-pub ruleset summing = (build-none, beyond-more, beyond-all, sum-none, sum_more, sum_fits)
+pub ruleset summing = (build_none, beyond_more, beyond_all, sum_none, sum_more, sum_fits)
 
-pub ruleset putting = (put-starts, put-less, put-below, put-index, put-place, put_on, put-ends)
+pub ruleset putting = (put_starts, put_less, put_below, put_index, put_place, put_on, put_ends)
 
-pub ruleset reading = (read-starts, read-less, read_below, read-index, read-place, read-on, read-ends)
+pub ruleset reading = (read_starts, read_less, read_below, read_index, read_place, read_on, read_ends)
 
 pub ruleset heading = (rules, summing, eight_are, putting, reading)

@@ -1,7 +1,7 @@
 ghost use Rattle.std.specs.Prelude.{◌∷◌, [], ◌++◌, ◌≡◌, ◌+◌, ◌-◌, ◌≤◌, ltb, length, take, drop};
 ghost use Rattle.lists.specs.Lists.{sum, filter};
-ghost use Rattle.rules.specs.Bundle.{headByte, headCounts};
-ghost use Rattle.bundle_head.specs.Head.{HeadRoom, WholeHead, beyondOf, bit_of};
+ghost use Rattle.rules.specs.Bundle.{head_byte, head_counts};
+ghost use Rattle.bundle_head.specs.Head.{HeadRoom, WholeHead, beyond_of, bit_of};
 
 use crate::bits::{bits_above, zeros_below};
 use codec::widen;
@@ -18,7 +18,7 @@ fn beyond_one(held: u8, count: u8) -> u8
 
 // How many ops of each replica are beyond the other's counts.
 pub fn beyond_counts(held: [u8; 8], counts: [u8; 8]) -> [u8; 8]
-    ensures { result ≡ beyondOf held counts }
+    ensures { result ≡ beyond_of held counts }
 {
     let mut beyond = [0u8; 8];
     for i in 0..8 {
@@ -50,14 +50,14 @@ fn bit_of(count: u8) -> u8
 
 // The bits of four replicas, the first lowest.
 fn four_bits(a: u8, b: u8, c: u8, d: u8) -> u8
-    ensures { (result ≡ headByte (a ∷ b ∷ c ∷ d ∷ [])) × (result ≤ 15) }
+    ensures { (result ≡ head_byte (a ∷ b ∷ c ∷ d ∷ [])) × (result ≤ 15) }
 {
     bit_of(a) + 2 * (bit_of(b) + 2 * (bit_of(c) + 2 * bit_of(d)))
 }
 
 // The first byte of a head: a bit for each replica.
 pub fn head_byte(counts: [u8; 8]) -> u8
-    ensures { result ≡ headByte counts }
+    ensures { result ≡ head_byte counts }
 {
     let low = four_bits(counts[0], counts[1], counts[2], counts[3]);
     let high = four_bits(counts[4], counts[5], counts[6], counts[7]);
@@ -85,7 +85,7 @@ pub fn put_counts(out: &mut [u8], head: u8, counts: [u8; 8])
 // The counts that a head gives: the next count byte for each bit that is set, else 0.
 pub fn head_counts(bundle: &[u8], head: u8) -> [u8; 8]
     requires { WholeHead bundle.now head }
-    ensures { result ≡ headCounts bundle.now }
+    ensures { result ≡ head_counts bundle.now }
 {
     let mut counts = [0u8; 8];
     let mut bits = head;

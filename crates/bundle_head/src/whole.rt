@@ -1,8 +1,8 @@
 ghost use Rattle.std.specs.Prelude.{◌≡◌, ◌+◌, ◌*◌, ◌≤◌, ltb, length, drop};
 ghost use Rattle.lists.specs.Lists.{all};
-ghost use Rattle.rules.specs.Bundle.{headSize, opsBy, wholeBundle};
+ghost use Rattle.rules.specs.Bundle.{head_size, ops_by, whole_bundle};
 ghost use Rattle.rules.specs.File.{chunks, width};
-ghost use Rattle.bundle_head.specs.Head.{BodiesOf, HeadEnd, agrees, agreesAt, filled, isBy};
+ghost use Rattle.bundle_head.specs.Head.{BodiesOf, HeadEnd, agrees, agrees_at, filled, is_by};
 
 use crate::bits::head_bytes;
 use crate::head::{head_counts, total};
@@ -12,7 +12,7 @@ use soundness::WIDTH;
 // How many bytes the head has.
 pub fn head_size(bundle: &[u8]) -> usize
     requires { 1 ≤ length bundle.now }
-    ensures { (result ≡ headSize bundle.now) × (1 ≤ result) × (result ≤ 9) }
+    ensures { (result ≡ head_size bundle.now) × (1 ≤ result) × (result ≤ 9) }
 {
     head_bytes(bundle[0])
 }
@@ -32,7 +32,7 @@ fn none_zero(counts: &[u8]) -> bool
 // 1 if the body at a place is of a replica, else 0.
 fn by_one(bodies: &[u8], at: usize, s: usize) -> usize
     requires { at + 14 ≤ length bodies.now }
-    ensures { (result ≡ isBy (drop at bodies.now) s) × (result ≤ 1) }
+    ensures { (result ≡ is_by (drop at bodies.now) s) × (result ≤ 1) }
 {
     if widen(replica_at(bodies, at)) == s {
         return 1;
@@ -43,7 +43,7 @@ fn by_one(bodies: &[u8], at: usize, s: usize) -> usize
 // How many of n bodies are of a replica.
 fn bodies_by(bodies: &[u8], n: usize, s: usize) -> usize
     requires { width * n ≤ length bodies.now }
-    ensures { result ≡ opsBy (chunks width n bodies.now) s }
+    ensures { result ≡ ops_by (chunks width n bodies.now) s }
 {
     let mut count = 0;
     for i in 0..n {
@@ -55,7 +55,7 @@ fn bodies_by(bodies: &[u8], n: usize, s: usize) -> usize
 // Whether of a replica there are as many bodies as the head says.
 fn agrees_at(bodies: &[u8], n: usize, counts: [u8; 8], s: usize) -> bool
     requires { BodiesOf bodies.now n s }
-    ensures { result ≡ agreesAt (chunks width n bodies.now) counts s }
+    ensures { result ≡ agrees_at (chunks width n bodies.now) counts s }
 {
     bodies_by(bodies, n, s) == widen(counts[s - 1])
 }
@@ -88,7 +88,7 @@ fn is_filled(bundle: &[u8], size: usize) -> bool
 
 // Whether the bytes are a bundle whose head is whole and agrees with the rest (number 12).
 pub fn is_whole(bundle: &[u8]) -> bool
-    ensures { result ≡ wholeBundle width bundle.now }
+    ensures { result ≡ whole_bundle width bundle.now }
 {
     if bundle.len() == 0 {
         return false;

@@ -2,31 +2,31 @@
 use mathlib.Core.Path.{◌≡◌, refl, sym}
 use mathlib.Core.Bool.{true, false}
 use Prim.Native.Nat.{ℕ}
-use Rattle.rules.specs.Answer.{Answer, refused, hadIt, waiting, done, accepted, ifAccepted}
+use Rattle.rules.specs.Answer.{Answer, refused, had_it, waiting, done, accepted, if_accepted}
 use Rattle.lists.proofs.BoolLaws.{never}
-use Rattle.codec.specs.Asked.{isAccepted}
+use Rattle.codec.specs.Asked.{is_accepted}
 
 module _ {A : Type 0} (new old : A) where
-  pub if-accepted : (a : Answer) → isAccepted a ≡ true → ifAccepted a new old ≡ new
-  unfolding isAccepted
-  if-accepted (refused n) e = never e
-  if-accepted hadIt e = never e
-  if-accepted waiting e = never e
-  if-accepted done e = never e
-  if-accepted (accepted n) e = refl
+  pub if_accepted_law : (a : Answer) → is_accepted a ≡ true → if_accepted a new old ≡ new
+  unfolding is_accepted
+  if_accepted_law (refused n) e = never e
+  if_accepted_law had_it e = never e
+  if_accepted_law waiting e = never e
+  if_accepted_law done e = never e
+  if_accepted_law (accepted n) e = refl
 
-  pub if-not-accepted : (a : Answer) → isAccepted a ≡ false → ifAccepted a new old ≡ old
-  unfolding isAccepted
-  if-not-accepted (refused n) e = refl
-  if-not-accepted hadIt e = refl
-  if-not-accepted waiting e = refl
-  if-not-accepted done e = refl
-  if-not-accepted (accepted n) e = never (sym e)
+  pub if_not_accepted : (a : Answer) → is_accepted a ≡ false → if_accepted a new old ≡ old
+  unfolding is_accepted
+  if_not_accepted (refused n) e = refl
+  if_not_accepted had_it e = refl
+  if_not_accepted waiting e = refl
+  if_not_accepted done e = refl
+  if_not_accepted (accepted n) e = never (sym e)
 
-pub accepted-with : (a : Answer) → isAccepted a ≡ true → (n : ℕ) × (a ≡ accepted n)
-unfolding isAccepted
-accepted-with (refused n) e = never e
-accepted-with hadIt e = never e
-accepted-with waiting e = never e
-accepted-with done e = never e
-accepted-with (accepted n) e = (n, refl)
+pub accepted_with : (a : Answer) → is_accepted a ≡ true → (n : ℕ) × (a ≡ accepted n)
+unfolding is_accepted
+accepted_with (refused n) e = never e
+accepted_with had_it e = never e
+accepted_with waiting e = never e
+accepted_with done e = never e
+accepted_with (accepted n) e = (n, refl)

@@ -8,9 +8,9 @@ use native.Mathlib.Omega.{arith}
 use lib.ListN.{length, get_or}
 use lib.Dec.{leb, ltb, eqb}
 use borrow.Author.Tests.{eqb-true, le-leb, lt-leb, lt-ltb, le-ltb, eq-eqb, ne_eqb, not-false, not-true}
-use Rattle.rules.specs.Op.{isReplica, ownCount, replicaOf, wellFormed, countIn, isRemove, kind_of, vectorOf, parent_of, node_of, seqOf}
+use Rattle.rules.specs.Op.{is_replica, own_count, replica_of, well_formed, count_in, is_remove, kind_of, vector_of, parent_of, node_of, seq_of}
 use Rattle.rules.specs.Bytes.{byte}
-use Rattle.codec.specs.Asked.{kindFits, Origin}
+use Rattle.codec.specs.Asked.{kind_fits, Origin}
 use Rattle.codec.specs.Read.{fields_of, read_of}
 use Rattle.codec.specs.declared.op.Fields.{Fields}
 use Rattle.codec.specs.declared.op.Read.TheVariants.{Op, Refused}
@@ -19,10 +19,10 @@ use Rattle.rules.proofs.CausalLaws.{own}
 use borrow.Author.Rules.{rules}
 
 -- the own count is the byte after the replicas below
-own-byte : (b : List ℕ) → 1 ≤ replicaOf b → replicaOf b ≤ 8 → ownCount b ≡ byte b (5 + replicaOf b)
-unfolding ownCount countIn vectorOf
-own-byte b l u =
-    let h : replicaOf b - 1 < 8 = omega arith in
+own_byte : (b : List ℕ) → 1 ≤ replica_of b → replica_of b ≤ 8 → own_count b ≡ byte b (5 + replica_of b)
+unfolding own_count count_in vector_of
+own_byte b l u =
+    let h : replica_of b - 1 < 8 = omega arith in
     rw (get_or-take, get_or-drop) (ap (byte b) (omega arith))
 
 regroup : (a b c d : Bool) → (a && b && c && d) ≡ (a && c && (b && d))
@@ -32,9 +32,9 @@ regroup true false false d = refl
 regroup false b c d = refl
 
 -- the test of form, in the order in which the reader makes it
-formed-is : (b : List ℕ) → wellFormed b ≡ (isReplica (replicaOf b) && ltb (ownCount b) 255 && kindFits (kind_of b) (parent_of b))
-unfolding wellFormed isRemove
-formed-is b = regroup (isReplica (replicaOf b)) (leb 1 (kind_of b) && leb (kind_of b) 4) (ltb (ownCount b) 255)
+formed_is : (b : List ℕ) → well_formed b ≡ (is_replica (replica_of b) && ltb (own_count b) 255 && kind_fits (kind_of b) (parent_of b))
+unfolding well_formed is_remove
+formed_is b = regroup (is_replica (replica_of b)) (leb 1 (kind_of b) && leb (kind_of b) 4) (ltb (own_count b) 255)
     (not (eqb (kind_of b) 2) || eqb (parent_of b) 0)
 
 -- one law for each return of the reader, as the code has its facts
@@ -43,56 +43,56 @@ module _ (w : ℕ) (b : List ℕ) where
   unfolding read_of
   read_length e = rw (ne_eqb (length b) w e)
 
-  module _ (e : length b ≡ w) (s : ℕ) (is : s ≡ replicaOf b) where
+  module _ (e : length b ≡ w) (s : ℕ) (is : s ≡ replica_of b) where
     pub read_low : s < 1 → Refused Malformed ≡ read_of w b
-    unfolding read_of isReplica
-    read_low h = rw (eq-eqb (length b) w e, formed-is b, ← is, lt-leb 1 s h)
+    unfolding read_of is_replica
+    read_low h = rw (eq-eqb (length b) w e, formed_is b, ← is, lt-leb 1 s h)
 
-    pub read-high : 8 < s → Refused Malformed ≡ read_of w b
-    unfolding read_of isReplica
-    read-high h = rw (eq-eqb (length b) w e, formed-is b, ← is, le-leb 1 s (omega arith), lt-leb s 8 h)
+    pub read_high : 8 < s → Refused Malformed ≡ read_of w b
+    unfolding read_of is_replica
+    read_high h = rw (eq-eqb (length b) w e, formed_is b, ← is, le-leb 1 s (omega arith), lt-leb s 8 h)
 
     module _ (l : 1 ≤ s) (u : s ≤ 8) where
       pub origin : 14 ≤ w → Origin b s
-      origin h = record { long = omega arith; is-origin = is; low = l; high = u }
+      origin h = record { long = omega arith; is_origin = is; low = l; high = u }
 
-      module _ (own : ℕ) (is-own : own ≡ ownCount b) where
-        pub read-own : 254 < own → Refused Malformed ≡ read_of w b
-        unfolding read_of isReplica
-        read-own h = rw (eq-eqb (length b) w e, formed-is b, ← is, le-leb 1 s l, le-leb s 8 u, ← is-own, le-ltb own 255 (omega arith))
+      module _ (own : ℕ) (is_own : own ≡ own_count b) where
+        pub read_own : 254 < own → Refused Malformed ≡ read_of w b
+        unfolding read_of is_replica
+        read_own h = rw (eq-eqb (length b) w e, formed_is b, ← is, le-leb 1 s l, le-leb s 8 u, ← is_own, le-ltb own 255 (omega arith))
 
-        module _ (h : own ≤ 254) (k p : ℕ) (is-kind : k ≡ kind_of b) (is-parent : p ≡ parent_of b) (fits : Bool) (by : fits ≡ kindFits k p)
+        module _ (h : own ≤ 254) (k p : ℕ) (is_kind : k ≡ kind_of b) (is_parent : p ≡ parent_of b) (fits : Bool) (by : fits ≡ kind_fits k p)
           where
-            formed : wellFormed b ≡ fits
-            unfolding isReplica
+            formed : well_formed b ≡ fits
+            unfolding is_replica
             formed =
-                rw (formed-is b, ← is, le-leb 1 s l, le-leb s 8 u, ← is-own, lt-ltb own 255 (omega arith), ← is-kind, ← is-parent) (sym by)
+                rw (formed_is b, ← is, le-leb 1 s l, le-leb s 8 u, ← is_own, lt-ltb own 255 (omega arith), ← is_kind, ← is_parent) (sym by)
 
-            pub read-kind : not fits ≡ true → Refused Malformed ≡ read_of w b
+            pub read_kind : not fits ≡ true → Refused Malformed ≡ read_of w b
             unfolding read_of
-            read-kind z = rw (eq-eqb (length b) w e, formed, not-true fits z)
+            read_kind z = rw (eq-eqb (length b) w e, formed, not-true fits z)
 
             pub read_all : not fits ≡ false → (n : ℕ) → n ≡ node_of b
                 → Op (record { kind = k; replica = s; sequence = own + 1; node = n; parent = p }) ≡ read_of w b
-            unfolding read_of seqOf
-            read_all z n is-node = rw (eq-eqb (length b) w e, formed, not-false fits z, is, is-own, is-kind, is-parent, is-node)
+            unfolding read_of seq_of
+            read_all z n is-node = rw (eq-eqb (length b) w e, formed, not-false fits z, is, is_own, is_kind, is_parent, is-node)
 
-pub own_is : (b : List ℕ) (s : ℕ) → Origin b s → (t : ℕ) → t ≡ s → get_or b (5 + t) 0 ≡ ownCount b
-own_is b s o t e = rw (e, o.is-origin) (sym (own-byte b (omega (arith, o.low, o.is-origin)) (omega (arith, o.high, o.is-origin))))
+pub own_is : (b : List ℕ) (s : ℕ) → Origin b s → (t : ℕ) → t ≡ s → get_or b (5 + t) 0 ≡ own_count b
+own_is b s o t e = rw (e, o.is_origin) (sym (own_byte b (omega (arith, o.low, o.is_origin)) (omega (arith, o.high, o.is_origin))))
 
-pub ruleset reading = (rules, read_length, read_low, read-high, origin, read-own, read-kind, read_all, own_is)
+pub ruleset reading = (rules, read_length, read_low, read_high, origin, read_own, read_kind, read_all, own_is)
 
 -- what an op that reads says
 pub record Reads (w : ℕ) (b : List ℕ) (x : Fields) : Type 0 where
   pub long : length b ≡ w
-  pub formed : wellFormed b ≡ true
+  pub formed : well_formed b ≡ true
   pub fields : fields_of b ≡ x
 
 pub reads : (w : ℕ) (b : List ℕ) (x : Fields) → read_of w b ≡ Op x → Reads w b x
 unfolding read_of
-reads w b x = go (eqb (length b) w) refl (wellFormed b) refl
+reads w b x = go (eqb (length b) w) refl (well_formed b) refl
   where
-    go : (a : Bool) → eqb (length b) w ≡ a → (c : Bool) → wellFormed b ≡ c
+    go : (a : Bool) → eqb (length b) w ≡ a → (c : Bool) → well_formed b ≡ c
         → cond a (cond c (Op (fields_of b)) (Refused Malformed)) (Refused Length) ≡ Op x → Reads w b x
     go true ea true ec e = record { long = eqb-true _ _ ea; formed = ec; fields = cc }
     go true ea false ec e = let z : ◌≡◌ {A = ℕ} 0 1 = cc in absurd (omega arith)

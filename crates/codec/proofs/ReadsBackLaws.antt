@@ -4,69 +4,69 @@ use mathlib.Core.Bool.{true}
 use Prim.Native.Nat.{ℕ, ◌+◌}
 use lib.ListN.{length, take}
 use borrow.Author.Tests.{eq-eqb}
-use Rattle.rules.specs.Issue.{Request, add, remove, move, issueOut, opBytes, issued}
-use Rattle.rules.specs.Op.{Op, countIn, seqOf, kind_of, replicaOf, ownCount, vectorOf, node_of, parent_of, wellFormed}
-use Rattle.rules.specs.File.{Log, logOf, countsOf, width}
-use Rattle.rules.proofs.IssueLaws.{counts-eight, issue-admitted, bytes-node, bytes-vector, bytes-parent}
-use Rattle.rules.proofs.SoundLaws.{sound-good}
+use Rattle.rules.specs.Issue.{Request, add, remove, move, issue_out, op_bytes, issued}
+use Rattle.rules.specs.Op.{Op, count_in, seq_of, kind_of, replica_of, own_count, vector_of, node_of, parent_of, well_formed}
+use Rattle.rules.specs.File.{Log, log_of, counts_of, width}
+use Rattle.rules.proofs.IssueLaws.{counts_eight, issue_admitted, bytes_node, bytes_vector, bytes_parent}
+use Rattle.rules.proofs.SoundLaws.{sound_good}
 use Rattle.rules.proofs.StructureLaws.{GoodLog}
-use Rattle.rules.proofs.PutOutLaws.{put-out, put-out-next}
+use Rattle.rules.proofs.PutOutLaws.{put_out_law, put_out_next}
 use Rattle.codec.specs.Read.{read_of}
-use Rattle.codec.specs.ReadsBack.{kindMeant, nodeMeant, parentMeant, fieldsMeant, IssuedReadsBack}
+use Rattle.codec.specs.ReadsBack.{kind_meant, node_meant, parent_meant, fields_meant, IssuedReadsBack}
 use Rattle.codec.specs.declared.op.Read.TheVariants as read
 
 module _ (log : Log) (g : GoodLog log) (s : ℕ) (q : Request) where
   abbrev meant : Op
-  meant = opBytes (kindMeant log q) s (nodeMeant log s q) (parentMeant q) (countsOf log)
+  meant = op_bytes (kind_meant log q) s (node_meant log s q) (parent_meant q) (counts_of log)
 
-  kind-back : kind_of meant ≡ kindMeant log q
-  unfolding kind_of opBytes
-  kind-back = refl
+  kind_back : kind_of meant ≡ kind_meant log q
+  unfolding kind_of op_bytes
+  kind_back = refl
 
-  origin-back : replicaOf meant ≡ s
-  unfolding replicaOf opBytes
-  origin-back = refl
+  origin_back : replica_of meant ≡ s
+  unfolding replica_of op_bytes
+  origin_back = refl
 
-  vector-back : vectorOf meant ≡ countsOf log
-  vector-back = bytes-vector _ s _ _ (countsOf log) (counts-eight log g)
+  vector_back : vector_of meant ≡ counts_of log
+  vector_back = bytes_vector _ s _ _ (counts_of log) (counts_eight log g)
 
-  sequence-back : seqOf meant ≡ countIn (countsOf log) s + 1
-  unfolding seqOf ownCount
-  sequence-back = rw (vector-back, origin-back)
+  sequence_back : seq_of meant ≡ count_in (counts_of log) s + 1
+  unfolding seq_of own_count
+  sequence_back = rw (vector_back, origin_back)
 
-  node-back : node_of meant ≡ nodeMeant log s q
-  node-back = bytes-node _ s _ _ (countsOf log)
+  node_back : node_of meant ≡ node_meant log s q
+  node_back = bytes_node _ s _ _ (counts_of log)
 
-  parent-back : parent_of meant ≡ parentMeant q
-  parent-back = bytes-parent _ s _ _ (countsOf log)
+  parent_back : parent_of meant ≡ parent_meant q
+  parent_back = bytes_parent _ s _ _ (counts_of log)
 
-  reads-back : length meant ≡ width → wellFormed meant ≡ true → read_of width meant ≡ read.Op (fieldsMeant log s q)
+  reads_back : length meant ≡ width → well_formed meant ≡ true → read_of width meant ≡ read.Op (fields_meant log s q)
   unfolding read_of
-  reads-back long formed =
-      rw (eq-eqb (length meant) width long, formed, kind-back, origin-back, sequence-back, node-back, parent-back)
+  reads_back long formed =
+      rw (eq-eqb (length meant) width long, formed, kind_back, origin_back, sequence_back, node_back, parent_back)
 
 -- an issued op is made of what was meant
-issued-is : (log : Log) (g : GoodLog log) (s : ℕ) (q : Request) → issued log s q ≡ meant log g s q
-unfolding issued kindMeant nodeMeant parentMeant
-issued-is log g s (add p) = refl
-issued-is log g s (remove n) = refl
-issued-is log g s (move n p) = refl
+issued_is : (log : Log) (g : GoodLog log) (s : ℕ) (q : Request) → issued log s q ≡ meant log g s q
+unfolding issued kind_meant node_meant parent_meant
+issued_is log g s (add p) = refl
+issued_is log g s (remove n) = refl
+issued_is log g s (move n p) = refl
 
-pub issued-reads-back : IssuedReadsBack
-issued-reads-back f out s q n e =
-    let log : Log = logOf width f in
-    let a = issue-admitted f (length out) s q n e in
-    let g = sound-good width f a.is-sound in
-    let next = put-out-next f out s q n e in
-    let is : take width (issueOut width f out s q) ≡ meant log g s q = put-out f out s q n e ∙ issued-is log g s q in
+pub issued_reads_back : IssuedReadsBack
+issued_reads_back f out s q n e =
+    let log : Log = log_of width f in
+    let a = issue_admitted f (length out) s q n e in
+    let g = sound_good width f a.is_sound_so in
+    let next = put_out_next f out s q n e in
+    let is : take width (issue_out width f out s q) ≡ meant log g s q = put_out_law f out s q n e ∙ issued_is log g s q in
     record {
-      long = rw (put-out f out s q n e) a.long;
-      kind = rw is (kind-back log g s q);
+      long = rw (put_out_law f out s q n e) a.long;
+      kind = rw is (kind_back log g s q);
       origin = next.origin;
       sequence = next.sequence;
-      node = rw is (node-back log g s q);
-      parent = rw is (parent-back log g s q);
-      vector = rw is (vector-back log g s q);
-      reads = rw is (reads-back log g s q (rw (← issued-is log g s q) a.long) (rw (← issued-is log g s q) a.admits.formed));
-      accepted-by = next.accepted-by;
+      node = rw is (node_back log g s q);
+      parent = rw is (parent_back log g s q);
+      vector = rw is (vector_back log g s q);
+      reads = rw is (reads_back log g s q (rw (← issued_is log g s q) a.long) (rw (← issued_is log g s q) a.admits.formed));
+      accepted_by = next.accepted_by;
     }

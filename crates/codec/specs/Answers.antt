@@ -1,6 +1,6 @@
 -- What a call answers, in the document's terms (its table "Numbers handed back").
 use Rattle.std.specs.Prelude.{ℕ}
-use Rattle.rules.specs.Answer.{Answer, refused, hadIt, waiting, done, accepted}
+use Rattle.rules.specs.Answer.{Answer, refused, had_it, waiting, done, accepted}
 use Rattle.codec.specs.declared.answer.Answer.TheVariants.{Refused, HadIt, Waiting, Done, Accepted}
 use Rattle.codec.specs.declared.answer.Refusal.{Refusal}
 use Rattle.codec.specs.declared.answer.Refusal.TheVariants.{Unsound, Length, Malformed, Conflict, Early, NotClosed, Unknown, NoRoom, Exhausted, Cycle, Marked, BadBundle, HoldbackFull, BadHoldback}
@@ -26,7 +26,7 @@ number_of BadHoldback = 14
 -- what each answer says: a refusal by its number, and the number that an accepted call hands back
 abbrev pub answer_of : code.Answer → Answer
 answer_of (Refused why) = refused (number_of why)
-answer_of HadIt = hadIt
+answer_of HadIt = had_it
 answer_of Waiting = waiting
 answer_of Done = done
 answer_of (Accepted n) = accepted n

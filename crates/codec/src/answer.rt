@@ -1,6 +1,6 @@
 ghost use Rattle.std.specs.Prelude.{◌≡◌};
 ghost use Rattle.codec.specs.Answers.{answer_of, number_of};
-ghost use Rattle.codec.specs.Asked.{isAccepted};
+ghost use Rattle.codec.specs.Asked.{is_accepted};
 
 // Why a call is refused: a case for each of the document's numbers.
 #[derive(Drop)]
@@ -73,7 +73,7 @@ pub fn number_of(why: Refusal) -> usize
 
 // Whether a call was accepted.
 pub fn is_accepted(answer: Answer) -> bool
-    ensures { result ≡ isAccepted (answer_of answer) }
+    ensures { result ≡ is_accepted (answer_of answer) }
 {
     match answer {
         Answer::Refused(_) => false,

@@ -1,5 +1,5 @@
 ghost use Rattle.std.specs.Prelude.{◌≡◌, ◌+◌, ◌≤◌, length, drop};
-ghost use Rattle.rules.specs.Op.{kind_of, replicaOf, node_of, parent_of, vectorOf};
+ghost use Rattle.rules.specs.Op.{kind_of, replica_of, node_of, parent_of, vector_of};
 
 use crate::word::word_at;
 use vector::read_vector;
@@ -15,7 +15,7 @@ pub fn kind_at(file: &[u8], at: usize) -> u8
 
 pub fn replica_at(file: &[u8], at: usize) -> u8
     requires { at + 14 ≤ length file.now }
-    ensures { result ≡ replicaOf (drop at file.now) }
+    ensures { result ≡ replica_of (drop at file.now) }
 {
     file[at + 1]
 }
@@ -36,7 +36,7 @@ pub fn parent_at(file: &[u8], at: usize) -> u16
 
 pub fn vector_at(file: &[u8], at: usize) -> [u8; 8]
     requires { at + 14 ≤ length file.now }
-    ensures { result ≡ vectorOf (drop at file.now) }
+    ensures { result ≡ vector_of (drop at file.now) }
 {
     read_vector(file, at + 6)
 }

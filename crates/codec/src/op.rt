@@ -1,8 +1,8 @@
 ghost use Rattle.std.specs.Prelude.{◌≡◌, ◌++◌, ◌+◌, ◌≤◌, length, take, drop};
-ghost use Rattle.rules.specs.Issue.{opBytes};
-ghost use Rattle.codec.specs.Asked.{kindFits, Origin};
+ghost use Rattle.rules.specs.Issue.{op_bytes};
+ghost use Rattle.codec.specs.Asked.{kind_fits, Origin};
 ghost use Rattle.codec.specs.Read.{read_of};
-ghost use Rattle.rules.specs.Op.{ownCount};
+ghost use Rattle.rules.specs.Op.{own_count};
 
 use crate::answer::Refusal;
 use crate::field::{kind_at, node_at, parent_at, replica_at};
@@ -27,7 +27,7 @@ pub enum Read {
 
 // Whether a kind can stand with a parent: a remove has parent 0.
 pub fn kind_fits(kind: u8, parent: u16) -> bool
-    ensures { result ≡ kindFits kind parent }
+    ensures { result ≡ kind_fits kind parent }
 {
     match kind {
         1 | 3 | 4 => true,
@@ -39,7 +39,7 @@ pub fn kind_fits(kind: u8, parent: u16) -> bool
 // The origin's own count in the vector of an op.
 fn own_count(bytes: &[u8], replica: u8) -> u8
     requires { Origin bytes.now replica }
-    ensures { result ≡ ownCount bytes.now }
+    ensures { result ≡ own_count bytes.now }
 {
     bytes[5 + widen(replica)]
 }
@@ -81,7 +81,7 @@ pub fn read_op(bytes: &[u8], width: usize) -> Read
 // Writes an op of 14 bytes to the front of lent bytes.
 pub fn write_op(out: &mut [u8], kind: u8, replica: u8, node: u16, parent: u16, vector: [u8; 8])
     requires { 14 ≤ length out.old }
-    ensures { out.new ≡ opBytes kind replica node parent vector ++ drop 14 out.old }
+    ensures { out.new ≡ op_bytes kind replica node parent vector ++ drop 14 out.old }
 {
     out[0] = kind;
     out[1] = replica;

@@ -8,7 +8,7 @@ use mathlib.Core.Path.{◌≡◌, ◌∙◌}
 use native.Mathlib.Decide.{dec_le}
 use native.Mathlib.Omega.{arith}
 use Rattle.lists.proofs.BoolLaws.{never}
-use Rattle.lists.specs.Lists.{downFrom, concat, up_from}
+use Rattle.lists.specs.Lists.{down_from, concat, up_from}
 use Rattle.lists.proofs.RangeLaws.{two_down}
 use Rattle.rules.proofs.ClimbLaws.{up}
 
@@ -24,35 +24,35 @@ Single F s up x = (k : ℕ) → F k s ≡ cond (eqb (kind up) k) (x ∷ []) []
 
 module _ {A : Type 0} (F : ℕ → ℕ → List A) (a b : ℕ) (la : 1 ≤ a) (ua : a ≤ 8) (lb : 1 ≤ b) (ub : b ≤ 8) (x y : A)
     (rest : (k s : ℕ) → 1 ≤ s → s ≤ 8 → (s ≡ a → ⊥) → (s ≡ b → ⊥) → F k s ≡ []) where
-  abbrev kinds-in-order : List A
-  kinds-in-order = concat (map (λ k. concat (map (F k) (downFrom 8))) (up_from 1 4))
+  abbrev kinds_in_order : List A
+  kinds_in_order = concat (map (λ k. concat (map (F k) (down_from 8))) (up_from 1 4))
 
   module _ (u v : Bool) (fa : Single F a u x) (fb : Single F b v y) where
-    higher : b < a → (k : ℕ) → concat (map (F k) (downFrom 8)) ≡ cond (eqb (kind u) k) (x ∷ []) [] ++ cond (eqb (kind v) k) (y ∷ []) []
+    higher : b < a → (k : ℕ) → concat (map (F k) (down_from 8)) ≡ cond (eqb (kind u) k) (x ∷ []) [] ++ cond (eqb (kind v) k) (y ∷ []) []
     higher h k = two_down (F k) 8 a b lb h ua (rest k) ∙ rw (fa k, fb k)
 
-    lower : a < b → (k : ℕ) → concat (map (F k) (downFrom 8)) ≡ cond (eqb (kind v) k) (y ∷ []) [] ++ cond (eqb (kind u) k) (x ∷ []) []
+    lower : a < b → (k : ℕ) → concat (map (F k) (down_from 8)) ≡ cond (eqb (kind v) k) (y ∷ []) [] ++ cond (eqb (kind u) k) (x ∷ []) []
     lower h k = two_down (F k) 8 b a la h ub (λ s l t p q. rest k s l t q p) ∙ rw (fa k, fb k)
 
-  higher-first : (u v : Bool) → Single F a u x → Single F b v y → b < a → cond (eqb (kind u) (kind v)) true (eqb (kind u) 3) ≡ true
-      → kinds-in-order ≡ x ∷ y ∷ []
+  higher_first : (u v : Bool) → Single F a u x → Single F b v y → b < a → cond (eqb (kind u) (kind v)) true (eqb (kind u) 3) ≡ true
+      → kinds_in_order ≡ x ∷ y ∷ []
   unfolding concat up_from
-  higher-first true true fa fb h w = let e = higher true true fa fb h in rw (e 1, e 2, e 3, e 4)
-  higher-first true false fa fb h w = let e = higher true false fa fb h in rw (e 1, e 2, e 3, e 4)
-  higher-first false true fa fb h w = never w
-  higher-first false false fa fb h w = let e = higher false false fa fb h in rw (e 1, e 2, e 3, e 4)
+  higher_first true true fa fb h w = let e = higher true true fa fb h in rw (e 1, e 2, e 3, e 4)
+  higher_first true false fa fb h w = let e = higher true false fa fb h in rw (e 1, e 2, e 3, e 4)
+  higher_first false true fa fb h w = never w
+  higher_first false false fa fb h w = let e = higher false false fa fb h in rw (e 1, e 2, e 3, e 4)
 
-  lower-first : (u v : Bool) → Single F a u x → Single F b v y → a < b → cond (eqb (kind u) (kind v)) false (eqb (kind u) 3) ≡ true
-      → kinds-in-order ≡ x ∷ y ∷ []
+  lower_first : (u v : Bool) → Single F a u x → Single F b v y → a < b → cond (eqb (kind u) (kind v)) false (eqb (kind u) 3) ≡ true
+      → kinds_in_order ≡ x ∷ y ∷ []
   unfolding concat up_from
-  lower-first true true fa fb h w = never w
-  lower-first true false fa fb h w = let e = lower true false fa fb h in rw (e 1, e 2, e 3, e 4)
-  lower-first false true fa fb h w = never w
-  lower-first false false fa fb h w = never w
+  lower_first true true fa fb h w = never w
+  lower_first true false fa fb h w = let e = lower true false fa fb h in rw (e 1, e 2, e 3, e 4)
+  lower_first false true fa fb h w = never w
+  lower_first false false fa fb h w = never w
 
-  pub winner-first : (u v : Bool) → Single F a u x → Single F b v y → (a ≡ b → ⊥)
-      → cond (eqb (kind u) (kind v)) (ltb b a) (eqb (kind u) 3) ≡ true → kinds-in-order ≡ x ∷ y ∷ []
-  winner-first u v fa fb ne w = elim (dec_le a b) [
-    | yes h ↦ lower-first u v fa fb (omega arith) (rw (le-ltb b a h) at w)
-    | no h ↦ higher-first u v fa fb (omega arith) (let l : b < a = omega arith in rw (lt-ltb b a l) at w)
+  pub winner_first : (u v : Bool) → Single F a u x → Single F b v y → (a ≡ b → ⊥)
+      → cond (eqb (kind u) (kind v)) (ltb b a) (eqb (kind u) 3) ≡ true → kinds_in_order ≡ x ∷ y ∷ []
+  winner_first u v fa fb ne w = elim (dec_le a b) [
+    | yes h ↦ lower_first u v fa fb (omega arith) (rw (le-ltb b a h) at w)
+    | no h ↦ higher_first u v fa fb (omega arith) (let l : b < a = omega arith in rw (lt-ltb b a l) at w)
   ]

@@ -10,28 +10,28 @@ use mathlib.Core.Logic.{◌⊎◌, inl, inr, ⊎_elim}
 use mathlib.Core.Path.{refl, ap, ◌≡◌, ◌∙◌, sym}
 use native.Mathlib.Decide.{ℕ_discrete}
 use native.Mathlib.Omega.{arith}
-use Rattle.convergence.proofs.AddedLaws.{new-extends, one-of-new, none-new, new-op, new-count}
-use Rattle.convergence.proofs.HasLaws.{has-head, has-tail, has-none, has-cases}
-use Rattle.convergence.proofs.ArriveLaws.{AddsOp, issue-adds, op-adds, arrives, arrives_back}
-use Rattle.convergence.proofs.ClashLaws.{winner-first}
-use Rattle.rules.proofs.StepLaws.{passed_over, placed-already, applied, blocked, applies, tables-full}
-use Rattle.convergence.proofs.MoveLaws.{op_of, upward, Asked, asked, Drawn, drawn, slot-in, valid-node, y-blocked, circle-is}
-use Rattle.convergence.specs.Clash.{Move, nextSlot, request, beats, circle, clash, Wins, hang, BothIssued, putOut, OnlyAdded, Arrives, Arrivals, ClashDecided, BothArrive, CircleCutsOff}
+use Rattle.convergence.proofs.AddedLaws.{new_extends, one_of_new, none_new, new_op_law, new_count}
+use Rattle.convergence.proofs.HasLaws.{has_head, has_tail, has_none, has_cases}
+use Rattle.convergence.proofs.ArriveLaws.{AddsOp, issue_adds, op_adds, arrives, arrives_back}
+use Rattle.convergence.proofs.ClashLaws.{winner_first}
+use Rattle.rules.proofs.StepLaws.{passed_over, placed_already, applied, blocked, applies, tables_full}
+use Rattle.convergence.proofs.MoveLaws.{op_of, upward, Asked, asked, Drawn, drawn, slot_in, valid_node, y_blocked, circle_is}
+use Rattle.convergence.specs.Clash.{Move, next_slot, request, beats, circle, clash, Wins, hang, BothIssued, put_out, OnlyAdded, Arrives, Arrivals, ClashDecided, BothArrive, CircleCutsOff}
 use Rattle.convergence.specs.Exchange.{Call, deliver, has}
-use Rattle.order.proofs.LateLaws.{Late, ordered-late, late-empty, late-ready, top}
+use Rattle.order.proofs.LateLaws.{Late, ordered_late, late_empty, late_ready, top}
 use Rattle.order.proofs.PlacedLaws.{placed_by}
-use Rattle.order.specs.Levels.{readyOp, level, readyOps, levelKind}
+use Rattle.order.specs.Levels.{ready_op, level, ready_ops, level_kind}
 use Rattle.rules.proofs.AppendLaws.{extends}
 use Rattle.lists.proofs.BoolLaws.{and_both, never}
 use Rattle.rules.proofs.IssueLaws.{allowed}
-use Rattle.rules.proofs.PutOutLaws.{NextOp, put-out, put-out-next}
-use Rattle.rules.proofs.SoundLaws.{sound-good}
+use Rattle.rules.proofs.PutOutLaws.{NextOp, put_out_law, put_out_next}
+use Rattle.rules.proofs.SoundLaws.{sound_good}
 use Rattle.rules.proofs.StructureLaws.{GoodLog}
-use Rattle.rules.proofs.SlotLaws.{slot-below, slot-injective}
-use Rattle.rules.specs.Tree.{moveKind, slot, slots, slot_of}
-use Rattle.rules.specs.File.{Log, countsOf, opAt, logOf, width, fileEnd}
-use Rattle.rules.specs.Op.{Op, countIn, node_of, replicaOf}
-use Rattle.rules.specs.Replay.{parentsOf, State, Stamped, replay, step, outcomesOf, outcomeOf}
+use Rattle.rules.proofs.SlotLaws.{slot_below, slot_injective}
+use Rattle.rules.specs.Tree.{move_kind, slot, slots, slot_of}
+use Rattle.rules.specs.File.{Log, counts_of, op_at, log_of, width, file_end}
+use Rattle.rules.specs.Op.{Op, count_in, node_of, replica_of}
+use Rattle.rules.specs.Replay.{parents_of, State, Stamped, replay, step, outcomes_of, outcome_of}
 use Rattle.lists.specs.Lists.{concat}
 use Rattle.rules.specs.Sound.{sound}
 
@@ -39,21 +39,21 @@ use Rattle.rules.specs.Sound.{sound}
 record Both (log more : Log) (x y : Move) : Type 0 where
   pub late : Late log more
   pub good : GoodLog more
-  pub count-x : countIn (countsOf more) x.replica ≡ countIn (countsOf log) x.replica + 1
-  pub count-y : countIn (countsOf more) y.replica ≡ countIn (countsOf log) y.replica + 1
-  pub rest : (s : ℕ) → 1 ≤ s → s ≤ 8 → (s ≡ x.replica → ⊥) → (s ≡ y.replica → ⊥) → countIn (countsOf more) s ≡ countIn (countsOf log) s
-  pub op-x : opAt more x.replica (countIn (countsOf log) x.replica + 1) ≡ op_of log x
-  pub op-y : opAt more y.replica (countIn (countsOf log) y.replica + 1) ≡ op_of log y
+  pub count_x : count_in (counts_of more) x.replica ≡ count_in (counts_of log) x.replica + 1
+  pub count_y : count_in (counts_of more) y.replica ≡ count_in (counts_of log) y.replica + 1
+  pub rest : (s : ℕ) → 1 ≤ s → s ≤ 8 → (s ≡ x.replica → ⊥) → (s ≡ y.replica → ⊥) → count_in (counts_of more) s ≡ count_in (counts_of log) s
+  pub op_x : op_at more x.replica (count_in (counts_of log) x.replica + 1) ≡ op_of log x
+  pub op_y : op_at more y.replica (count_in (counts_of log) y.replica + 1) ≡ op_of log y
 
 swap : (log more : Log) (x y : Move) → Both log more x y → Both log more y x
 swap log more x y b = record {
   late = b.late;
   good = b.good;
-  count-x = b.count-y;
-  count-y = b.count-x;
+  count_x = b.count_y;
+  count_y = b.count_x;
   rest = λ s l u p q. b.rest s l u q p;
-  op-x = b.op-y;
-  op-y = b.op-x;
+  op_x = b.op_y;
+  op_y = b.op_x;
 }
 
 ---- x beats y
@@ -61,132 +61,132 @@ swap log more x y b = record {
 module _ (log more : Log) (good : GoodLog log) (x y : Move) (ax : Asked log x) (ay : Asked log y)
     (both : Both log more x y) (apart : x.replica ≡ y.replica → ⊥) where
   abbrev before : State
-  before = replay log (countsOf log)
+  before = replay log (counts_of log)
 
-  abbrev now-time : ℕ
-  now-time = suc (top log more both.late good both.good)
+  abbrev now_time : ℕ
+  now_time = suc (top log more both.late good both.good)
 
   abbrev first : Stamped
-  first = record { time = now-time; op = op_of log x }
+  first = record { time = now_time; op = op_of log x }
 
   abbrev second : Stamped
-  second = record { time = now-time; op = op_of log y }
+  second = record { time = now_time; op = op_of log y }
 
-  op-x : Drawn log x
-  op-x = drawn log good x
+  op_x : Drawn log x
+  op_x = drawn log good x
 
-  op-y : Drawn log y
-  op-y = drawn log good y
+  op_y : Drawn log y
+  op_y = drawn log good y
 
   -- the two are replayed last, x first
-  module _ (wins : beats (parentsOf log) x y ≡ true) where
+  module _ (wins : beats (parents_of log) x y ≡ true) where
     abbrev entries : ℕ → ℕ → List Stamped
-    entries = readyOp more now-time (readyOps more (countsOf more) (countsOf log))
+    entries = ready_op more now_time (ready_ops more (counts_of more) (counts_of log))
 
-    x-ready : (k : ℕ) → entries k x.replica ≡ cond (eqb (cond (upward log x) 3 4) k) (first ∷ []) []
-    x-ready k =
-        late-ready log more both.late good both.good k x.replica ax.low ax.high (omega (arith, both.count-x))
-        ∙ rw (both.op-x, op-x.kind)
+    x_ready : (k : ℕ) → entries k x.replica ≡ cond (eqb (cond (upward log x) 3 4) k) (first ∷ []) []
+    x_ready k =
+        late_ready log more both.late good both.good k x.replica ax.low ax.high (omega (arith, both.count_x))
+        ∙ rw (both.op_x, op_x.kind)
 
-    y-ready : (k : ℕ) → entries k y.replica ≡ cond (eqb (cond (upward log y) 3 4) k) (second ∷ []) []
-    y-ready k =
-        late-ready log more both.late good both.good k y.replica ay.low ay.high (omega (arith, both.count-y))
-        ∙ rw (both.op-y, op-y.kind)
+    y_ready : (k : ℕ) → entries k y.replica ≡ cond (eqb (cond (upward log y) 3 4) k) (second ∷ []) []
+    y_ready k =
+        late_ready log more both.late good both.good k y.replica ay.low ay.high (omega (arith, both.count_y))
+        ∙ rw (both.op_y, op_y.kind)
 
-    two-last : level more now-time (readyOps more (countsOf more) (countsOf log)) ≡ first ∷ second ∷ []
-    unfolding level levelKind beats moveKind
-    two-last =
-        winner-first entries x.replica y.replica ax.low ax.high ay.low ay.high first second
-        (λ k s l u p q. late-empty log more both.late good both.good k s l u (both.rest s l u p q))
-        (upward log x) (upward log y) x-ready y-ready apart wins
+    two_last : level more now_time (ready_ops more (counts_of more) (counts_of log)) ≡ first ∷ second ∷ []
+    unfolding level level_kind beats move_kind
+    two_last =
+        winner_first entries x.replica y.replica ax.low ax.high ay.low ay.high first second
+        (λ k s l u p q. late_empty log more both.late good both.good k s l u (both.rest s l u p q))
+        (upward log x) (upward log y) x_ready y_ready apart wins
 
-    replayed : replay more (countsOf more) ≡ step (step before first) second
+    replayed : replay more (counts_of more) ≡ step (step before first) second
     unfolding replay
-    replayed = rw (ordered-late log more both.late good both.good, two-last, foldl-append)
+    replayed = rw (ordered_late log more both.late good both.good, two_last, foldl-append)
 
   ---- what the two do
 
-  placed-before : (i : ℕ) → get_or before.placed i 0 < now-time
+  placed_before : (i : ℕ) → get_or before.placed i 0 < now_time
   unfolding top
-  placed-before i = omega (arith, placed_by log (countsOf log) i)
+  placed_before i = omega (arith, placed_by log (counts_of log) i)
 
   -- the state after x
   abbrev mid : State
   mid = record {
-    parents = hang (parentsOf log) x;
-    outcomes = set (outcomesOf log) (nextSlot log x.replica) 1;
-    placed = set before.placed (slot_of x.node) now-time;
+    parents = hang (parents_of log) x;
+    outcomes = set (outcomes_of log) (next_slot log x.replica) 1;
+    placed = set before.placed (slot_of x.node) now_time;
   }
 
-  x-applied : step before first ≡ mid
-  unfolding hang parentsOf outcomesOf
-  x-applied =
-      applied before now-time (op_of log x) op-x.moves
-      (applies before now-time (op_of log x) op-x.moves
-      (λ e. omega (arith, placed-before (slot_of (node_of (op_of log x))))) (rw (op-x.node-is, op-x.parent_is) ax.clear))
-      ∙ rw (op-x.node-is, op-x.parent_is, op-x.slot_is)
+  x_applied : step before first ≡ mid
+  unfolding hang parents_of outcomes_of
+  x_applied =
+      applied before now_time (op_of log x) op_x.moves
+      (applies before now_time (op_of log x) op_x.moves
+      (λ e. omega (arith, placed_before (slot_of (node_of (op_of log x))))) (rw (op_x.node_is, op_x.parent_is) ax.clear))
+      ∙ rw (op_x.node_is, op_x.parent_is, op_x.slot_is)
 
-  y-passed : (o : ℕ) → eqb o 1 ≡ false → outcomeOf mid second ≡ o
+  y_passed : (o : ℕ) → eqb o 1 ≡ false → outcome_of mid second ≡ o
       → step mid second
-      ≡ record { parents = mid.parents; outcomes = set mid.outcomes (nextSlot log y.replica) o; placed = mid.placed }
-  y-passed o ne e = passed_over mid now-time (op_of log y) op-y.moves o ne e ∙ rw op-y.slot_is
+      ≡ record { parents = mid.parents; outcomes = set mid.outcomes (next_slot log y.replica) o; placed = mid.placed }
+  y_passed o ne e = passed_over mid now_time (op_of log y) op_y.moves o ne e ∙ rw op_y.slot_is
 
   -- 2 if they take the same node
-  y-same : x.node ≡ y.node → outcomeOf mid second ≡ 2
-  y-same e =
-      let in_table = slot-below x.node (valid-node log x ax) in
-      placed-already mid now-time (op_of log y) op-y.moves (rw (op-y.node-is, ← e)
-      (get_or-set_same before.placed (slot_of x.node) now-time 0 (omega (arith, (tables-full log (countsOf log)).placed-full))))
+  y_same : x.node ≡ y.node → outcome_of mid second ≡ 2
+  y_same e =
+      let in_table = slot_below x.node (valid_node log x ax) in
+      placed_already mid now_time (op_of log y) op_y.moves (rw (op_y.node_is, ← e)
+      (get_or-set_same before.placed (slot_of x.node) now_time 0 (omega (arith, (tables_full log (counts_of log)).placed_full))))
 
   -- 3 if they close a circle
-  y-circle : (x.node ≡ y.node → ⊥) → circle (parentsOf log) x y ≡ true → outcomeOf mid second ≡ 3
-  y-circle ne c =
-      let vx = valid-node log x ax in
-      let vy = valid-node log y ay in
-      blocked mid now-time (op_of log y) op-y.moves
+  y_circle : (x.node ≡ y.node → ⊥) → circle (parents_of log) x y ≡ true → outcome_of mid second ≡ 3
+  y_circle ne c =
+      let vx = valid_node log x ax in
+      let vy = valid_node log y ay in
+      blocked mid now_time (op_of log y) op_y.moves
       (λ e.
-      let here = rw op-y.node-is at e in
-      let there = get_or-set_other before.placed (slot_of x.node) (slot_of y.node) now-time 0
-      (λ q. ne (slot-injective x.node y.node vx vy (sym q))) in
-      omega (arith, placed-before (slot_of y.node)))
-      (rw (op-y.node-is, op-y.parent_is) (y-blocked log good x y ax ay c))
+      let here = rw op_y.node_is at e in
+      let there = get_or-set_other before.placed (slot_of x.node) (slot_of y.node) now_time 0
+      (λ q. ne (slot_injective x.node y.node vx vy (sym q))) in
+      omega (arith, placed_before (slot_of y.node)))
+      (rw (op_y.node_is, op_y.parent_is) (y_blocked log good x y ax ay c))
 
-  y-outcome : clash (parentsOf log) x y ≡ true → outcomeOf mid second ≡ cond (eqb x.node y.node) 2 3
+  y_outcome : clash (parents_of log) x y ≡ true → outcome_of mid second ≡ cond (eqb x.node y.node) 2 3
   unfolding clash
-  y-outcome c = elim (ℕ_discrete x.node y.node) [
-    | yes e ↦ rw (eq-eqb _ _ e) (y-same e)
-    | no ne ↦ rw (ne_eqb _ _ ne) (y-circle ne (rw (ne_eqb _ _ ne) at c))
+  y_outcome c = elim (ℕ_discrete x.node y.node) [
+    | yes e ↦ rw (eq-eqb _ _ e) (y_same e)
+    | no ne ↦ rw (ne_eqb _ _ ne) (y_circle ne (rw (ne_eqb _ _ ne) at c))
   ]
 
-  slots_apart : nextSlot log x.replica ≡ nextSlot log y.replica → ⊥
-  unfolding nextSlot slot
+  slots_apart : next_slot log x.replica ≡ next_slot log y.replica → ⊥
+  unfolding next_slot slot
   slots_apart e = apart (omega (arith, ax.low, ax.count, ay.low, ay.count))
 
-  x-wins : beats (parentsOf log) x y ≡ true → clash (parentsOf log) x y ≡ true → Wins log more x y
-  unfolding parentsOf outcomesOf
-  x-wins wins c =
-      let at_x : ℕ = nextSlot log x.replica in
-      let at_y : ℕ = nextSlot log y.replica in
+  x_wins : beats (parents_of log) x y ≡ true → clash (parents_of log) x y ≡ true → Wins log more x y
+  unfolding parents_of outcomes_of
+  x_wins wins c =
+      let at_x : ℕ = next_slot log x.replica in
+      let at_y : ℕ = next_slot log y.replica in
       let lost : ℕ = cond (eqb x.node y.node) 2 3 in
-      let full : length (outcomesOf log) ≡ slots = (tables-full log (countsOf log)).outcomes-full in
-      let still_full = length-set (outcomesOf log) at_x 1 in
-      let end = replayed wins ∙ ap (λ st. step st second) x-applied ∙ y-passed lost (not-one (eqb x.node y.node)) (y-outcome c) in
-      let outcomes : outcomesOf more ≡ set mid.outcomes at_y lost = ap (λ (st : State). st.outcomes) end in
+      let full : length (outcomes_of log) ≡ slots = (tables_full log (counts_of log)).outcomes_full in
+      let still_full = length-set (outcomes_of log) at_x 1 in
+      let end = replayed wins ∙ ap (λ st. step st second) x_applied ∙ y_passed lost (not_one (eqb x.node y.node)) (y_outcome c) in
+      let outcomes : outcomes_of more ≡ set mid.outcomes at_y lost = ap (λ (st : State). st.outcomes) end in
       record {
         winner = ap (λ t. get_or t at_x 0) outcomes ∙ get_or-set_other mid.outcomes at_y at_x lost 0 slots_apart
-            ∙ get_or-set_same (outcomesOf log) at_x 1 0 (omega (arith, slot-in log x ax));
-        loser = ap (λ t. get_or t at_y 0) outcomes ∙ get_or-set_same mid.outcomes at_y lost 0 (omega (arith, slot-in log y ay));
+            ∙ get_or-set_same (outcomes_of log) at_x 1 0 (omega (arith, slot_in log x ax));
+        loser = ap (λ t. get_or t at_y 0) outcomes ∙ get_or-set_same mid.outcomes at_y lost 0 (omega (arith, slot_in log y ay));
         tree = ap (λ (st : State). st.parents) end;
       }
     where
-      not-one : (b : Bool) → eqb (cond b 2 3) 1 ≡ false
-      not-one true = refl
-      not-one false = refl
+      not_one : (b : Bool) → eqb (cond b 2 3) 1 ≡ false
+      not_one true = refl
+      not_one false = refl
 
 -- who does not beat the other is beaten
 beaten : (log : Log) (x y : Move) → (x.replica ≡ y.replica → ⊥)
-    → beats (parentsOf log) x y ≡ false → beats (parentsOf log) y x ≡ true
-unfolding beats moveKind
+    → beats (parents_of log) x y ≡ false → beats (parents_of log) y x ≡ true
+unfolding beats move_kind
 beaten log x y apart e = go (upward log x) (upward log y) e
   where
     higher : ltb y.replica x.replica ≡ false → ltb x.replica y.replica ≡ true
@@ -199,9 +199,9 @@ beaten log x y apart e = go (upward log x) (upward log y) e
     go false true e = refl
     go false false e = higher e
 
-clash-back : (parents : List ℕ) (x y : Move) → clash parents x y ≡ true → clash parents y x ≡ true
+clash_back : (parents : List ℕ) (x y : Move) → clash parents x y ≡ true → clash parents y x ≡ true
 unfolding clash circle
-clash-back parents x y c = elim (ℕ_discrete x.node y.node) [
+clash_back parents x y c = elim (ℕ_discrete x.node y.node) [
   | yes e ↦ rw (eq-eqb y.node x.node (sym e))
   | no ne ↦
       let h = simp and-eq-true_iff at (rw (ne_eqb _ _ ne) at c) in
@@ -210,8 +210,8 @@ clash-back parents x y c = elim (ℕ_discrete x.node y.node) [
 
 ---- both are held
 
-apart-back : (x y : Move) → (x.replica ≡ y.replica → ⊥) → y.replica ≡ x.replica → ⊥
-apart-back x y apart e = apart (sym e)
+apart_back : (x y : Move) → (x.replica ≡ y.replica → ⊥) → y.replica ≡ x.replica → ⊥
+apart_back x y apart e = apart (sym e)
 
 module _ (log more : Log) (good : GoodLog log) (Good-more : GoodLog more) (x y : Move) (apart : x.replica ≡ y.replica → ⊥)
     (ops : (z : Op) → has (concat more) z ≡ has (op_of log x ∷ op_of log y ∷ concat log) z) where
@@ -227,37 +227,37 @@ module _ (log more : Log) (good : GoodLog log) (Good-more : GoodLog more) (x y :
   one_of_two : (z : Op) → has two z ≡ true → (z ≡ rx) ⊎ (z ≡ ry)
   one_of_two z h = ⊎_elim
       (λ (e : z ≡ rx). inl e)
-      (λ (e : has (ry ∷ []) z ≡ true). ⊎_elim (λ (q : z ≡ ry). inr q) (λ q. has-none z q) (has-cases ry [] z e))
-      (has-cases rx (ry ∷ []) z h)
+      (λ (e : has (ry ∷ []) z ≡ true). ⊎_elim (λ (q : z ≡ ry). inr q) (λ q. has_none z q) (has_cases ry [] z e))
+      (has_cases rx (ry ∷ []) z h)
 
   module _ (dx : Drawn log x) (dy : Drawn log y) where
-    alone-x : (z : Op) → has two z ≡ true → replicaOf z ≡ x.replica → z ≡ rx
-    alone-x z h e = ⊎_elim
-        (λ (q : z ≡ rx). q) (λ (q : z ≡ ry). absurd (apart (sym e ∙ ap replicaOf q ∙ dy.origin))) (one_of_two z h)
+    alone_x : (z : Op) → has two z ≡ true → replica_of z ≡ x.replica → z ≡ rx
+    alone_x z h e = ⊎_elim
+        (λ (q : z ≡ rx). q) (λ (q : z ≡ ry). absurd (apart (sym e ∙ ap replica_of q ∙ dy.origin))) (one_of_two z h)
 
-    alone-y : (z : Op) → has two z ≡ true → replicaOf z ≡ y.replica → z ≡ ry
-    alone-y z h e = ⊎_elim
-        (λ (q : z ≡ rx). absurd (apart (sym (ap replicaOf q ∙ dx.origin) ∙ e))) (λ (q : z ≡ ry). q) (one_of_two z h)
+    alone_y : (z : Op) → has two z ≡ true → replica_of z ≡ y.replica → z ≡ ry
+    alone_y z h e = ⊎_elim
+        (λ (q : z ≡ rx). absurd (apart (sym (ap replica_of q ∙ dx.origin) ∙ e))) (λ (q : z ≡ ry). q) (one_of_two z h)
 
-    both-held : Both log more x y
-    both-held =
-        let first = has-head rx (ry ∷ []) in
-        let second = has-tail rx (ry ∷ []) ry (has-head ry []) in
+    both_held : Both log more x y
+    both_held =
+        let first = has_head rx (ry ∷ []) in
+        let second = has_tail rx (ry ∷ []) ry (has_head ry []) in
         record {
           late = record {
-            extends = new-extends log more good Good-more two ops;
+            extends = new_extends log more good Good-more two ops;
             vector = λ s q l u lo hi. ⊎_elim (λ e. rw e dx.vector) (λ e. rw e dy.vector)
-                (one_of_two _ (one-of-new log more good Good-more two ops s q l u lo hi));
+                (one_of_two _ (one_of_new log more good Good-more two ops s q l u lo hi));
           };
           good = Good-more;
-          count-x = new-count log more good Good-more two ops _ rx first dx.origin dx.next alone-x;
-          count-y = new-count log more good Good-more two ops _ ry second dy.origin dy.next alone-y;
-          rest = λ s l u ne ne'. none-new log more good Good-more two ops s l u (λ z h e. ⊎_elim
-              (λ (q : z ≡ rx). ne (sym e ∙ ap replicaOf q ∙ dx.origin))
-              (λ (q : z ≡ ry). ne' (sym e ∙ ap replicaOf q ∙ dy.origin))
+          count_x = new_count log more good Good-more two ops _ rx first dx.origin dx.next alone_x;
+          count_y = new_count log more good Good-more two ops _ ry second dy.origin dy.next alone_y;
+          rest = λ s l u ne ne'. none_new log more good Good-more two ops s l u (λ z h e. ⊎_elim
+              (λ (q : z ≡ rx). ne (sym e ∙ ap replica_of q ∙ dx.origin))
+              (λ (q : z ≡ ry). ne' (sym e ∙ ap replica_of q ∙ dy.origin))
               (one_of_two z h));
-          op-x = new-op log more good Good-more two ops _ rx first dx.origin dx.next;
-          op-y = new-op log more good Good-more two ops _ ry second dy.origin dy.next;
+          op_x = new_op_law log more good Good-more two ops _ rx first dx.origin dx.next;
+          op_y = new_op_law log more good Good-more two ops _ ry second dy.origin dy.next;
         }
 
 ---- from the calls
@@ -265,16 +265,16 @@ module _ (log more : Log) (good : GoodLog log) (Good-more : GoodLog more) (x y :
 -- what two accepted issues say
 module _ (f g out out' : List ℕ) (x y : Move) (both : BothIssued f g out out' x y) where
   abbrev log : Log
-  log = logOf width f
+  log = log_of width f
 
   abbrev putx : Op
-  putx = putOut f out x
+  putx = put_out f out x
 
   abbrev puty : Op
-  puty = putOut g out' y
+  puty = put_out g out' y
 
   good : GoodLog log
-  good = sound-good width f (allowed width f (length out) x.replica (request x) both.end both.first).is-sound
+  good = sound_good width f (allowed width f (length out) x.replica (request x) both.end both.first).is_sound_so
 
   ax : Asked log x
   ax = asked width f (length out) both.end x (allowed width f (length out) x.replica (request x) both.end both.first)
@@ -282,68 +282,68 @@ module _ (f g out out' : List ℕ) (x y : Move) (both : BothIssued f g out out' 
   ay : Asked log y
   ay =
       let a = allowed width g (length out') y.replica (request y) both.end' both.second in
-      rw both.one-log at (asked width g (length out') both.end' y a)
+      rw both.one_log at (asked width g (length out') both.end' y a)
 
-  put-x : putx ≡ op_of log x
-  put-x = put-out f out x.replica (request x) both.end both.first
+  put_x : putx ≡ op_of log x
+  put_x = put_out_law f out x.replica (request x) both.end both.first
 
-  put-y : puty ≡ op_of log y
-  put-y = rw both.one-log at (put-out g out' y.replica (request y) both.end' both.second)
+  put_y : puty ≡ op_of log y
+  put_y = rw both.one_log at (put_out_law g out' y.replica (request y) both.end' both.second)
 
-  back-x : NextOp log x.replica putx
-  back-x = put-out-next f out x.replica (request x) both.end both.first
+  back_x : NextOp log x.replica putx
+  back_x = put_out_next f out x.replica (request x) both.end both.first
 
-  back-y : NextOp log y.replica puty
-  back-y = rw both.one-log at (put-out-next g out' y.replica (request y) both.end' both.second)
+  back_y : NextOp log y.replica puty
+  back_y = rw both.one_log at (put_out_next g out' y.replica (request y) both.end' both.second)
 
   differ_back : y.replica ≡ x.replica → ⊥
-  differ_back = apart-back x y both.replicas-differ
+  differ_back = apart_back x y both.replicas_differ
 
-  module _ (h : List ℕ) (added : OnlyAdded f h (putx ∷ puty ∷ [])) (c : clash (parentsOf log) x y ≡ true) where
+  module _ (h : List ℕ) (added : OnlyAdded f h (putx ∷ puty ∷ [])) (c : clash (parents_of log) x y ≡ true) where
     abbrev more : Log
-    more = logOf width h
+    more = log_of width h
 
     held : Both log more x y
     held =
-        both-held log more good (sound-good width h added.is-sound) x y both.replicas-differ (rw (put-x, put-y) at added.ops)
+        both_held log more good (sound_good width h added.is_sound_so) x y both.replicas_differ (rw (put_x, put_y) at added.ops)
         (drawn log good x) (drawn log good y)
 
-    decided : (beats (parentsOf log) x y ≡ true → Wins log more x y) × (beats (parentsOf log) x y ≡ false → Wins log more y x)
+    decided : (beats (parents_of log) x y ≡ true → Wins log more x y) × (beats (parents_of log) x y ≡ false → Wins log more y x)
     decided = (
-      λ w. x-wins log more good x y ax ay held both.replicas-differ w c,
-      λ w. x-wins log more good y x ay ax (swap log more x y held) differ_back
-          (beaten log x y both.replicas-differ w) (clash-back (parentsOf log) x y c),
+      λ w. x_wins log more good x y ax ay held both.replicas_differ w c,
+      λ w. x_wins log more good y x ay ax (swap log more x y held) differ_back
+          (beaten log x y both.replicas_differ w) (clash_back (parents_of log) x y c),
     )
 
-  module _ (b : List ℕ) (is-sound : sound width b ≡ true) (one-log : logOf width b ≡ log)
-      (fits : fileEnd width b + 2 * width ≤ length b) where
-    room : fileEnd width b + width ≤ length b
+  module _ (b : List ℕ) (is_sound_so : sound width b ≡ true) (one_log : log_of width b ≡ log)
+      (fits : file_end width b + 2 * width ≤ length b) where
+    room : file_end width b + width ≤ length b
     room = omega arith
 
-    x-then-y : (one : Call) → AddsOp b putx one → Arrives f b putx puty one (deliver puty)
-    x-then-y one adds =
-        arrives f good _ _ putx puty back-x back-y ay.low both.replicas-differ b one-log one adds fits
+    x_then_y : (one : Call) → AddsOp b putx one → Arrives f b putx puty one (deliver puty)
+    x_then_y one adds =
+        arrives f good _ _ putx puty back_x back_y ay.low both.replicas_differ b one_log one adds fits
 
-    y-then-x : (one : Call) → AddsOp b puty one → Arrives f b putx puty one (deliver putx)
-    y-then-x one adds =
+    y_then_x : (one : Call) → AddsOp b puty one → Arrives f b putx puty one (deliver putx)
+    y_then_x one adds =
         arrives_back f b putx puty one (deliver putx)
-        (arrives f good _ _ puty putx back-y back-x ax.low differ_back b one-log one adds fits)
+        (arrives f good _ _ puty putx back_y back_x ax.low differ_back b one_log one adds fits)
 
     arrivals : Arrivals f b out out' x y putx puty
     arrivals = record {
-      x-issued = x-then-y _ (rw put-x (issue-adds f b out x.replica (request x) both.end both.first is-sound one-log room));
-      y-issued = y-then-x _ (rw (put-out g out' y.replica (request y) both.end' both.second)
-          (issue-adds g b out' y.replica (request y) both.end' both.second is-sound (one-log ∙ sym both.one-log) room));
-      x-first = x-then-y _ (op-adds f b x.replica putx back-x is-sound one-log room);
-      y-first = y-then-x _ (op-adds f b y.replica puty back-y is-sound one-log room);
+      x_issued = x_then_y _ (rw put_x (issue_adds f b out x.replica (request x) both.end both.first is_sound_so one_log room));
+      y_issued = y_then_x _ (rw (put_out_law g out' y.replica (request y) both.end' both.second)
+          (issue_adds g b out' y.replica (request y) both.end' both.second is_sound_so (one_log ∙ sym both.one_log) room));
+      x_first = x_then_y _ (op_adds f b x.replica putx back_x is_sound_so one_log room);
+      y_first = y_then_x _ (op_adds f b y.replica puty back_y is_sound_so one_log room);
     }
 
-pub clash-decided : ClashDecided
-clash-decided f g out out' x y both h added c = decided f g out out' x y both h added c
+pub clash_decided : ClashDecided
+clash_decided f g out out' x y both h added c = decided f g out out' x y both h added c
 
-pub both-arrive : BothArrive
-both-arrive f g out out' x y both b is-sound one-log fits = arrivals f g out out' x y both b is-sound one-log fits
+pub both_arrive : BothArrive
+both_arrive f g out out' x y both b is_sound_so one_log fits = arrivals f g out out' x y both b is_sound_so one_log fits
 
-pub circle-cuts-off : CircleCutsOff
-circle-cuts-off f g out out' x y both =
-    circle-is (log f g out out' x y both) (good f g out out' x y both) x y (ax f g out out' x y both) (ay f g out out' x y both)
+pub circle_cuts_off : CircleCutsOff
+circle_cuts_off f g out out' x y both =
+    circle_is (log f g out out' x y both) (good f g out out' x y both) x y (ax f g out out' x y both) (ay f g out out' x y both)

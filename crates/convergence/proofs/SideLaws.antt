@@ -6,12 +6,12 @@ use Prim.Native.Nat.{◌+◌}
 use native.Mathlib.Nat.{add_comm}
 use lib.ListN.{length, length-append}
 use Rattle.rules.specs.Op.{Op}
-use Rattle.rules.specs.Deliver.{deliverBuffer}
-use Rattle.convergence.specs.Exchange.{Site, answer, bufferAfter, begun, added, perform, Side, left, right, other, isSide, Pair, missing, Offer, answerTo, offered, after, Answered, answers, acceptances, acceptedBy, onlyIn}
-use Rattle.rules.specs.Answer.{Answer, refused, hadIt, accepted, ifAccepted, waiting, done}
+use Rattle.rules.specs.Deliver.{deliver_buffer}
+use Rattle.convergence.specs.Exchange.{Site, answer, buffer_after, begun, added, perform, Side, left, right, other, is_side, Pair, missing, Offer, answer_to, offered, after, Answered, answers, acceptances, accepted_by, only_in}
+use Rattle.rules.specs.Answer.{Answer, refused, had_it, accepted, if_accepted, waiting, done}
 use Rattle.rules.specs.File.{appended, width}
 use Rattle.lists.proofs.BoolLaws.{never}
-use Rattle.lists.proofs.FilterLaws.{filter-append}
+use Rattle.lists.proofs.FilterLaws.{filter_append}
 
 -- a fact of a side and of the other one
 pub both : (t : Side) (P : Side → Type 0) → P t → P (other t) → (d : Side) → P d
@@ -21,76 +21,76 @@ both left P a b right = b
 both right P a b left = b
 both right P a b right = a
 
-pub side-self : (t : Side) → isSide t t ≡ true
-unfolding isSide
-side-self left = refl
-side-self right = refl
+pub side_self : (t : Side) → is_side t t ≡ true
+unfolding is_side
+side_self left = refl
+side_self right = refl
 
-pub side-other : (t : Side) → isSide (other t) t ≡ false
-unfolding isSide other
-side-other left = refl
-side-other right = refl
+pub side_other : (t : Side) → is_side (other t) t ≡ false
+unfolding is_side other
+side_other left = refl
+side_other right = refl
 
-pub side-eq : (d t : Side) → isSide d t ≡ true → d ≡ t
-unfolding isSide
-side-eq left left e = refl
-side-eq left right e = never e
-side-eq right left e = never e
-side-eq right right e = refl
+pub side_eq : (d t : Side) → is_side d t ≡ true → d ≡ t
+unfolding is_side
+side_eq left left e = refl
+side_eq left right e = never e
+side_eq right left e = never e
+side_eq right right e = refl
 
-pub missing-from : (p : Pair) (d : Side) → length (missing p) ≡ length (onlyIn (p d).held (p (other d)).held) + length
-    (onlyIn (p (other d)).held (p d).held)
+pub missing_from : (p : Pair) (d : Side) → length (missing p) ≡ length (only_in (p d).held (p (other d)).held) + length
+    (only_in (p (other d)).held (p d).held)
 unfolding missing other
-missing-from p left = length-append (onlyIn (p left).held (p right).held) (onlyIn (p right).held (p left).held)
-missing-from p right = length-append (onlyIn (p left).held (p right).held) (onlyIn (p right).held (p left).held)
-    ∙ add_comm (length (onlyIn (p left).held (p right).held)) (length (onlyIn (p right).held (p left).held))
+missing_from p left = length-append (only_in (p left).held (p right).held) (only_in (p right).held (p left).held)
+missing_from p right = length-append (only_in (p left).held (p right).held) (only_in (p right).held (p left).held)
+    ∙ add_comm (length (only_in (p left).held (p right).held)) (length (only_in (p right).held (p left).held))
 
 ---- one offer
 
 -- a delivery that is answered a
 unfoldable pub delivered : Site → Op → Answer → Site
 delivered x r a = record {
-  buffer = ifAccepted a (appended width x.buffer r) x.buffer;
-  held = ifAccepted a (x.held ++ (r ∷ []))
+  buffer = if_accepted a (appended width x.buffer r) x.buffer;
+  held = if_accepted a (x.held ++ (r ∷ []))
       x.held;
 }
 
 module _ (p : Pair) (o : Offer) where
-  pub offered-to : offered p o o.to ≡ delivered (p o.to) o.op (answerTo p o)
-  unfolding offered perform bufferAfter answer begun added answerTo deliverBuffer delivered
-  offered-to = rw (side-self o.to)
+  pub offered_to : offered p o o.to ≡ delivered (p o.to) o.op (answer_to p o)
+  unfolding offered perform buffer_after answer begun added answer_to deliver_buffer delivered
+  offered_to = rw (side_self o.to)
 
-  pub offered-other : offered p o (other o.to) ≡ p (other o.to)
+  pub offered_other : offered p o (other o.to) ≡ p (other o.to)
   unfolding offered
-  offered-other = rw (side-other o.to)
+  offered_other = rw (side_other o.to)
 
   -- an offer that is not accepted changes nothing
-  pub offered-same : ifAccepted (answerTo p o) true false ≡ false → (d : Side) → offered p o d ≡ p d
+  pub offered_same : if_accepted (answer_to p o) true false ≡ false → (d : Side) → offered p o d ≡ p d
   unfolding delivered
-  offered-same h = both o.to (λ d. offered p o d ≡ p d) (offered-to ∙ go (answerTo p o) h) offered-other
+  offered_same h = both o.to (λ d. offered p o d ≡ p d) (offered_to ∙ go (answer_to p o) h) offered_other
     where
-      go : (a : Answer) → ifAccepted a true false ≡ false → delivered (p o.to) o.op a ≡ p o.to
+      go : (a : Answer) → if_accepted a true false ≡ false → delivered (p o.to) o.op a ≡ p o.to
       go (refused n) e = refl
-      go hadIt e = refl
+      go had_it e = refl
       go waiting e = refl
       go done e = refl
       go (accepted n) e = never (sym e)
 
 ---- one after another
 
-pub answers-append : (a b : List Offer) (p : Pair) → answers p (a ++ b) ≡ answers p a ++ answers (after p a) b
+pub answers_append : (a b : List Offer) (p : Pair) → answers p (a ++ b) ≡ answers p a ++ answers (after p a) b
 unfolding answers after
-answers-append [] b p = refl
-answers-append (o ∷ a) b p = rw (answers-append a b (offered p o))
+answers_append [] b p = refl
+answers_append (o ∷ a) b p = rw (answers_append a b (offered p o))
 
-pub after-append : (a b : List Offer) (p : Pair) → after p (a ++ b) ≡ after (after p a) b
+pub after_append : (a b : List Offer) (p : Pair) → after p (a ++ b) ≡ after (after p a) b
 unfolding after
-after-append a b p = foldl-append offered p a b
+after_append a b p = foldl-append offered p a b
 
-pub acceptedBy-append : (d : Side) (a b : List Answered) → acceptedBy d (a ++ b) ≡ acceptedBy d a ++ acceptedBy d b
-unfolding acceptedBy acceptances
-acceptedBy-append d a b = simp (filter-append, map-append)
+pub accepted_by_append : (d : Side) (a b : List Answered) → accepted_by d (a ++ b) ≡ accepted_by d a ++ accepted_by d b
+unfolding accepted_by acceptances
+accepted_by_append d a b = simp (filter_append, map-append)
 
-pub acceptances-append : (a b : List Answered) → length (acceptances (a ++ b)) ≡ length (acceptances a) + length (acceptances b)
+pub acceptances_append : (a b : List Answered) → length (acceptances (a ++ b)) ≡ length (acceptances a) + length (acceptances b)
 unfolding acceptances
-acceptances-append a b = simp (filter-append, length-append)
+acceptances_append a b = simp (filter_append, length-append)

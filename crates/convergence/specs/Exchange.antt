@@ -2,14 +2,14 @@
 -- and what is missing (the document's lacking).
 use Rattle.std.specs.Prelude.{ℕ, ◌≡◌, Bool, true, false, cond, ◌&&◌, not, length, take, drop, eqb}
 use mathlib.Core.List.{List, [], ◌∷◌, ◌++◌, map, foldl}
-use Rattle.rules.specs.Answer.{Answer, accepted, ifAccepted}
+use Rattle.rules.specs.Answer.{Answer, accepted, if_accepted}
 use Rattle.lists.specs.Lists.{up_from, same, concat, any, filter}
-use Rattle.rules.specs.Op.{Op, replicas, replicaOf, seqOf}
-use Rattle.rules.specs.File.{Log, width, fileEnd, fileOf, chunks}
-use Rattle.rules.specs.Deliver.{makeAnswer, makeBuffer, deliverAnswer, deliverBuffer}
-use Rattle.rules.specs.Issue.{Request, issueAnswer, issueBuffer, issueOut}
-use Rattle.rules.specs.Bundle.{bodiesIn, turnsTaken, openAnswer, openBuffer}
-use Rattle.rules.specs.Holdback.{holdbackAnswer, holdbackBuffer, holdbackAfter, holdbackTaken}
+use Rattle.rules.specs.Op.{Op, replicas, replica_of, seq_of}
+use Rattle.rules.specs.File.{Log, width, file_end, file_of, chunks}
+use Rattle.rules.specs.Deliver.{make_answer, make_buffer, deliver_answer, deliver_buffer}
+use Rattle.rules.specs.Issue.{Request, issue_answer, issue_buffer, issue_out}
+use Rattle.rules.specs.Bundle.{bodies_in, turns_taken, open_answer, open_buffer}
+use Rattle.rules.specs.Holdback.{holdback_answer, holdback_buffer, holdback_after, holdback_taken}
 use Rattle.page_rules.specs.Page.{Page, page}
 use Rattle.page_rules.specs.Page as pages
 use Rattle.batch_rules.specs.Batch as batches
@@ -22,11 +22,11 @@ pub data Call : Type 0 where
   make : Call
   issue : (out : List ℕ) (replica : ℕ) → Request → Call
   deliver : (op : List ℕ) → Call
-  openBundle : (bundle : List ℕ) → Call
-  deliverHoldback : (op holdback : List ℕ) → Call
-  deliverPage : (op : List ℕ) (lent : Page) → Call
-  issuePage : (out : List ℕ) (replica : ℕ) → Request → (lent : Page) → Call
-  issueMoves : (out : List ℕ) (replica : ℕ) (nodes : List ℕ) (parent : ℕ) → Call
+  open_bundle : (bundle : List ℕ) → Call
+  deliver_holdback : (op holdback : List ℕ) → Call
+  deliver_page : (op : List ℕ) (lent : Page) → Call
+  issue_page : (out : List ℕ) (replica : ℕ) → Request → (lent : Page) → Call
+  issue_moves : (out : List ℕ) (replica : ℕ) (nodes : List ℕ) (parent : ℕ) → Call
 
 -- a buffer, and the ops held there, in the order in which they were accepted
 pub record Site : Type 0 where
@@ -34,35 +34,35 @@ pub record Site : Type 0 where
   pub held : List Op
 
 unfoldable pub answer : List ℕ → Call → Answer
-answer f make = makeAnswer f
-answer f (issue out s q) = issueAnswer width f (length out) s q
-answer f (deliver r) = deliverAnswer width f r
-answer f (openBundle b) = openAnswer width f b
-answer f (deliverHoldback r h) = holdbackAnswer width f r h
-answer f (deliverPage r p) = (pages.deliverPage width f r p).answer
-answer f (issuePage out s q p) = (pages.issuePage width f out s q p).answer
-answer f (issueMoves out s ns p) = (batches.issueMoves width f out s ns p).answer
+answer f make = make_answer f
+answer f (issue out s q) = issue_answer width f (length out) s q
+answer f (deliver r) = deliver_answer width f r
+answer f (open_bundle b) = open_answer width f b
+answer f (deliver_holdback r h) = holdback_answer width f r h
+answer f (deliver_page r p) = (pages.deliver_page width f r p).answer
+answer f (issue_page out s q p) = (pages.issue_page width f out s q p).answer
+answer f (issue_moves out s ns p) = (batches.issue_moves width f out s ns p).answer
 
-unfoldable pub bufferAfter : List ℕ → Call → List ℕ
-bufferAfter f make = makeBuffer width f
-bufferAfter f (issue out s q) = issueBuffer width f (length out) s q
-bufferAfter f (deliver r) = deliverBuffer width f r
-bufferAfter f (openBundle b) = openBuffer width f b
-bufferAfter f (deliverHoldback r h) = holdbackBuffer width f r h
-bufferAfter f (deliverPage r p) = (pages.deliverPage width f r p).buffer
-bufferAfter f (issuePage out s q p) = (pages.issuePage width f out s q p).buffer
-bufferAfter f (issueMoves out s ns p) = (batches.issueMoves width f out s ns p).buffer
+unfoldable pub buffer_after : List ℕ → Call → List ℕ
+buffer_after f make = make_buffer width f
+buffer_after f (issue out s q) = issue_buffer width f (length out) s q
+buffer_after f (deliver r) = deliver_buffer width f r
+buffer_after f (open_bundle b) = open_buffer width f b
+buffer_after f (deliver_holdback r h) = holdback_buffer width f r h
+buffer_after f (deliver_page r p) = (pages.deliver_page width f r p).buffer
+buffer_after f (issue_page out s q p) = (pages.issue_page width f out s q p).buffer
+buffer_after f (issue_moves out s ns p) = (batches.issue_moves width f out s ns p).buffer
 
 -- what an accepted call adds to: making begins with nothing held, every other call with what there was
 unfoldable pub begun : Site → Call → Site
-begun x make = record { buffer = makeBuffer width x.buffer; held = [] }
+begun x make = record { buffer = make_buffer width x.buffer; held = [] }
 begun x (issue out s q) = x
 begun x (deliver r) = x
-begun x (openBundle b) = x
-begun x (deliverHoldback r h) = x
-begun x (deliverPage r p) = x
-begun x (issuePage out s q p) = x
-begun x (issueMoves out s ns p) = x
+begun x (open_bundle b) = x
+begun x (deliver_holdback r h) = x
+begun x (deliver_page r p) = x
+begun x (issue_page out s q p) = x
+begun x (issue_moves out s ns p) = x
 
 -- the ops that an accepted call adds, in this order: the one that issuing put in the first lent bytes; the one that was delivered; the
 -- bodies of a bundle but those that are passed by; the one that was delivered with a holdback, and those that the search finds there,
@@ -70,24 +70,24 @@ begun x (issueMoves out s ns p) = x
 -- the other
 unfoldable pub added : List ℕ → Call → List Op
 added f make = []
-added f (issue out s q) = take width (issueOut width f out s q) ∷ []
+added f (issue out s q) = take width (issue_out width f out s q) ∷ []
 added f (deliver r) = r ∷ []
-added f (openBundle b) = turnsTaken width f (bodiesIn width b)
-added f (deliverHoldback r h) = holdbackTaken width f r h
-added f (deliverPage r p) = r ∷ []
-added f (issuePage out s q p) = take width (pages.issuePage width f out s q p).out ∷ []
-added f (issueMoves out s ns p) = chunks width (length ns) (batches.issueMoves width f out s ns p).out
+added f (open_bundle b) = turns_taken width f (bodies_in width b)
+added f (deliver_holdback r h) = holdback_taken width f r h
+added f (deliver_page r p) = r ∷ []
+added f (issue_page out s q p) = take width (pages.issue_page width f out s q p).out ∷ []
+added f (issue_moves out s ns p) = chunks width (length ns) (batches.issue_moves width f out s ns p).out
 
 unfoldable pub perform : Site → Call → Site
 perform x c = record {
-  buffer = bufferAfter x.buffer c;
-  held = ifAccepted (answer x.buffer c) ((begun x c).held ++ added x.buffer c) x.held;
+  buffer = buffer_after x.buffer c;
+  held = if_accepted (answer x.buffer c) ((begun x c).held ++ added x.buffer c) x.held;
 }
 
 -- delivering these ops in turn to the buffer f, each being accepted, leaves the buffer g
 abbrev pub Adds : List ℕ → List Op → List ℕ → Type 0
 Adds f [] g = g ≡ f
-Adds f (r ∷ rs) g = (n : ℕ) × (deliverAnswer width f r ≡ accepted n) × Adds (deliverBuffer width f r) rs g
+Adds f (r ∷ rs) g = (n : ℕ) × (deliver_answer width f r ≡ accepted n) × Adds (deliver_buffer width f r) rs g
 
 -- a buffer that holds f, before the first call
 abbrev pub lent : List ℕ → Site
@@ -105,54 +105,54 @@ pub record Reply : Type 0 where
   pub out : List ℕ
   pub page : Page
 
-unfoldable pub outAfter : List ℕ → Call → List ℕ
-outAfter f make = []
-outAfter f (issue out s q) = issueOut width f out s q
-outAfter f (deliver r) = []
-outAfter f (openBundle b) = []
-outAfter f (deliverHoldback r h) = holdbackAfter width f r h
-outAfter f (deliverPage r p) = []
-outAfter f (issuePage out s q p) = (pages.issuePage width f out s q p).out
-outAfter f (issueMoves out s ns p) = (batches.issueMoves width f out s ns p).out
+unfoldable pub out_after : List ℕ → Call → List ℕ
+out_after f make = []
+out_after f (issue out s q) = issue_out width f out s q
+out_after f (deliver r) = []
+out_after f (open_bundle b) = []
+out_after f (deliver_holdback r h) = holdback_after width f r h
+out_after f (deliver_page r p) = []
+out_after f (issue_page out s q p) = (pages.issue_page width f out s q p).out
+out_after f (issue_moves out s ns p) = (batches.issue_moves width f out s ns p).out
 
-unfoldable pub takenBack : List ℕ → Call → ℕ
-takenBack f make = 0
-takenBack f (issue out s q) = 0
-takenBack f (deliver r) = 0
-takenBack f (openBundle b) = 0
-takenBack f (deliverHoldback r h) = 0
-takenBack f (deliverPage r p) = (pages.deliverPage width f r p).taken
-takenBack f (issuePage out s q p) = (pages.issuePage width f out s q p).taken
-takenBack f (issueMoves out s ns p) = 0
+unfoldable pub taken_back : List ℕ → Call → ℕ
+taken_back f make = 0
+taken_back f (issue out s q) = 0
+taken_back f (deliver r) = 0
+taken_back f (open_bundle b) = 0
+taken_back f (deliver_holdback r h) = 0
+taken_back f (deliver_page r p) = (pages.deliver_page width f r p).taken
+taken_back f (issue_page out s q p) = (pages.issue_page width f out s q p).taken
+taken_back f (issue_moves out s ns p) = 0
 
 -- no page was lent
-abbrev noPage : Page
-noPage = page [] [] []
+abbrev no_page : Page
+no_page = page [] [] []
 
-unfoldable pub pageAfter : List ℕ → Call → Page
-pageAfter f make = noPage
-pageAfter f (issue out s q) = noPage
-pageAfter f (deliver r) = noPage
-pageAfter f (openBundle b) = noPage
-pageAfter f (deliverHoldback r h) = noPage
-pageAfter f (deliverPage r p) = (pages.deliverPage width f r p).page
-pageAfter f (issuePage out s q p) = (pages.issuePage width f out s q p).page
-pageAfter f (issueMoves out s ns p) = noPage
+unfoldable pub page_after : List ℕ → Call → Page
+page_after f make = no_page
+page_after f (issue out s q) = no_page
+page_after f (deliver r) = no_page
+page_after f (open_bundle b) = no_page
+page_after f (deliver_holdback r h) = no_page
+page_after f (deliver_page r p) = (pages.deliver_page width f r p).page
+page_after f (issue_page out s q p) = (pages.issue_page width f out s q p).page
+page_after f (issue_moves out s ns p) = no_page
 
 unfoldable pub reply : List ℕ → Call → Reply
-reply f c = record { answer = answer f c; taken = takenBack f c; out = outAfter f c; page = pageAfter f c }
+reply f c = record { answer = answer f c; taken = taken_back f c; out = out_after f c; page = page_after f c }
 
 unfoldable pub replies : Site → List Call → List Reply
 replies x [] = []
 replies x (c ∷ calls) = reply x.buffer c ∷ replies (perform x c) calls
 
 -- the file at the front of a buffer
-unfoldable pub fileIn : Site → List ℕ
-fileIn x = take (fileEnd width x.buffer) x.buffer
+unfoldable pub file_in : Site → List ℕ
+file_in x = take (file_end width x.buffer) x.buffer
 
 -- the file with rest after it: where it was, or copied into another buffer
 unfoldable pub standing : Site → List ℕ → Site
-standing x rest = record { buffer = fileIn x ++ rest; held = x.held }
+standing x rest = record { buffer = file_in x ++ rest; held = x.held }
 
 ---- ops in a list of ops
 
@@ -165,21 +165,21 @@ times ops r = length (filter (same r) ops)
 -- an op of a replica and sequence that stand in both lists is the same in both
 abbrev pub Agreed : List Op → List Op → Type 0
 Agreed a b =
-    (r x : Op) → has a r ≡ true → has b x ≡ true → replicaOf r ≡ replicaOf x → seqOf r ≡ seqOf x → r ≡ x
+    (r x : Op) → has a r ≡ true → has b x ≡ true → replica_of r ≡ replica_of x → seq_of r ≡ seq_of x → r ≡ x
 
 -- ops as a log: for each replica, op 1, op 2 and so on, each once, in whatever order they come
-unfoldable pub opNumbered : List Op → ℕ → ℕ → List Op
-opNumbered ops s q = take 1 (filter (λ r. eqb (replicaOf r) s && eqb (seqOf r) q) ops)
+unfoldable pub op_numbered : List Op → ℕ → ℕ → List Op
+op_numbered ops s q = take 1 (filter (λ r. eqb (replica_of r) s && eqb (seq_of r) q) ops)
 
-unfoldable pub inOrder : List Op → ℕ → List Op
-inOrder ops s = concat (map (opNumbered ops s) (up_from 1 255))
+unfoldable pub in_order : List Op → ℕ → List Op
+in_order ops s = concat (map (op_numbered ops s) (up_from 1 255))
 
 unfoldable pub arrange : List Op → Log
-arrange ops = map (inOrder ops) replicas
+arrange ops = map (in_order ops) replicas
 
 -- a buffer with the file of these ops at its front; what lies past it is that of the buffer f
 unfoldable pub filed : List Op → List ℕ → List ℕ
-filed ops f = fileOf width (arrange ops) ++ drop (length (fileOf width (arrange ops))) f
+filed ops f = file_of width (arrange ops) ++ drop (length (file_of width (arrange ops))) f
 
 ---- two logs
 
@@ -191,22 +191,22 @@ unfoldable pub other : Side → Side
 other left = right
 other right = left
 
-unfoldable pub isSide : Side → Side → Bool
-isSide left left = true
-isSide left right = false
-isSide right left = false
-isSide right right = true
+unfoldable pub is_side : Side → Side → Bool
+is_side left left = true
+is_side left right = false
+is_side right left = false
+is_side right right = true
 
 abbrev pub Pair : Type 0
 Pair = Side → Site
 
 -- the ops of one list that are not in another
-unfoldable pub onlyIn : List Op → List Op → List Op
-onlyIn a b = filter (λ r. not (has b r)) a
+unfoldable pub only_in : List Op → List Op → List Op
+only_in a b = filter (λ r. not (has b r)) a
 
 -- "a record is lacking while only one collection holds it"
 unfoldable pub missing : Pair → List Op
-missing p = onlyIn (p left).held (p right).held ++ onlyIn (p right).held (p left).held
+missing p = only_in (p left).held (p right).held ++ only_in (p right).held (p left).held
 
 unfoldable pub everything : Pair → List Op
 everything p = (p left).held ++ (p right).held
@@ -221,11 +221,11 @@ abbrev pub Round : Type 0
 Round = List Offer
 
 -- an offer is a delivery at one side
-unfoldable pub answerTo : Pair → Offer → Answer
-answerTo p o = answer (p o.to).buffer (deliver o.op)
+unfoldable pub answer_to : Pair → Offer → Answer
+answer_to p o = answer (p o.to).buffer (deliver o.op)
 
 unfoldable pub offered : Pair → Offer → Pair
-offered p o d = cond (isSide d o.to) (perform (p d) (deliver o.op)) (p d)
+offered p o d = cond (is_side d o.to) (perform (p d) (deliver o.op)) (p d)
 
 unfoldable pub after : Pair → List Offer → Pair
 after p os = foldl offered p os
@@ -236,20 +236,20 @@ pub record Answered : Type 0 where
 
 unfoldable pub answers : Pair → List Offer → List Answered
 answers p [] = []
-answers p (o ∷ os) = record { offer = o; answered = answerTo p o } ∷ answers (offered p o) os
+answers p (o ∷ os) = record { offer = o; answered = answer_to p o } ∷ answers (offered p o) os
 
 unfoldable pub acceptances : List Answered → List Answered
-acceptances xs = filter (λ x. ifAccepted x.answered true false) xs
+acceptances xs = filter (λ x. if_accepted x.answered true false) xs
 
 -- the ops that a side accepted
-unfoldable pub acceptedBy : Side → List Answered → List Op
-acceptedBy d xs = map (λ x. x.offer.op) (filter (λ x. isSide d x.offer.to) (acceptances xs))
+unfoldable pub accepted_by : Side → List Answered → List Op
+accepted_by d xs = map (λ x. x.offer.op) (filter (λ x. is_side d x.offer.to) (acceptances xs))
 
 ---- rounds
 
 -- a round offers this op to this side
 unfoldable pub offers : Round → Side → Op → Bool
-offers os d r = any (λ o. isSide d o.to && same r o.op) os
+offers os d r = any (λ o. is_side d o.to && same r o.op) os
 
 -- to each side are offered exactly the ops that the other held when the round began; in any order, each once or more
 abbrev pub ValidRound : Pair → Round → Type 0

@@ -3,22 +3,22 @@ use Rattle.std.specs.Prelude.{ℕ, replicate, Bool, true, false, ◌||◌, List,
 use Rattle.std.specs.Int.Count.{ones, ones_in}
 use Rattle.std.proofs.Math.Bool.{or-true}
 use Rattle.std.proofs.Common.{arith}
-use Rattle.convergence.specs.Clash.{Move, circle, beats, putOut, BothIssued, OnlyAdded, Arrivals}
+use Rattle.convergence.specs.Clash.{Move, circle, beats, put_out, BothIssued, OnlyAdded, Arrivals}
 use Rattle.convergence.specs.Converges.{expected}
-use Rattle.convergence.specs.Exchange.{Side, Round, left, Offer, Pair, Call, issue, deliver, openBundle, run, right, make, missing, after, answers, acceptedBy, answer, answerTo, acceptances, isSide, arrange, inOrder, everything, other, perform, opNumbered, begun, added, has, onlyIn, bufferAfter, offered}
-use Rattle.rules.specs.Answer.{require, unlessRefused}
+use Rattle.convergence.specs.Exchange.{Side, Round, left, Offer, Pair, Call, issue, deliver, open_bundle, run, right, make, missing, after, answers, accepted_by, answer, answer_to, acceptances, is_side, arrange, in_order, everything, other, perform, op_numbered, begun, added, has, only_in, buffer_after, offered}
+use Rattle.rules.specs.Answer.{require, unless_refused}
 use Rattle.rules.specs.Bytes.{word_at, word}
-use Rattle.lists.specs.Lists.{all, up_from, downFrom, sum, concat, greatest, same, any, filter, isIn}
-use Rattle.rules.specs.Deliver.{makeAnswer, deliverBuffer, makeBuffer, deliverAnswer, heldAnswer, admitAnswer, is_held}
-use Rattle.rules.specs.Bundle.{countsRead, headCounts, headSize, bodiesIn, opsBy, wholeBundle, turnsAnswer, turnsBuffer, turnsTaken, openAnswer, openBuffer}
-use Rattle.rules.specs.Examples.{a₁, a₂, a₃, b₁, p1, p1File, p1Bundle}
-use Rattle.rules.specs.Issue.{opBytes, add, move, requestKnown, requestUnmarked, issued, issueAnswer, requestClear, issueBuffer, issueOut}
-use Rattle.rules.specs.Tree.{moveKind, climb, path, atOrBelow, slot, slot_of, depth, parent_in}
-use Rattle.rules.specs.File.{emptyLog, ops_of, opAt, countsOf, append, countAt, start_at, headerCounts, start_of, end_of, fileEnd, chunks, chunks_of, logOf, headerEntry, headerOf, fileOf, within, appended, width}
-use Rattle.rules.specs.Log.{covered, closedAt, closed, knownParent, namesKnown, soundOp, soundOps, soundLog, soundHeader, laid, structural}
-use Rattle.rules.specs.Op.{Op, replicas, isReplica, countIn, kind_of, replicaOf, node_of, parent_of, vectorOf, ownCount, seqOf, nodeNumber, isAdd, isRemove, is_move, wellFormed}
-use Rattle.rules.specs.Replay.{ofTime, timestampIn, stamped, parentsOf, ofReplica, byTime, ofKind, start, outcomeSlot, outcomeOf, opsWithin, removedIn, stamp, ordered, outcomesOf, replay, timestamp, step}
-use Rattle.rules.specs.Marks.{isKnown, isMarked, knowledge, marked, nodeWithin}
+use Rattle.lists.specs.Lists.{all, up_from, down_from, sum, concat, greatest, same, any, filter, is_in}
+use Rattle.rules.specs.Deliver.{make_answer, deliver_buffer, make_buffer, deliver_answer, held_answer, admit_answer, is_held}
+use Rattle.rules.specs.Bundle.{counts_read, head_counts, head_size, bodies_in, ops_by, whole_bundle, turns_answer, turns_buffer, turns_taken, open_answer, open_buffer}
+use Rattle.rules.specs.Examples.{a₁, a₂, a₃, b₁, p1, p1_file, p1_bundle}
+use Rattle.rules.specs.Issue.{op_bytes, add, move, request_known, request_unmarked, issued, issue_answer, request_clear, issue_buffer, issue_out}
+use Rattle.rules.specs.Tree.{move_kind, climb, path, at_or_below, slot, slot_of, depth, parent_in}
+use Rattle.rules.specs.File.{empty_log, ops_of, op_at, counts_of, append, count_at, start_at, header_counts, start_of, end_of, file_end, chunks, chunks_of, log_of, header_entry, header_of, file_of, within, appended, width}
+use Rattle.rules.specs.Log.{covered, closed_at, closed, known_parent, names_known, sound_op, sound_ops, sound_log, sound_header, laid, structural}
+use Rattle.rules.specs.Op.{Op, replicas, is_replica, count_in, kind_of, replica_of, node_of, parent_of, vector_of, own_count, seq_of, node_number, is_add, is_remove, is_move, well_formed}
+use Rattle.rules.specs.Replay.{of_time, timestamp_in, stamped, parents_of, of_replica, by_time, of_kind, start, outcome_slot, outcome_of, ops_within, removed_in, stamp, ordered, outcomes_of, replay, timestamp, step}
+use Rattle.rules.specs.Marks.{is_known, is_marked, knowledge, marked, node_within}
 use Rattle.rules.specs.Sound.{sound}
 
 -- refused calls and a second making among them
@@ -38,7 +38,7 @@ calls₂ =
 -- the two adds come in a bundle, after one with a body that is early; then all of P1 in one, of which two ops are new
 abbrev calls₃ : List Call
 calls₃ =
-    openBundle (1 ∷ 2 ∷ (a₁ ++ a₃)) ∷ openBundle (1 ∷ 2 ∷ (a₁ ++ a₂)) ∷ openBundle p1Bundle ∷ []
+    open_bundle (1 ∷ 2 ∷ (a₁ ++ a₃)) ∷ open_bundle (1 ∷ 2 ∷ (a₁ ++ a₂)) ∷ open_bundle p1_bundle ∷ []
 
 abbrev pair : List Call → Pair
 pair calls left = run (replicate 102 7) calls₁
@@ -59,50 +59,50 @@ abbrev rounds : List Round
 rounds = backward ∷ (to left a₁ ∷ backward) ∷ (backward ++ (to left a₂ ∷ to left a₁ ∷ [])) ∷ []
 
 pub record Met : Type 0 where
-  pub held-left : (pair calls₂ left).held ≡ a₁ ∷ a₂ ∷ a₃ ∷ []
-  pub held-right : (pair calls₂ right).held ≡ a₁ ∷ a₂ ∷ b₁ ∷ []
+  pub held_left : (pair calls₂ left).held ≡ a₁ ∷ a₂ ∷ a₃ ∷ []
+  pub held_right : (pair calls₂ right).held ≡ a₁ ∷ a₂ ∷ b₁ ∷ []
   -- what opening bundles adds
-  pub held-opened : (pair calls₃ right).held ≡ a₁ ∷ a₂ ∷ b₁ ∷ a₃ ∷ []
-  pub file-opened : (pair calls₃ right).buffer ≡ p1File
+  pub held_opened : (pair calls₃ right).held ≡ a₁ ∷ a₂ ∷ b₁ ∷ a₃ ∷ []
+  pub file_opened : (pair calls₃ right).buffer ≡ p1_file
   -- two ops are missing, and one round brings both over; the two files are then P1's
-  pub missing-two : missing (pair calls₂) ≡ a₃ ∷ b₁ ∷ []
-  pub none-missing : missing (after (pair calls₂) round) ≡ []
-  pub answers-expected : all (λ x. expected x.answered) (answers (pair calls₂) round) ≡ true
-  pub taken-left : acceptedBy left (answers (pair calls₂) round) ≡ b₁ ∷ []
-  pub taken-right : acceptedBy right (answers (pair calls₂) round) ≡ a₃ ∷ []
-  pub file-left : (after (pair calls₂) round left).buffer ≡ p1File ++ replicate 14 7
-  pub file-right : (after (pair calls₂) round right).buffer ≡ p1File
+  pub missing_two : missing (pair calls₂) ≡ a₃ ∷ b₁ ∷ []
+  pub none_missing : missing (after (pair calls₂) round) ≡ []
+  pub answers_expected : all (λ x. expected x.answered) (answers (pair calls₂) round) ≡ true
+  pub taken_left : accepted_by left (answers (pair calls₂) round) ≡ b₁ ∷ []
+  pub taken_right : accepted_by right (answers (pair calls₂) round) ≡ a₃ ∷ []
+  pub file_left : (after (pair calls₂) round left).buffer ≡ p1_file ++ replicate 14 7
+  pub file_right : (after (pair calls₂) round right).buffer ≡ p1_file
   -- in the worst order each round brings one
   pub first_round : missing (after (pair []) backward) ≡ a₂ ∷ a₃ ∷ []
-  pub last-round : missing (after (pair []) (concat rounds)) ≡ []
-  pub in-turn : acceptedBy right (answers (pair []) (concat rounds)) ≡ a₁ ∷ a₂ ∷ a₃ ∷ []
+  pub last_round : missing (after (pair []) (concat rounds)) ≡ []
+  pub in_turn : accepted_by right (answers (pair []) (concat rounds)) ≡ a₁ ∷ a₂ ∷ a₃ ∷ []
 
 pub met : Met
-unfolding p1 p1File require word_at word up_from downFrom sum greatest same concat all any filter isIn replicas isReplica countIn kind_of
-    replicaOf node_of parent_of vectorOf ownCount seqOf nodeNumber isAdd isRemove is_move wellFormed emptyLog ops_of opAt countsOf append
-    countAt start_at headerCounts start_of end_of fileEnd chunks chunks_of logOf headerEntry headerOf fileOf within covered closedAt closed
-    isKnown isMarked nodeWithin marked knowledge knownParent namesKnown soundOp soundOps soundLog soundHeader laid structural sound
-    makeAnswer is_held heldAnswer admitAnswer deliverAnswer slot slot_of parent_in climb path depth atOrBelow opsWithin timestampIn timestamp
-    stamp stamped ofReplica ofKind ofTime byTime ordered start outcomeSlot outcomeOf step replay parentsOf outcomesOf opBytes moveKind
-    issued requestKnown requestUnmarked requestClear issueAnswer makeBuffer deliverBuffer appended issueBuffer issueOut answer bufferAfter
-    begun added perform run has opNumbered inOrder arrange other isSide onlyIn missing answerTo offered after answers acceptances acceptedBy
-    expected everything removedIn ones ones_in countsRead headCounts headSize bodiesIn opsBy wholeBundle unlessRefused turnsAnswer
-    turnsBuffer turnsTaken openAnswer openBuffer
+unfolding p1 p1_file require word_at word up_from down_from sum greatest same concat all any filter is_in replicas is_replica count_in kind_of
+    replica_of node_of parent_of vector_of own_count seq_of node_number is_add is_remove is_move well_formed empty_log ops_of op_at counts_of append
+    count_at start_at header_counts start_of end_of file_end chunks chunks_of log_of header_entry header_of file_of within covered closed_at closed
+    is_known is_marked node_within marked knowledge known_parent names_known sound_op sound_ops sound_log sound_header laid structural sound
+    make_answer is_held held_answer admit_answer deliver_answer slot slot_of parent_in climb path depth at_or_below ops_within timestamp_in timestamp
+    stamp stamped of_replica of_kind of_time by_time ordered start outcome_slot outcome_of step replay parents_of outcomes_of op_bytes move_kind
+    issued request_known request_unmarked request_clear issue_answer make_buffer deliver_buffer appended issue_buffer issue_out answer buffer_after
+    begun added perform run has op_numbered in_order arrange other is_side only_in missing answer_to offered after answers acceptances accepted_by
+    expected everything removed_in ones ones_in counts_read head_counts head_size bodies_in ops_by whole_bundle unless_refused turns_answer
+    turns_buffer turns_taken open_answer open_buffer
 met = record {
-  held-left = refl;
-  held-right = refl;
-  held-opened = refl;
-  file-opened = refl;
-  missing-two = refl;
-  none-missing = refl;
-  answers-expected = refl;
-  taken-left = refl;
-  taken-right = refl;
-  file-left = refl;
-  file-right = refl;
+  held_left = refl;
+  held_right = refl;
+  held_opened = refl;
+  file_opened = refl;
+  missing_two = refl;
+  none_missing = refl;
+  answers_expected = refl;
+  taken_left = refl;
+  taken_right = refl;
+  file_left = refl;
+  file_right = refl;
   first_round = refl;
-  last-round = refl;
-  in-turn = refl;
+  last_round = refl;
+  in_turn = refl;
 }
 
 ---- P1's two moves as a clash
@@ -122,57 +122,57 @@ lent = replicate 14 9
 
 -- all that `ClashDecided` and `BothArrive` speak of holds of them, and replica 2's wins
 pub record Clashed : Type 0 where
-  pub both-issued : BothIssued shared shared lent lent moved₁ moved₂
-  pub first-op : putOut shared lent moved₁ ≡ a₃
-  pub second-op : putOut shared lent moved₂ ≡ b₁
-  pub both-arrive : Arrivals shared shared lent lent moved₁ moved₂ a₃ b₁
-  pub circle-closed : circle (parentsOf (logOf width shared)) moved₁ moved₂ ≡ true
-  pub second-beats : beats (parentsOf (logOf width shared)) moved₂ moved₁ ≡ true
+  pub both_issued : BothIssued shared shared lent lent moved₁ moved₂
+  pub first_op : put_out shared lent moved₁ ≡ a₃
+  pub second_op : put_out shared lent moved₂ ≡ b₁
+  pub both_arrive : Arrivals shared shared lent lent moved₁ moved₂ a₃ b₁
+  pub circle_closed : circle (parents_of (log_of width shared)) moved₁ moved₂ ≡ true
+  pub second_beats : beats (parents_of (log_of width shared)) moved₂ moved₁ ≡ true
 
 -- four ops in the order of the file, or the last two first
-last-first : (a b c d : Bool) → (a || (b || (c || (d || false)))) ≡ (c || (d || (a || (b || false))))
-last-first true b c d = simp or-true
-last-first false true c d = simp or-true
-last-first false false c d = refl
+last_first : (a b c d : Bool) → (a || (b || (c || (d || false)))) ≡ (c || (d || (a || (b || false))))
+last_first true b c d = simp or-true
+last_first false true c d = simp or-true
+last_first false false c d = refl
 
 -- each way of arriving comes to the same file
-arrived : (h : List ℕ) → h ≡ p1File → OnlyAdded shared h (a₃ ∷ b₁ ∷ [])
-unfolding p1 p1File require word_at word up_from sum same concat all any replicas isReplica countIn kind_of replicaOf node_of parent_of
-    vectorOf ownCount seqOf nodeNumber isAdd isRemove wellFormed emptyLog ops_of opAt countsOf append countAt start_at headerCounts start_of
-    end_of fileEnd chunks chunks_of logOf headerEntry headerOf fileOf within covered closedAt closed isKnown nodeWithin marked
-    knowledge knownParent namesKnown soundOp soundOps soundLog soundHeader laid structural sound makeAnswer is_held heldAnswer admitAnswer
-    deliverAnswer opBytes makeBuffer deliverBuffer appended answer bufferAfter begun added perform run has removedIn opsWithin filter isIn
+arrived : (h : List ℕ) → h ≡ p1_file → OnlyAdded shared h (a₃ ∷ b₁ ∷ [])
+unfolding p1 p1_file require word_at word up_from sum same concat all any replicas is_replica count_in kind_of replica_of node_of parent_of
+    vector_of own_count seq_of node_number is_add is_remove well_formed empty_log ops_of op_at counts_of append count_at start_at header_counts start_of
+    end_of file_end chunks chunks_of log_of header_entry header_of file_of within covered closed_at closed is_known node_within marked
+    knowledge known_parent names_known sound_op sound_ops sound_log sound_header laid structural sound make_answer is_held held_answer admit_answer
+    deliver_answer op_bytes make_buffer deliver_buffer appended answer buffer_after begun added perform run has removed_in ops_within filter is_in
 arrived h e = rw e (record {
-  is-sound = refl;
-  ops = λ z. last-first (same z a₁) (same z a₂) (same z a₃) (same z b₁);
+  is_sound_so = refl;
+  ops = λ z. last_first (same z a₁) (same z a₂) (same z a₃) (same z b₁);
 })
 
 pub clashed : Clashed
-unfolding p1 p1File require word_at word up_from downFrom sum greatest same concat all any filter isIn replicas isReplica countIn kind_of
-    replicaOf node_of parent_of vectorOf ownCount seqOf nodeNumber isAdd isRemove is_move wellFormed emptyLog ops_of opAt countsOf append
-    countAt start_at headerCounts start_of end_of fileEnd chunks chunks_of logOf headerEntry headerOf fileOf within covered closedAt closed
-    isKnown isMarked nodeWithin marked knowledge knownParent namesKnown soundOp soundOps soundLog soundHeader laid structural sound
-    makeAnswer is_held heldAnswer admitAnswer deliverAnswer slot slot_of parent_in climb path depth atOrBelow opsWithin timestampIn timestamp
-    stamp stamped ofReplica ofKind ofTime byTime ordered start outcomeSlot outcomeOf step replay parentsOf outcomesOf opBytes moveKind
-    issued requestKnown requestUnmarked requestClear issueAnswer makeBuffer deliverBuffer appended issueBuffer issueOut answer bufferAfter
-    begun added perform run circle beats removedIn
+unfolding p1 p1_file require word_at word up_from down_from sum greatest same concat all any filter is_in replicas is_replica count_in kind_of
+    replica_of node_of parent_of vector_of own_count seq_of node_number is_add is_remove is_move well_formed empty_log ops_of op_at counts_of append
+    count_at start_at header_counts start_of end_of file_end chunks chunks_of log_of header_entry header_of file_of within covered closed_at closed
+    is_known is_marked node_within marked knowledge known_parent names_known sound_op sound_ops sound_log sound_header laid structural sound
+    make_answer is_held held_answer admit_answer deliver_answer slot slot_of parent_in climb path depth at_or_below ops_within timestamp_in timestamp
+    stamp stamped of_replica of_kind of_time by_time ordered start outcome_slot outcome_of step replay parents_of outcomes_of op_bytes move_kind
+    issued request_known request_unmarked request_clear issue_answer make_buffer deliver_buffer appended issue_buffer issue_out answer buffer_after
+    begun added perform run circle beats removed_in
 clashed = record {
-  both-issued = record {
-    one-log = refl;
-    replicas-differ = λ e. omega arith;
+  both_issued = record {
+    one_log = refl;
+    replicas_differ = λ e. omega arith;
     end = 74;
     end' = 74;
     first = refl;
     second = refl;
   };
-  first-op = refl;
-  second-op = refl;
-  both-arrive = record {
-    x-issued = record { one-accepted = refl; next-accepted = refl; both-added = arrived _ refl };
-    y-issued = record { one-accepted = refl; next-accepted = refl; both-added = arrived _ refl };
-    x-first = record { one-accepted = refl; next-accepted = refl; both-added = arrived _ refl };
-    y-first = record { one-accepted = refl; next-accepted = refl; both-added = arrived _ refl };
+  first_op = refl;
+  second_op = refl;
+  both_arrive = record {
+    x_issued = record { one_accepted = refl; next_accepted = refl; both_added = arrived _ refl };
+    y_issued = record { one_accepted = refl; next_accepted = refl; both_added = arrived _ refl };
+    x_first = record { one_accepted = refl; next_accepted = refl; both_added = arrived _ refl };
+    y_first = record { one_accepted = refl; next_accepted = refl; both_added = arrived _ refl };
   };
-  circle-closed = refl;
-  second-beats = refl;
+  circle_closed = refl;
+  second_beats = refl;
 }

@@ -2,7 +2,7 @@ ghost use Rattle.std.specs.Prelude.{◌≡◌, true};
 ghost use Rattle.rules.specs.File.{width, appended};
 ghost use Rattle.rules.specs.Sound.{sound};
 ghost use Rattle.codec.specs.Answers.{answer_of};
-ghost use Rattle.delivery.specs.Adding.{lastTest, Acceptable};
+ghost use Rattle.delivery.specs.Adding.{last_test, Acceptable};
 
 use codec::{Answer, Refusal, widen};
 use oplog::{append_ops, end_of};
@@ -11,7 +11,7 @@ use soundness::WIDTH;
 // The last test of an op, 8: room for one more.
 pub fn last_test(file: &[u8]) -> Answer
     requires { sound width file.now ≡ true }
-    ensures { answer_of result ≡ lastTest file.now }
+    ensures { answer_of result ≡ last_test file.now }
 {
     let end = end_of(file, 8, WIDTH) + WIDTH;
     if file.len() < end {

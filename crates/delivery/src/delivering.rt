@@ -1,10 +1,10 @@
 ghost use Rattle.std.specs.Prelude.{◌≡◌, true, leb};
-ghost use Rattle.rules.specs.Op.{isReplica, countIn};
-ghost use Rattle.rules.specs.File.{width, logOf};
+ghost use Rattle.rules.specs.Op.{is_replica, count_in};
+ghost use Rattle.rules.specs.File.{width, log_of};
 ghost use Rattle.rules.specs.Sound.{sound};
 ghost use Rattle.oplog.specs.Places.{Held};
 ghost use Rattle.codec.specs.Answers.{answer_of};
-ghost use Rattle.delivery.specs.Delivering.{namesIn, Readable, Counting, Again, Fresh};
+ghost use Rattle.delivery.specs.Delivering.{names_in, Readable, Counting, Again, Fresh};
 ghost use Rattle.rules.specs.Deliver as rules;
 
 use crate::adding::{accept, last_test};
@@ -17,7 +17,7 @@ use vector::within;
 // The answer where an op of this replica and sequence is held: the same, or another.
 fn answer_held(file: &[u8], fields: Fields, op: &[u8]) -> Answer
     requires { Again file.now op.now fields }
-    ensures { answer_of result ≡ rules.deliverAnswer width file.now op.now }
+    ensures { answer_of result ≡ rules.deliver_answer width file.now op.now }
 {
     let at = place(file, widen(fields.replica), widen(fields.sequence), WIDTH);
     if same_op(file, at, op) {
@@ -28,8 +28,8 @@ fn answer_held(file: &[u8], fields: Fields, op: &[u8]) -> Answer
 
 // Whether an op of this replica and sequence is held.
 fn is_held(counts: [u8; 8], fields: Fields) -> bool
-    requires { isReplica fields.replica ≡ true }
-    ensures { result ≡ leb fields.sequence (countIn counts fields.replica) }
+    requires { is_replica fields.replica ≡ true }
+    ensures { result ≡ leb fields.sequence (count_in counts fields.replica) }
 {
     let replica = widen(fields.replica);
     fields.sequence <= counts[replica - 1]
@@ -38,7 +38,7 @@ fn is_held(counts: [u8; 8], fields: Fields) -> bool
 // Number 7: whether the nodes that an op names are known to its vector.
 fn names(file: &[u8], v: [u8; 8], fields: Fields) -> bool
     requires { Held width file.now v }
-    ensures { result ≡ namesIn (logOf width file.now) v fields }
+    ensures { result ≡ names_in (log_of width file.now) v fields }
 {
     let own = (256 * widen(fields.replica) + widen(fields.sequence)) as u16;
     names_known(file, v, fields.kind, fields.node, fields.parent, own, WIDTH)
@@ -47,7 +47,7 @@ fn names(file: &[u8], v: [u8; 8], fields: Fields) -> bool
 // The answer where no op of this replica and sequence is held: the tests 5, 6, 7 and 8.
 fn answer_new(file: &[u8], counts: [u8; 8], fields: Fields, op: &[u8]) -> Answer
     requires { Fresh file.now op.now fields counts }
-    ensures { answer_of result ≡ rules.deliverAnswer width file.now op.now }
+    ensures { answer_of result ≡ rules.deliver_answer width file.now op.now }
 {
     let v = vector_at(op, 0);
     if !within(v, counts) {
@@ -65,7 +65,7 @@ fn answer_new(file: &[u8], counts: [u8; 8], fields: Fields, op: &[u8]) -> Answer
 // The answer of a delivery to a sound log, of an op that reads.
 fn answer_read(file: &[u8], counts: [u8; 8], fields: Fields, op: &[u8]) -> Answer
     requires { Counting file.now op.now fields counts }
-    ensures { answer_of result ≡ rules.deliverAnswer width file.now op.now }
+    ensures { answer_of result ≡ rules.deliver_answer width file.now op.now }
 {
     if is_held(counts, fields) {
         return answer_held(file, fields, op);

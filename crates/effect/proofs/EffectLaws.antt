@@ -9,207 +9,207 @@ use native.Mathlib.Decide.{ℕ_discrete}
 use lib.ListN.{length, drop, get_or, set}
 use borrow.Author.Tests.{eq-eqb, ne_eqb}
 use borrow.Author.Rules.{rules}
-use Rattle.rules.specs.Op.{vectorOf, kind_of, parent_of, nodeNumber, isAdd, node_of, is_move, Op}
-use Rattle.rules.specs.Tree.{climbTo, noParent, slot_of, slot, slots}
-use Rattle.rules.specs.Replay.{outcomeOf, outcomeSlot, step}
-use Rattle.rules.specs.File.{opAt, logOf}
+use Rattle.rules.specs.Op.{vector_of, kind_of, parent_of, node_number, is_add, node_of, is_move, Op}
+use Rattle.rules.specs.Tree.{climb_to, no_parent, slot_of, slot, slots}
+use Rattle.rules.specs.Replay.{outcome_of, outcome_slot, step}
+use Rattle.rules.specs.File.{op_at, log_of}
 use Rattle.rules.specs.Log.{structural}
-use Rattle.rules.proofs.SlotLaws.{slot-below}
-use Rattle.rules.proofs.KnownLaws.{names-add, names-node, known-reads}
-use Rattle.tree.specs.Climb.{climbedOf}
+use Rattle.rules.proofs.SlotLaws.{slot_below}
+use Rattle.rules.proofs.KnownLaws.{names_add, names_node, known_reads}
+use Rattle.tree.specs.Climb.{climbed_of}
 use Rattle.tree.specs.declared.climb.Climbed.{Climbed}
-use Rattle.tree.proofs.ClimbLaws.{met-is}
-use Rattle.tree.specs.Slots.{InSlot, opIn, replicaIn, sequenceIn, slotPlace}
+use Rattle.tree.proofs.ClimbLaws.{met_is}
+use Rattle.tree.specs.Slots.{InSlot, op_in, replica_in, sequence_in, slot_place}
 use Rattle.rules.proofs.StructureLaws.{HeldOp}
 use Rattle.oplog.proofs.FieldLaws.{SameFields, fields_at, small}
-use Rattle.effect.specs.Effects.{Applicable, Slotted, hungBy, moves, notedBy, outcomeBy, stampedAt, tables}
-use Rattle.oplog.proofs.HeldLaws.{held-op}
+use Rattle.effect.specs.Effects.{Applicable, Slotted, hung_by, moves, noted_by, outcome_by, stamped_at, tables}
+use Rattle.oplog.proofs.HeldLaws.{held_op}
 
 ---- by the kind byte
 
-moves-true : (k : ℕ) → 3 ≤ k → k < 5 → moves k ≡ true
-moves-true k l u = elim (ℕ_discrete k 3) [
+moves_true : (k : ℕ) → 3 ≤ k → k < 5 → moves k ≡ true
+moves_true k l u = elim (ℕ_discrete k 3) [
   | yes e ↦ rw (eq-eqb k 3 e)
   | no ne ↦ rw (ne_eqb k 3 ne, eq-eqb k 4 (omega arith))
 ]
 
-moves-low : (k : ℕ) → k < 3 → moves k ≡ false
-moves-low k h = rw (ne_eqb k 3 (λ e. omega arith), ne_eqb k 4 (λ e. omega arith))
+moves_low : (k : ℕ) → k < 3 → moves k ≡ false
+moves_low k h = rw (ne_eqb k 3 (λ e. omega arith), ne_eqb k 4 (λ e. omega arith))
 
-moves-high : (k : ℕ) → 5 ≤ k → moves k ≡ false
-moves-high k h = rw (ne_eqb k 3 (λ e. omega arith), ne_eqb k 4 (λ e. omega arith))
+moves_high : (k : ℕ) → 5 ≤ k → moves k ≡ false
+moves_high k h = rw (ne_eqb k 3 (λ e. omega arith), ne_eqb k 4 (λ e. omega arith))
 
 module _ (p l : List ℕ) (k n m i t : ℕ) where
-  outcome-plain : moves k ≡ false → 1 ≡ outcomeBy p l k n m i t
-  unfolding outcomeBy
-  outcome-plain e = rw e
+  outcome_plain : moves k ≡ false → 1 ≡ outcome_by p l k n m i t
+  unfolding outcome_by
+  outcome_plain e = rw e
 
-  pub outcome-zero : k ≡ 0 → 1 ≡ outcomeBy p l k n m i t
-  outcome-zero z = outcome-plain (moves-low k (omega arith))
+  pub outcome_zero : k ≡ 0 → 1 ≡ outcome_by p l k n m i t
+  outcome_zero z = outcome_plain (moves_low k (omega arith))
 
-  pub outcome-low : k < 3 → 1 ≡ outcomeBy p l k n m i t
-  outcome-low h = outcome-plain (moves-low k h)
+  pub outcome_low : k < 3 → 1 ≡ outcome_by p l k n m i t
+  outcome_low h = outcome_plain (moves_low k h)
 
-  pub outcome-high : 5 ≤ k → 1 ≡ outcomeBy p l k n m i t
-  outcome-high h = outcome-plain (moves-high k h)
+  pub outcome_high : 5 ≤ k → 1 ≡ outcome_by p l k n m i t
+  outcome_high h = outcome_plain (moves_high k h)
 
   module _ (a : 3 ≤ k) (b : k < 5) where
-    pub outcome-placed : get_or l i 0 ≡ t → 2 ≡ outcomeBy p l k n m i t
-    unfolding outcomeBy
-    outcome-placed e = rw (moves-true k a b, eq-eqb (get_or l i 0) t e)
+    pub outcome_placed : get_or l i 0 ≡ t → 2 ≡ outcome_by p l k n m i t
+    unfolding outcome_by
+    outcome_placed e = rw (moves_true k a b, eq-eqb (get_or l i 0) t e)
 
-    module _ (ne : get_or l i 0 ≡ t → ⊥) (c : Climbed) (is : climbedOf c ≡ climbTo p m n) where
-      pub outcome-cycle : c.met ≡ true → 3 ≡ outcomeBy p l k n m i t
-      unfolding outcomeBy
-      outcome-cycle e = rw (moves-true k a b, ne_eqb (get_or l i 0) t ne, ← met-is p n m c is, e)
+    module _ (ne : get_or l i 0 ≡ t → ⊥) (c : Climbed) (is : climbed_of c ≡ climb_to p m n) where
+      pub outcome_cycle : c.met ≡ true → 3 ≡ outcome_by p l k n m i t
+      unfolding outcome_by
+      outcome_cycle e = rw (moves_true k a b, ne_eqb (get_or l i 0) t ne, ← met_is p n m c is, e)
 
-      pub outcome-clear : c.met ≡ false → 1 ≡ outcomeBy p l k n m i t
-      unfolding outcomeBy
-      outcome-clear e = rw (moves-true k a b, ne_eqb (get_or l i 0) t ne, ← met-is p n m c is, e)
+      pub outcome_clear : c.met ≡ false → 1 ≡ outcome_by p l k n m i t
+      unfolding outcome_by
+      outcome_clear e = rw (moves_true k a b, ne_eqb (get_or l i 0) t ne, ← met_is p n m c is, e)
 
 -- hanging a node
 module _ (p : List ℕ) (k o i x : ℕ) where
-  pub hang-not : (o ≡ 1 → ⊥) → p ≡ hungBy p k o i x
-  unfolding hungBy
-  hang-not ne = rw (ne_eqb o 1 ne)
+  pub hang_not : (o ≡ 1 → ⊥) → p ≡ hung_by p k o i x
+  unfolding hung_by
+  hang_not ne = rw (ne_eqb o 1 ne)
 
   module _ (e : o ≡ 1) where
-    pub hang-add : k ≡ 1 → set p i x ≡ hungBy p k o i x
-    unfolding hungBy
-    hang-add z = rw (eq-eqb o 1 e, eq-eqb k 1 z)
+    pub hang_add : k ≡ 1 → set p i x ≡ hung_by p k o i x
+    unfolding hung_by
+    hang_add z = rw (eq-eqb o 1 e, eq-eqb k 1 z)
 
-    pub hang-move : 3 ≤ k → k < 5 → set p i x ≡ hungBy p k o i x
-    unfolding hungBy
-    hang-move a b = rw (eq-eqb o 1 e, ne_eqb k 1 (λ z. omega arith), moves-true k a b)
+    pub hang_move : 3 ≤ k → k < 5 → set p i x ≡ hung_by p k o i x
+    unfolding hung_by
+    hang_move a b = rw (eq-eqb o 1 e, ne_eqb k 1 (λ z. omega arith), moves_true k a b)
 
-    hang-plain : (k ≡ 1 → ⊥) → moves k ≡ false → p ≡ hungBy p k o i x
-    unfolding hungBy
-    hang-plain z h = rw (eq-eqb o 1 e, ne_eqb k 1 z, h)
+    hang_plain : (k ≡ 1 → ⊥) → moves k ≡ false → p ≡ hung_by p k o i x
+    unfolding hung_by
+    hang_plain z h = rw (eq-eqb o 1 e, ne_eqb k 1 z, h)
 
-    pub hang-zero : k ≡ 0 → p ≡ hungBy p k o i x
-    hang-zero z = hang-plain (λ y. omega arith) (moves-low k (omega arith))
+    pub hang_zero : k ≡ 0 → p ≡ hung_by p k o i x
+    hang_zero z = hang_plain (λ y. omega arith) (moves_low k (omega arith))
 
-    pub hang-remove : k ≡ 2 → p ≡ hungBy p k o i x
-    hang-remove z = hang-plain (λ y. omega arith) (moves-low k (omega arith))
+    pub hang_remove : k ≡ 2 → p ≡ hung_by p k o i x
+    hang_remove z = hang_plain (λ y. omega arith) (moves_low k (omega arith))
 
-    pub hang-high : 5 ≤ k → p ≡ hungBy p k o i x
-    hang-high h = hang-plain (λ y. omega arith) (moves-high k h)
+    pub hang_high : 5 ≤ k → p ≡ hung_by p k o i x
+    hang_high h = hang_plain (λ y. omega arith) (moves_high k h)
 
 -- noting a time
 module _ (l : List ℕ) (k o i t : ℕ) where
-  pub note-not : (o ≡ 1 → ⊥) → l ≡ notedBy l k o i t
-  unfolding notedBy
-  note-not ne = rw (ne_eqb o 1 ne)
+  pub note_not : (o ≡ 1 → ⊥) → l ≡ noted_by l k o i t
+  unfolding noted_by
+  note_not ne = rw (ne_eqb o 1 ne)
 
   module _ (e : o ≡ 1) where
-    pub note-move : 3 ≤ k → k < 5 → set l i t ≡ notedBy l k o i t
-    unfolding notedBy
-    note-move a b = rw (eq-eqb o 1 e, moves-true k a b)
+    pub note_move : 3 ≤ k → k < 5 → set l i t ≡ noted_by l k o i t
+    unfolding noted_by
+    note_move a b = rw (eq-eqb o 1 e, moves_true k a b)
 
-    note-plain : moves k ≡ false → l ≡ notedBy l k o i t
-    unfolding notedBy
-    note-plain h = rw (eq-eqb o 1 e, h)
+    note_plain : moves k ≡ false → l ≡ noted_by l k o i t
+    unfolding noted_by
+    note_plain h = rw (eq-eqb o 1 e, h)
 
-    pub note-zero : k ≡ 0 → l ≡ notedBy l k o i t
-    note-zero z = note-plain (moves-low k (omega arith))
+    pub note_zero : k ≡ 0 → l ≡ noted_by l k o i t
+    note_zero z = note_plain (moves_low k (omega arith))
 
-    pub note-low : k < 3 → l ≡ notedBy l k o i t
-    note-low h = note-plain (moves-low k h)
+    pub note_low : k < 3 → l ≡ noted_by l k o i t
+    note_low h = note_plain (moves_low k h)
 
-    pub note-high : 5 ≤ k → l ≡ notedBy l k o i t
-    note-high h = note-plain (moves-high k h)
+    pub note_high : 5 ≤ k → l ≡ noted_by l k o i t
+    note_high h = note_plain (moves_high k h)
 
 ---- what an op of a structurally sound file names has a slot
 
 module _ (w : ℕ) (f : List ℕ) (i : ℕ) (st : structural w f ≡ true) (x : InSlot w f i) where
   abbrev s : ℕ
-  s = replicaIn i
+  s = replica_in i
 
   abbrev q : ℕ
-  q = sequenceIn i
+  q = sequence_in i
 
   abbrev r : Op
-  r = opAt (logOf w f) s q
+  r = op_at (log_of w f) s q
 
-  held : HeldOp (logOf w f) s q r
-  held = held-op w f st s q x.in-file
+  held : HeldOp (log_of w f) s q r
+  held = held_op w f st s q x.in_file
 
-  node-range : (1 ≤ node_of r / 256) × (node_of r / 256 ≤ 8) × (1 ≤ node_of r % 256)
-  unfolding nodeNumber
-  node-range = elim (ℕ_discrete (kind_of r) 1) [
+  node_range : (1 ≤ node_of r / 256) × (node_of r / 256 ≤ 8) × (1 ≤ node_of r % 256)
+  unfolding node_number
+  node_range = elim (ℕ_discrete (kind_of r) 1) [
     | yes e ↦
-        let n : node_of r ≡ 256 * s + q = (names-add (logOf w f) r held.names e).1 ∙ rw (held.origin, held.number) in
-        let b = small w f s q x.in-file in
-        (omega arith, omega (arith, x.in-file.high), omega arith)
+        let n : node_of r ≡ 256 * s + q = (names_add (log_of w f) r held.names e).1 ∙ rw (held.origin, held.number) in
+        let b = small w f s q x.in_file in
+        (omega arith, omega (arith, x.in_file.high), omega arith)
     | no ne ↦
-        let k = (known-reads (logOf w f) (vectorOf r) (node_of r) (names-node (logOf w f) r held.names ne)).0 in
+        let k = (known_reads (log_of w f) (vector_of r) (node_of r) (names_node (log_of w f) r held.names ne)).0 in
         (k.low, k.high, k.first)
   ]
 
-  pub named-below : slot_of (node_of (opIn (logOf w f) i)) < slots
-  unfolding opIn
-  named-below = slot-below (node_of r) (inr node-range)
+  pub named_below : slot_of (node_of (op_in (log_of w f) i)) < slots
+  unfolding op_in
+  named_below = slot_below (node_of r) (inr node_range)
 
-  node-small : node_of (opIn (logOf w f) i) < noParent
-  unfolding opIn
-  node-small = omega (arith, node-range.1)
+  node_small : node_of (op_in (log_of w f) i) < no_parent
+  unfolding op_in
+  node_small = omega (arith, node_range.1)
 
   pub own_below : i < slots
-  own_below = omega (arith, small w f s q x.in-file, x.in-file.high, x.some)
+  own_below = omega (arith, small w f s q x.in_file, x.in_file.high, x.some)
 
   -- its outcome stands there
-  pub slot-own : outcomeSlot (opIn (logOf w f) i) ≡ i
-  unfolding outcomeSlot slot opIn
-  slot-own = let own : 255 * (s - 1) + q ≡ i = omega (arith, x.some) in rw (held.origin, held.number, own)
+  pub slot_own : outcome_slot (op_in (log_of w f) i) ≡ i
+  unfolding outcome_slot slot op_in
+  slot_own = let own : 255 * (s - 1) + q ≡ i = omega (arith, x.some) in rw (held.origin, held.number, own)
 
 module _ (w : ℕ) (f : List ℕ) (i : ℕ) (p o l : List ℕ) (x : Applicable w f i p o l) where
   abbrev op : Op
-  op = opIn (logOf w f) i
+  op = op_in (log_of w f) i
 
-  pub own-slot : i < length o
-  own-slot = omega (arith, own_below w f i x.is-structural x.in-slot, x.sized.outcomes)
+  pub own_slot : i < length o
+  own_slot = omega (arith, own_below w f i x.is_structural x.in_slot, x.sized.outcomes)
 
   -- what the code has read are the op's fields
-  module _ (at : ℕ) (is : at ≡ slotPlace w f i) (n j : ℕ) (hn : n ≡ node_of (drop at f)) (hj : j ≡ slot_of n) where
+  module _ (at : ℕ) (is : at ≡ slot_place w f i) (n j : ℕ) (hn : n ≡ node_of (drop at f)) (hj : j ≡ slot_of n) where
     fields : SameFields op (drop at f)
-    unfolding opIn
-    fields = fields_at w f (replicaIn i) (sequenceIn i) x.in-slot.in-file at is
+    unfolding op_in
+    fields = fields_at w f (replica_in i) (sequence_in i) x.in_slot.in_file at is
 
-    node-so : n ≡ node_of op
-    node-so = hn ∙ sym fields.node
+    node_so : n ≡ node_of op
+    node_so = hn ∙ sym fields.node
 
-    slot-so : j < slots
-    slot-so = rw (hj, node-so) (named-below w f i x.is-structural x.in-slot)
+    slot_so : j < slots
+    slot_so = rw (hj, node_so) (named_below w f i x.is_structural x.in_slot)
 
-    pub node-slotted : Slotted p l n j
-    node-slotted = record {
+    pub node_slotted : Slotted p l n j
+    node_slotted = record {
       parents = x.sized.parents;
-      small = rw node-so (node-small w f i x.is-structural x.in-slot);
-      placed = omega (arith, slot-so, x.sized.placed);
+      small = rw node_so (node_small w f i x.is_structural x.in_slot);
+      placed = omega (arith, slot_so, x.sized.placed);
     }
 
-    pub hang-slot : j < length p
-    hang-slot = omega (arith, slot-so, x.sized.parents)
+    pub hang_slot : j < length p
+    hang_slot = omega (arith, slot_so, x.sized.parents)
 
-    pub note-slot : j < length l
-    note-slot = omega (arith, slot-so, x.sized.placed)
+    pub note_slot : j < length l
+    note_slot = omega (arith, slot_so, x.sized.placed)
 
-    module _ (k m u t : ℕ) (hk : k ≡ kind_of (drop at f)) (hm : m ≡ parent_of (drop at f)) (hu : u ≡ outcomeBy p l k n m j t) where
-      pub applied : (p' l' : List ℕ) → p' ≡ hungBy p k u j m → l' ≡ notedBy l k u j t
-          → tables p' (set o i u) l' ≡ step (tables p o l) (stampedAt t (opIn (logOf w f) i))
-      unfolding step outcomeOf outcomeBy hungBy notedBy isAdd is_move
+    module _ (k m u t : ℕ) (hk : k ≡ kind_of (drop at f)) (hm : m ≡ parent_of (drop at f)) (hu : u ≡ outcome_by p l k n m j t) where
+      pub applied : (p' l' : List ℕ) → p' ≡ hung_by p k u j m → l' ≡ noted_by l k u j t
+          → tables p' (set o i u) l' ≡ step (tables p o l) (stamped_at t (op_in (log_of w f) i))
+      unfolding step outcome_of outcome_by hung_by noted_by is_add is_move
       applied p' l' hp hl =
           let ek : k ≡ kind_of op = hk ∙ sym fields.kind in
           let em : m ≡ parent_of op = hm ∙ sym fields.parent in
-          let g : j ≡ slot_of (node_of op) = hj ∙ ap slot_of node-so in
-          rw (hp, hl, hu, ek, em, g, node-so, slot-own w f i x.is-structural x.in-slot)
+          let g : j ≡ slot_of (node_of op) = hj ∙ ap slot_of node_so in
+          rw (hp, hl, hu, ek, em, g, node_so, slot_own w f i x.is_structural x.in_slot)
 
 ---- what the code of the effects needs: search effects
 
-pub ruleset outcomes = (outcome-zero, outcome-low, outcome-high, outcome-placed, outcome-cycle, outcome-clear)
+pub ruleset outcomes = (outcome_zero, outcome_low, outcome_high, outcome_placed, outcome_cycle, outcome_clear)
 
-pub ruleset hangings = (hang-not, hang-zero, hang-remove, hang-high)
+pub ruleset hangings = (hang_not, hang_zero, hang_remove, hang_high)
 
-pub ruleset notings = (note-not, note-move, note-zero, note-low, note-high)
+pub ruleset notings = (note_not, note_move, note_zero, note_low, note_high)
 
-pub ruleset effects = (rules, outcomes, hangings, notings, node-slotted, hang-slot, note-slot, own-slot, applied)
+pub ruleset effects = (rules, outcomes, hangings, notings, node_slotted, hang_slot, note_slot, own_slot, applied)

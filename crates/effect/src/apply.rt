@@ -1,8 +1,8 @@
 ghost use Rattle.std.specs.Prelude.{◌≡◌, ◌<◌, length};
-ghost use Rattle.rules.specs.File.{logOf};
+ghost use Rattle.rules.specs.File.{log_of};
 ghost use Rattle.rules.specs.Replay.{step};
-ghost use Rattle.tree.specs.Slots.{opIn};
-ghost use Rattle.effect.specs.Effects.{tables, stampedAt, Slotted, Applicable, outcomeBy, hungBy, notedBy};
+ghost use Rattle.tree.specs.Slots.{op_in};
+ghost use Rattle.effect.specs.Effects.{tables, stamped_at, Slotted, Applicable, outcome_by, hung_by, noted_by};
 
 use codec::{kind_at, node_at, parent_at};
 use tree::{climb_to, slot_of, slot_place};
@@ -18,7 +18,7 @@ fn outcome_of(
     time: u16,
 ) -> u8
     requires { Slotted parents.now placed.now node slot }
-    ensures { result ≡ outcomeBy parents.now placed.now kind node parent slot time }
+    ensures { result ≡ outcome_by parents.now placed.now kind node parent slot time }
 {
     match kind {
         3 | 4 => {
@@ -43,7 +43,7 @@ fn outcome_of(
 // Hangs the node of an applied add or move.
 fn hang(parents: &mut [u16], kind: u8, outcome: u8, slot: usize, parent: u16)
     requires { slot < length parents.old }
-    ensures { parents.new ≡ hungBy parents.old kind outcome slot parent }
+    ensures { parents.new ≡ hung_by parents.old kind outcome slot parent }
 {
     if outcome != 1 {
         return;
@@ -65,7 +65,7 @@ fn hang(parents: &mut [u16], kind: u8, outcome: u8, slot: usize, parent: u16)
 // Notes the time of an applied move, so that a second move of this time finds its node placed.
 fn note_time(placed: &mut [u16], kind: u8, outcome: u8, slot: usize, time: u16)
     requires { slot < length placed.old }
-    ensures { placed.new ≡ notedBy placed.old kind outcome slot time }
+    ensures { placed.new ≡ noted_by placed.old kind outcome slot time }
 {
     if outcome != 1 {
         return;
@@ -97,7 +97,7 @@ pub fn apply_op(
     requires { Applicable width file.now slot parents.old outcomes.old placed.old }
     ensures { tables parents.new outcomes.new placed.new
         ≡ step (tables parents.old outcomes.old placed.old)
-        (stampedAt time (opIn (logOf width file.now) slot)) }
+        (stamped_at time (op_in (log_of width file.now) slot)) }
 {
     let at = slot_place(file, slot, width);
     let kind = kind_at(file, at);

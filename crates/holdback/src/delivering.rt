@@ -1,9 +1,9 @@
 ghost use Rattle.std.specs.Prelude.{◌≡◌};
 ghost use Rattle.rules.specs.File.{width};
-ghost use Rattle.rules.specs.Holdback.{deliverHoldback};
+ghost use Rattle.rules.specs.Holdback.{deliver_holdback};
 ghost use Rattle.codec.specs.Answers.{answer_of};
 ghost use Rattle.holdback_places.specs.Places.{Compared};
-ghost use Rattle.holdback.specs.Delivering.{afterSearch, isEarly, earlyCall};
+ghost use Rattle.holdback.specs.Delivering.{after_search, is_early, early_call};
 ghost use Rattle.holdback.specs.Searching.{Searchable};
 
 use crate::searching::search;
@@ -15,7 +15,7 @@ use soundness::{WIDTH, is_sound};
 
 // Whether an op is refused as early.
 fn is_early(answer: Answer) -> bool
-    ensures { result ≡ isEarly (answer_of answer) }
+    ensures { result ≡ is_early (answer_of answer) }
 {
     match answer {
         Answer::Refused(why) => number_of(why) == 5,
@@ -30,7 +30,7 @@ fn is_early(answer: Answer) -> bool
 fn hold(op: &[u8], holdback: &mut [u8]) -> Answer
     requires { Compared holdback.old op.now }
     ensures { record { answer = answer_of result; holdback = holdback.new }
-        ≡ earlyCall op.now holdback.old }
+        ≡ early_call op.now holdback.old }
 {
     if is_waiting(holdback, op) {
         return Answer::Waiting;
@@ -46,7 +46,7 @@ fn hold(op: &[u8], holdback: &mut [u8]) -> Answer
 fn release(buf: &mut [u8], holdback: &mut [u8]) -> Answer
     requires { Searchable buf.old holdback.old }
     ensures { record { answer = answer_of result; buffer = buf.new; holdback = holdback.new }
-        ≡ afterSearch buf.old holdback.old }
+        ≡ after_search buf.old holdback.old }
 {
     search(buf, holdback);
     Answer::Accepted(end_of(buf, 8, WIDTH))
@@ -56,7 +56,7 @@ fn release(buf: &mut [u8], holdback: &mut [u8]) -> Answer
 fn deliver_sound(buf: &mut [u8], op: &[u8], holdback: &mut [u8]) -> Answer
     requires { Searchable buf.old holdback.old }
     ensures { record { answer = answer_of result; buffer = buf.new; holdback = holdback.new }
-        ≡ deliverHoldback width buf.old op.now holdback.old }
+        ≡ deliver_holdback width buf.old op.now holdback.old }
 {
     let answer = deliver_next(buf, op);
     if is_accepted(answer) {
@@ -72,7 +72,7 @@ fn deliver_sound(buf: &mut [u8], op: &[u8], holdback: &mut [u8]) -> Answer
 // are searched for what can follow.
 pub fn deliver(buf: &mut [u8], op: &[u8], holdback: &mut [u8]) -> Answer
     ensures { record { answer = answer_of result; buffer = buf.new; holdback = holdback.new }
-        ≡ deliverHoldback width buf.old op.now holdback.old }
+        ≡ deliver_holdback width buf.old op.now holdback.old }
 {
     if !is_sound(buf) {
         return Answer::Refused(Refusal::Unsound);

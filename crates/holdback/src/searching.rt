@@ -4,7 +4,7 @@ ghost use Rattle.rules.specs.File.{width};
 ghost use Rattle.rules.specs.Holdback as rules;
 ghost use Rattle.rules.specs.Sound.{sound};
 ghost use Rattle.codec.specs.Answers.{answer_of, number_of};
-ghost use Rattle.holdback.specs.Searching.{metOf, meetOp, waitingAt, lookedAt, Meetable, Searchable, desk, searched};
+ghost use Rattle.holdback.specs.Searching.{met_of, meet_op, waiting_at, looked_at, Meetable, Searchable, desk, searched};
 
 use codec::{Answer, Read, Refusal, number_of, read_op};
 use delivery::deliver_read;
@@ -31,7 +31,7 @@ fn stays(why: Refusal) -> bool
 }
 
 fn met_refused(why: Refusal) -> Met
-    ensures { result ≡ metOf (refused (number_of why)) }
+    ensures { result ≡ met_of (refused (number_of why)) }
 {
     if stays(why) {
         return Met::Stays;
@@ -40,7 +40,7 @@ fn met_refused(why: Refusal) -> Met
 }
 
 fn met_with(answer: Answer) -> Met
-    ensures { result ≡ metOf (answer_of answer) }
+    ensures { result ≡ met_of (answer_of answer) }
 {
     match answer {
         Answer::Refused(why) => met_refused(why),
@@ -54,7 +54,7 @@ fn met_with(answer: Answer) -> Met
 // Delivers an op that waits to a sound log. One that does not read is dropped.
 fn meet(buf: &mut [u8], op: &[u8]) -> Met
     requires { sound width buf.old ≡ true }
-    ensures { record { met = result; buffer = buf.new } ≡ meetOp buf.old op.now }
+    ensures { record { met = result; buffer = buf.new } ≡ meet_op buf.old op.now }
 {
     let Read::Op(fields) = read_op(op, WIDTH) else {
         return Met::Dropped;
@@ -65,7 +65,7 @@ fn meet(buf: &mut [u8], op: &[u8]) -> Met
 // Delivers the op that waits at place i.
 fn meet_at(buf: &mut [u8], holdback: &[u8], i: usize) -> Met
     requires { Meetable buf.old holdback.now i }
-    ensures { record { met = result; buffer = buf.new } ≡ meetOp buf.old (waitingAt holdback.now i) }
+    ensures { record { met = result; buffer = buf.new } ≡ meet_op buf.old (waiting_at holdback.now i) }
 {
     let at = 1 + WIDTH * i;
     let to = at + WIDTH;
@@ -76,7 +76,7 @@ fn meet_at(buf: &mut [u8], holdback: &[u8], i: usize) -> Met
 fn look_at(buf: &mut [u8], holdback: &mut [u8], i: usize) -> Met
     requires { Meetable buf.old holdback.old i }
     ensures { record { met = result; buffer = buf.new; holdback = holdback.new }
-        ≡ lookedAt buf.old holdback.old i }
+        ≡ looked_at buf.old holdback.old i }
 {
     match meet_at(buf, holdback, i) {
         Met::Taken => {

@@ -2,8 +2,8 @@ ghost use Rattle.std.specs.Prelude.{◌≡◌, true, ◌++◌, ◌∷◌, [], �
 ghost use Rattle.lists.specs.Lists.{all};
 ghost use Rattle.rules.specs.Bytes.{byte};
 ghost use Rattle.rules.specs.File.{width};
-ghost use Rattle.rules.specs.Holdback.{holdbackOps, holdbackOf, soundHoldback, waits};
-ghost use Rattle.holdback_places.specs.Places.{Roomy, Occupied, Compared, closeAt, put_at, without};
+ghost use Rattle.rules.specs.Holdback.{holdback_ops, holdback_of, sound_holdback, waits};
+ghost use Rattle.holdback_places.specs.Places.{Roomy, Occupied, Compared, close_at, put_at, without};
 
 use codec::widen;
 use oplog::{put_front, same_op};
@@ -26,7 +26,7 @@ fn all_zero(bytes: &[u8]) -> bool
 
 // Number 14: whether bytes are a holdback.
 pub fn is_holdback(bytes: &[u8]) -> bool
-    ensures { result ≡ soundHoldback width bytes.now }
+    ensures { result ≡ sound_holdback width bytes.now }
 {
     if bytes.len() != 1 + WIDTH * PLACES {
         return false;
@@ -41,7 +41,7 @@ pub fn is_holdback(bytes: &[u8]) -> bool
 
 // How many ops wait.
 pub fn count(holdback: &[u8]) -> usize
-    requires { soundHoldback width holdback.now ≡ true }
+    requires { sound_holdback width holdback.now ≡ true }
     ensures { result ≡ byte holdback.now 0 }
 {
     widen(holdback[0])
@@ -73,7 +73,7 @@ fn put_at(holdback: &mut [u8], at: usize, op: &[u8])
 pub fn put_last(holdback: &mut [u8], op: &[u8])
     requires { Roomy holdback.old op.now }
     ensures { holdback.new
-        ≡ holdbackOf width (holdbackOps width holdback.old ++ (op.now ∷ [])) }
+        ≡ holdback_of width (holdback_ops width holdback.old ++ (op.now ∷ [])) }
 {
     let n = holdback[0];
     let at = 1 + WIDTH * widen(n);
@@ -106,7 +106,7 @@ fn close_up(part: &mut [u8])
 // Closes up the bytes of a holdback from a place on.
 fn close_at(holdback: &mut [u8], at: usize)
     requires { at + width ≤ length holdback.old }
-    ensures { holdback.new ≡ closeAt holdback.old at }
+    ensures { holdback.new ≡ close_at holdback.old at }
 {
     close_up(&mut holdback[at..]);
 }
@@ -114,7 +114,7 @@ fn close_at(holdback: &mut [u8], at: usize)
 // Frees a place: the ops behind it close up.
 pub fn free_place(holdback: &mut [u8], i: usize)
     requires { Occupied holdback.old i }
-    ensures { holdback.new ≡ holdbackOf width (without (holdbackOps width holdback.old) i) }
+    ensures { holdback.new ≡ holdback_of width (without (holdback_ops width holdback.old) i) }
 {
     let n = holdback[0];
     let at = 1 + WIDTH * i;

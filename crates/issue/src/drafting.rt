@@ -1,9 +1,9 @@
 ghost use Rattle.std.specs.Prelude.{◌≡◌, true, ◌+◌, ltb};
-ghost use Rattle.rules.specs.File.{width, logOf};
-ghost use Rattle.rules.specs.Op.{isReplica, countIn, nodeNumber};
-ghost use Rattle.rules.specs.Replay.{parentsOf};
-ghost use Rattle.request.specs.Requests.{requestOf};
-ghost use Rattle.issue.specs.Issuing.{movedIn, clearedOp, drafted, Issuer, KnownRequest, Movable, InTree};
+ghost use Rattle.rules.specs.File.{width, log_of};
+ghost use Rattle.rules.specs.Op.{is_replica, count_in, node_number};
+ghost use Rattle.rules.specs.Replay.{parents_of};
+ghost use Rattle.request.specs.Requests.{request_of};
+ghost use Rattle.issue.specs.Issuing.{moved_in, cleared_op, drafted, Issuer, KnownRequest, Movable, InTree};
 
 use crate::draft::{Draft, Drafted};
 use codec::{Refusal, widen};
@@ -15,16 +15,16 @@ use tree::{SLOTS, move_kind};
 
 // Number 9: whether a replica has an op left to issue.
 pub fn has_left(counts: [u8; 8], replica: u8) -> bool
-    requires { isReplica replica ≡ true }
-    ensures { result ≡ ltb (countIn counts replica) 255 }
+    requires { is_replica replica ≡ true }
+    ensures { result ≡ ltb (count_in counts replica) 255 }
 {
     counts[widen(replica) - 1] < 255
 }
 
 // The node that a replica's next op makes, if it is an add.
 fn next_node(counts: [u8; 8], replica: u8) -> u16
-    requires { isReplica replica ≡ true }
-    ensures { result ≡ nodeNumber replica (countIn counts replica + 1) }
+    requires { is_replica replica ≡ true }
+    ensures { result ≡ node_number replica (count_in counts replica + 1) }
 {
     let s = widen(replica);
     (256 * s + widen(counts[s - 1]) + 1) as u16
@@ -33,7 +33,7 @@ fn next_node(counts: [u8; 8], replica: u8) -> u16
 // Number 10 of a move in a tree, or the op to issue.
 pub fn draft_move(parents: &[u16], node: u16, parent: u16) -> Drafted
     requires { InTree parents.now node }
-    ensures { result ≡ movedIn parents.now node parent }
+    ensures { result ≡ moved_in parents.now node parent }
 {
     let kind = move_kind(parents, node, parent);
     if kind == 0 {
@@ -45,7 +45,7 @@ pub fn draft_move(parents: &[u16], node: u16, parent: u16) -> Drafted
 // The same in the present tree.
 fn draft_move_now(file: &[u8], node: u16, parent: u16) -> Drafted
     requires { Movable file.now node parent }
-    ensures { result ≡ movedIn (parentsOf (logOf width file.now)) node parent }
+    ensures { result ≡ moved_in (parents_of (log_of width file.now)) node parent }
 {
     let mut parents = [0u16; SLOTS];
     let mut outcomes = [0u8; SLOTS];
@@ -55,8 +55,8 @@ fn draft_move_now(file: &[u8], node: u16, parent: u16) -> Drafted
 
 // Number 10 of a request whose names are known, and the op to issue.
 fn draft_known(file: &[u8], counts: [u8; 8], replica: u8, request: Request) -> Drafted
-    requires { KnownRequest file.now counts replica (requestOf request) }
-    ensures { result ≡ clearedOp (logOf width file.now) replica (requestOf request) }
+    requires { KnownRequest file.now counts replica (request_of request) }
+    ensures { result ≡ cleared_op (log_of width file.now) replica (request_of request) }
 {
     match request {
         Request::Add(parent) => {
@@ -79,7 +79,7 @@ fn draft_known(file: &[u8], counts: [u8; 8], replica: u8, request: Request) -> D
 // The tests 9, 7, 11 and 10 of a request, and the op to issue.
 pub(crate) fn draft(file: &[u8], replica: u8, request: Request) -> Drafted
     requires { Issuer file.now replica }
-    ensures { result ≡ drafted (logOf width file.now) replica (requestOf request) }
+    ensures { result ≡ drafted (log_of width file.now) replica (request_of request) }
 {
     let counts = counts_of(file, WIDTH);
     if !has_left(counts, replica) {

@@ -1,9 +1,9 @@
 ghost use Rattle.std.specs.Prelude.{◌≡◌, true};
 ghost use Rattle.rules.specs.File.{width};
-ghost use Rattle.rules.specs.Op.{isReplica};
+ghost use Rattle.rules.specs.Op.{is_replica};
 ghost use Rattle.rules.specs.Sound.{sound};
 ghost use Rattle.codec.specs.Answers.{answer_of};
-ghost use Rattle.request.specs.Requests.{requestOf};
+ghost use Rattle.request.specs.Requests.{request_of};
 ghost use Rattle.rules.specs.Issue as rules;
 
 use crate::putting::issue_next;
@@ -13,7 +13,7 @@ use soundness::WIDTH;
 
 // Whether a number is a replica's.
 pub fn is_replica(s: u8) -> bool
-    ensures { result ≡ isReplica s }
+    ensures { result ≡ is_replica s }
 {
     if s < 1 {
         return false;
@@ -25,7 +25,7 @@ pub fn is_replica(s: u8) -> bool
 pub fn issue_sound(buf: &mut [u8], replica: u8, request: Request, out: &mut [u8]) -> Answer
     requires { sound width buf.old ≡ true }
     ensures { record { answer = answer_of result; buffer = buf.new; out = out.new }
-        ≡ rules.issue width buf.old out.old replica (requestOf request) }
+        ≡ rules.issue width buf.old out.old replica (request_of request) }
 {
     if out.len() < WIDTH {
         return Answer::Refused(Refusal::Length);

@@ -1,8 +1,8 @@
 ghost use Rattle.std.specs.Prelude.{◌≡◌, length};
-ghost use Rattle.rules.specs.File.{width, headerCounts};
+ghost use Rattle.rules.specs.File.{width, header_counts};
 ghost use Rattle.codec.specs.Answers.{answer_of};
-ghost use Rattle.request.specs.Requests.{requestOf};
-ghost use Rattle.issue.specs.Issuing.{bytes_of, withOp, putOut, Lent, Ready, Writable};
+ghost use Rattle.request.specs.Requests.{request_of};
+ghost use Rattle.issue.specs.Issuing.{bytes_of, with_op, put_out, Lent, Ready, Writable};
 ghost use Rattle.rules.specs.Issue as rules;
 
 use crate::draft::{Draft, Drafted};
@@ -17,7 +17,7 @@ use soundness::WIDTH;
 fn write_out(buf: &mut [u8], replica: u8, draft: Draft, out: &mut [u8])
     requires { Writable buf.old (length out.old) replica }
     ensures { (buf.new, out.new)
-        ≡ withOp buf.old out.old (bytes_of replica draft (headerCounts buf.old)) }
+        ≡ with_op buf.old out.old (bytes_of replica draft (header_counts buf.old)) }
 {
     let counts = counts_of(buf, WIDTH);
     write_op(out, draft.kind, replica, draft.node, draft.parent, counts);
@@ -29,7 +29,7 @@ fn write_out(buf: &mut [u8], replica: u8, draft: Draft, out: &mut [u8])
 fn put_out(buf: &mut [u8], replica: u8, draft: Draft, out: &mut [u8]) -> Answer
     requires { Ready buf.old (length out.old) replica }
     ensures { record { answer = answer_of result; buffer = buf.new; out = out.new }
-        ≡ putOut buf.old out.old (bytes_of replica draft (headerCounts buf.old)) }
+        ≡ put_out buf.old out.old (bytes_of replica draft (header_counts buf.old)) }
 {
     let answer = last_test(buf);
     if !is_accepted(answer) {
@@ -43,7 +43,7 @@ fn put_out(buf: &mut [u8], replica: u8, draft: Draft, out: &mut [u8]) -> Answer
 pub(crate) fn issue_next(buf: &mut [u8], replica: u8, request: Request, out: &mut [u8]) -> Answer
     requires { Lent buf.old (length out.old) replica }
     ensures { record { answer = answer_of result; buffer = buf.new; out = out.new }
-        ≡ rules.issue width buf.old out.old replica (requestOf request) }
+        ≡ rules.issue width buf.old out.old replica (request_of request) }
 {
     match draft(buf, replica, request) {
         Drafted::Op(op) => put_out(buf, replica, op, out),

@@ -25,10 +25,10 @@ all_filter p q (x ∷ xs) h = go (q x) (all_filter p q xs (and_right (p x) _ h))
     go true ih = and_both (and_left (p x) _ h) ih
     go false ih = ih
 
-pub all-passing : {A : Type 0} (p : A → Bool) (xs : List A) → all p (filter p xs) ≡ true
+pub all_passing : {A : Type 0} (p : A → Bool) (xs : List A) → all p (filter p xs) ≡ true
 unfolding all filter
-all-passing p [] = refl
-all-passing p (x ∷ xs) = go (p x) refl (all-passing p xs)
+all_passing p [] = refl
+all_passing p (x ∷ xs) = go (p x) refl (all_passing p xs)
   where
     go : (b : Bool) → p x ≡ b → all p (filter p xs) ≡ true → all p (cond b (x ∷ filter p xs) (filter p xs)) ≡ true
     go true e ih = and_both e ih
@@ -47,11 +47,11 @@ module _ {A : Type 0} (t : A → Bool) where
 
 -- every element passes, by its place
 module _ {A : Type 0} (p : A → Bool) (d : A) where
-  pub all-at : (xs : List A) → all p xs ≡ true → (i : ℕ) → i < length xs → p (get_or xs i d) ≡ true
+  pub all_at : (xs : List A) → all p xs ≡ true → (i : ℕ) → i < length xs → p (get_or xs i d) ≡ true
   unfolding all
-  all-at [] e i h = absurd (not-suc-le-zero h)
-  all-at (x ∷ xs) e zero h = and_left (p x) _ e
-  all-at (x ∷ xs) e (suc i) h = all-at xs (and_right (p x) _ e) i (le_of_suc-le-suc h)
+  all_at [] e i h = absurd (not-suc-le-zero h)
+  all_at (x ∷ xs) e zero h = and_left (p x) _ e
+  all_at (x ∷ xs) e (suc i) h = all_at xs (and_right (p x) _ e) i (le_of_suc-le-suc h)
 
   pub all_of : (xs : List A) → ((i : ℕ) → i < length xs → p (get_or xs i d) ≡ true) → all p xs ≡ true
   unfolding all
@@ -71,20 +71,20 @@ pub record PassTo (p : ℕ → Bool) (xs : List ℕ) (end i : ℕ) : Type 0 wher
   pub left : all p xs ≡ all p (drop i xs)
 
 module _ (p : ℕ → Bool) (xs : List ℕ) where
-  pub pass-starts : PassTo p xs (length xs) 0
-  pass-starts = record { whole = refl; made = omega arith; left = refl }
+  pub pass_starts : PassTo p xs (length xs) 0
+  pass_starts = record { whole = refl; made = omega arith; left = refl }
 
   module _ (end i : ℕ) (x : PassTo p xs end i) where
     turn : i < end → all p xs ≡ (p (get_or xs i 0) && all p (drop (i + 1) xs))
     unfolding all
     turn h = x.left ∙ rw (drop-cons xs i 0 (omega (arith, x.whole)), add-one i)
 
-    pub pass-fails : i < end → p (get_or xs i 0) ≡ false → false ≡ all p xs
-    pass-fails h e = sym (turn h ∙ rw e)
+    pub pass_fails : i < end → p (get_or xs i 0) ≡ false → false ≡ all p xs
+    pass_fails h e = sym (turn h ∙ rw e)
 
     pub pass_on : i < end → p (get_or xs i 0) ≡ true → PassTo p xs end (i + 1)
     pass_on h e = record { whole = x.whole; made = omega (arith, x.whole); left = turn h ∙ rw e }
 
-    pub pass-ends : end ≤ i → true ≡ all p xs
+    pub pass_ends : end ≤ i → true ≡ all p xs
     unfolding all
-    pass-ends h = let l : length xs ≤ i = omega (arith, x.whole) in sym (x.left ∙ rw (drop_of_length-le xs l))
+    pass_ends h = let l : length xs ≤ i = omega (arith, x.whole) in sym (x.left ∙ rw (drop_of_length-le xs l))

@@ -21,29 +21,29 @@ pub and_both : {a b : Bool} → a ≡ true → b ≡ true → (a && b) ≡ true
 and_both p q = rw (p, q)
 
 -- the second test only counts where the first leaves it to
-pub and-under : (a b c : Bool) → (a ≡ true → b ≡ c) → (a && b) ≡ (a && c)
-and-under true b c h = h refl
-and-under false b c h = refl
+pub and_under : (a b c : Bool) → (a ≡ true → b ≡ c) → (a && b) ≡ (a && c)
+and_under true b c h = h refl
+and_under false b c h = refl
 
-pub or-under : (a b c : Bool) → (a ≡ false → b ≡ c) → (a || b) ≡ (a || c)
-or-under true b c h = refl
-or-under false b c h = h refl
+pub or_under : (a b c : Bool) → (a ≡ false → b ≡ c) → (a || b) ≡ (a || c)
+or_under true b c h = refl
+or_under false b c h = h refl
 
-pub or-again : (a b : Bool) → (a || (a || b)) ≡ (a || b)
-or-again true b = refl
-or-again false b = refl
+pub or_again : (a b : Bool) → (a || (a || b)) ≡ (a || b)
+or_again true b = refl
+or_again false b = refl
 
-pub or-then : (a b c : Bool) → (b ≡ true → c ≡ true) → (a || b) ≡ true → (a || c) ≡ true
-or-then true b c h e = refl
-or-then false b c h e = h e
+pub or_then : (a b c : Bool) → (b ≡ true → c ≡ true) → (a || b) ≡ true → (a || c) ≡ true
+or_then true b c h e = refl
+or_then false b c h e = h e
 
-pub and-true : (a : Bool) → (a && true) ≡ a
-and-true true = refl
-and-true false = refl
+pub and_true : (a : Bool) → (a && true) ≡ a
+and_true true = refl
+and_true false = refl
 
-pub and-false : (a : Bool) → (a && false) ≡ false
-and-false true = refl
-and-false false = refl
+pub and_false : (a : Bool) → (a && false) ≡ false
+and_false true = refl
+and_false false = refl
 
 pub or_cases : (a b : Bool) → (a || b) ≡ true → (a ≡ true) ⊎ (b ≡ true)
 or_cases true b e = inl refl
@@ -59,44 +59,44 @@ both_ways true b f g = sym (f refl)
 both_ways false true f g = g refl
 both_ways false false f g = refl
 
-pub and-swap : (a b : Bool) → (a && b) ≡ (b && a)
-and-swap true true = refl
-and-swap true false = refl
-and-swap false true = refl
-and-swap false false = refl
+pub and_swap : (a b : Bool) → (a && b) ≡ (b && a)
+and_swap true true = refl
+and_swap true false = refl
+and_swap false true = refl
+and_swap false false = refl
 
-pub and-turn : (h i z : Bool) → (h && (i && z)) ≡ ((h && z) && i)
-and-turn false i z = refl
-and-turn true i z = and-swap i z
+pub and_turn : (h i z : Bool) → (h && (i && z)) ≡ ((h && z) && i)
+and_turn false i z = refl
+and_turn true i z = and_swap i z
 
-pub and-regroup : (a b c d : Bool) → (a && b && c && d) ≡ ((b && c) && (a && d))
-and-regroup true true true d = refl
-and-regroup true true false d = refl
-and-regroup true false c d = refl
-and-regroup false b c d = sym (and-false (b && c))
+pub and_regroup : (a b c d : Bool) → (a && b && c && d) ≡ ((b && c) && (a && d))
+and_regroup true true true d = refl
+and_regroup true true false d = refl
+and_regroup true false c d = refl
+and_regroup false b c d = sym (and_false (b && c))
 
-pub not-not : (b : Bool) → not (not b) ≡ b
-not-not true = refl
-not-not false = refl
+pub not_not : (b : Bool) → not (not b) ≡ b
+not_not true = refl
+not_not false = refl
 
-pub under-and : (a b : Bool) → (b ≡ true → a ≡ true) → b ≡ (a && b)
-under-and true b h = refl
-under-and false true h = sym (h refl)
-under-and false false h = refl
+pub under_and : (a b : Bool) → (b ≡ true → a ≡ true) → b ≡ (a && b)
+under_and true b h = refl
+under_and false true h = sym (h refl)
+under_and false false h = refl
 
 ---- r, which the code tests, is what b defines
 
 module _ {r b : Bool} (e : r ≡ b) where
-  pub is-so : r ≡ true → b ≡ true
-  is-so h = sym e ∙ h
+  pub is_so : r ≡ true → b ≡ true
+  is_so h = sym e ∙ h
 
-  pub is-not-so : r ≡ false → b ≡ false
-  is-not-so h = sym e ∙ h
+  pub is_not_so : r ≡ false → b ≡ false
+  is_not_so h = sym e ∙ h
 
-  pub so-by-not : not r ≡ false → b ≡ true
-  so-by-not h = sym e ∙ not-false _ h
+  pub so_by_not : not r ≡ false → b ≡ true
+  so_by_not h = sym e ∙ not-false _ h
 
-  pub not-so-by-not : not r ≡ true → b ≡ false
-  not-so-by-not h = sym e ∙ not-true _ h
+  pub not_so_by_not : not r ≡ true → b ≡ false
+  not_so_by_not h = sym e ∙ not-true _ h
 
-pub ruleset tested = (is-so, is-not-so, so-by-not, not-so-by-not)
+pub ruleset tested = (is_so, is_not_so, so_by_not, not_so_by_not)

@@ -1,5 +1,5 @@
 -- A fact of every element of a list.
-use Rattle.lists.specs.Lists.{downFrom, up_from, any, concat, filter, isIn}
+use Rattle.lists.specs.Lists.{down_from, up_from, any, concat, filter, is_in}
 use mathlib.Core.Bool.{◌&&◌, Bool, cond, false, or-true, true}
 use mathlib.Core.List.{List, [], ◌++◌, ◌∷◌, map}
 use mathlib.Core.Path.{◌≡◌, refl}
@@ -33,9 +33,9 @@ pub each_map : {A : Type 0} (P Q : A → Type 0) (xs : List A) → ((x : A) → 
 each_map P Q [] f h = tt
 each_map P Q (x ∷ xs) f h = (f x h.0, each_map P Q xs f h.1)
 
-pub each-of-map : {A B : Type 0} (P : B → Type 0) (f : A → B) (xs : List A) → Each (λ x. P (f x)) xs → Each P (map f xs)
-each-of-map P f [] h = tt
-each-of-map P f (x ∷ xs) h = (h.0, each-of-map P f xs h.1)
+pub each_of_map : {A B : Type 0} (P : B → Type 0) (f : A → B) (xs : List A) → Each (λ x. P (f x)) xs → Each P (map f xs)
+each_of_map P f [] h = tt
+each_of_map P f (x ∷ xs) h = (h.0, each_of_map P f xs h.1)
 
 pub each_both : {A : Type 0} (P Q : A → Type 0) (xs : List A) → Each P xs → Each Q xs → Each (λ x. P x × Q x) xs
 each_both P Q [] h k = tt
@@ -43,34 +43,34 @@ each_both P Q (x ∷ xs) h k = ((h.0, k.0), each_both P Q xs h.1 k.1)
 
 module _ {A : Type 0} (P : A → Type 0) (p : A → Bool) where
   -- of those that pass
-  pub each-passed : (xs : List A) → Each (λ x. p x ≡ true → P x) xs → Each P (filter p xs)
+  pub each_passed : (xs : List A) → Each (λ x. p x ≡ true → P x) xs → Each P (filter p xs)
   unfolding filter
-  each-passed [] h = tt
-  each-passed (x ∷ xs) h = go (p x) refl (each-passed xs h.1)
+  each_passed [] h = tt
+  each_passed (x ∷ xs) h = go (p x) refl (each_passed xs h.1)
     where
       go : (b : Bool) → p x ≡ b → Each P (filter p xs) → Each P (cond b (x ∷ filter p xs) (filter p xs))
       go true e rest = (h.0 e, rest)
       go false e rest = rest
 
-  pub each-filter : (xs : List A) → Each P xs → Each P (filter p xs)
-  each-filter xs h = each-passed xs (each_map P (λ x. p x ≡ true → P x) xs (λ x a e. a) h)
+  pub each_filter : (xs : List A) → Each P xs → Each P (filter p xs)
+  each_filter xs h = each_passed xs (each_map P (λ x. p x ≡ true → P x) xs (λ x a e. a) h)
 
-  pub each-test : (xs : List A) → ((x : A) → p x ≡ true → P x) → Each P (filter p xs)
-  each-test xs h = each-passed xs (each-every xs)
+  pub each_test : (xs : List A) → ((x : A) → p x ≡ true → P x) → Each P (filter p xs)
+  each_test xs h = each_passed xs (each_every xs)
     where
-      each-every : (ys : List A) → Each (λ x. p x ≡ true → P x) ys
-      each-every [] = tt
-      each-every (y ∷ ys) = (h y, each-every ys)
+      each_every : (ys : List A) → Each (λ x. p x ≡ true → P x) ys
+      each_every [] = tt
+      each_every (y ∷ ys) = (h y, each_every ys)
 
-pub each-concat : (P : ℕ → Type 0) (F : ℕ → List ℕ) (cs : List ℕ) → Each (λ c. Each P (F c)) cs → Each P (concat (map F cs))
+pub each_concat : (P : ℕ → Type 0) (F : ℕ → List ℕ) (cs : List ℕ) → Each (λ c. Each P (F c)) cs → Each P (concat (map F cs))
 unfolding concat
-each-concat P F [] a = tt
-each-concat P F (c ∷ cs) a = each_append P (F c) (concat (map F cs)) a.0 (each-concat P F cs a.1)
+each_concat P F [] a = tt
+each_concat P F (c ∷ cs) a = each_append P (F c) (concat (map F cs)) a.0 (each_concat P F cs a.1)
 
-pub each-passing : (p : ℕ → Bool) (Q : ℕ → Type 0) (xs : List ℕ) → ((x : ℕ) → isIn x xs ≡ true → p x ≡ true → Q x) → Each Q (filter p xs)
-unfolding filter isIn any
-each-passing p Q [] h = tt
-each-passing p Q (x ∷ xs) h = go (p x) refl (each-passing p Q xs (λ y e q. h y (rw e (or-true (eqb y x))) q))
+pub each_passing : (p : ℕ → Bool) (Q : ℕ → Type 0) (xs : List ℕ) → ((x : ℕ) → is_in x xs ≡ true → p x ≡ true → Q x) → Each Q (filter p xs)
+unfolding filter is_in any
+each_passing p Q [] h = tt
+each_passing p Q (x ∷ xs) h = go (p x) refl (each_passing p Q xs (λ y e q. h y (rw e (or-true (eqb y x))) q))
   where
     go : (b : Bool) → p x ≡ b → Each Q (filter p xs) → Each Q (cond b (x ∷ filter p xs) (filter p xs))
     go true e ih = (h x (rw (eq-eqb x x refl)) e, ih)
@@ -89,31 +89,31 @@ module _ {A : Type 0} (P : A → Type 0) where
   each_right [] ys a = a
   each_right (x ∷ xs) ys a = each_right xs ys a.1
 
-  pub each-up : (F : ℕ → List A) (n a : ℕ) → ((t : ℕ) → a ≤ t → t < a + n → Each P (F t)) → Each P (concat (map F (up_from a n)))
+  pub each_up : (F : ℕ → List A) (n a : ℕ) → ((t : ℕ) → a ≤ t → t < a + n → Each P (F t)) → Each P (concat (map F (up_from a n)))
   unfolding up_from concat
-  each-up F zero a h = tt
-  each-up F (suc n) a h = each_append P (F a) _ (h a (le_refl a) (omega arith))
-      (each-up F n (suc a) (λ t l u. h t (omega arith) (omega arith)))
+  each_up F zero a h = tt
+  each_up F (suc n) a h = each_append P (F a) _ (h a (le_refl a) (omega arith))
+      (each_up F n (suc a) (λ t l u. h t (omega arith) (omega arith)))
 
-  pub each-down : (F : ℕ → List A) (n : ℕ) → ((t : ℕ) → Each P (F t)) → Each P (concat (map F (downFrom n)))
-  unfolding downFrom concat
-  each-down F zero h = tt
-  each-down F (suc n) h = each_append P (F (suc n)) _ (h (suc n)) (each-down F n h)
+  pub each_down : (F : ℕ → List A) (n : ℕ) → ((t : ℕ) → Each P (F t)) → Each P (concat (map F (down_from n)))
+  unfolding down_from concat
+  each_down F zero h = tt
+  each_down F (suc n) h = each_append P (F (suc n)) _ (h (suc n)) (each_down F n h)
 
 -- of each number of a range
-pub each-range : (P : ℕ → Type 0) (n a : ℕ) → ((i : ℕ) → a ≤ i → i < a + n → P i) → Each P (up_from a n)
+pub each_range : (P : ℕ → Type 0) (n a : ℕ) → ((i : ℕ) → a ≤ i → i < a + n → P i) → Each P (up_from a n)
 unfolding up_from
-each-range P zero a h = tt
-each-range P (suc n) a h = (h a (le_refl a) (omega arith), each-range P n (suc a) (λ i l u. h i (omega arith) (omega arith)))
+each_range P zero a h = tt
+each_range P (suc n) a h = (h a (le_refl a) (omega arith), each_range P n (suc a) (λ i l u. h i (omega arith) (omega arith)))
 
 -- what is kept of each, kept of all
-pub kept-children : (g : ℕ → Bool) (b : Bool) (F G : ℕ → List ℕ) (cs : List ℕ) → Each (λ c. F c ≡ cond (b && g c) (G c) []) cs
+pub kept_children : (g : ℕ → Bool) (b : Bool) (F G : ℕ → List ℕ) (cs : List ℕ) → Each (λ c. F c ≡ cond (b && g c) (G c) []) cs
     → concat (map F cs) ≡ cond b (concat (map G (filter g cs))) []
 unfolding concat filter
-kept-children g true F G [] a = refl
-kept-children g false F G [] a = refl
-kept-children g false F G (c ∷ cs) a = rw a.0 (kept-children g false F G cs a.1)
-kept-children g true F G (c ∷ cs) a = go (g c) a.0 (kept-children g true F G cs a.1)
+kept_children g true F G [] a = refl
+kept_children g false F G [] a = refl
+kept_children g false F G (c ∷ cs) a = rw a.0 (kept_children g false F G cs a.1)
+kept_children g true F G (c ∷ cs) a = go (g c) a.0 (kept_children g true F G cs a.1)
   where
     go : (t : Bool) → F c ≡ cond t (G c) [] → concat (map F cs) ≡ concat (map G (filter g cs))
         → F c ++ concat (map F cs) ≡ concat (map G (cond t (c ∷ filter g cs) (filter g cs)))

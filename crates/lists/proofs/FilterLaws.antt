@@ -1,8 +1,8 @@
 -- Laws of the elements that pass a test.
-use Rattle.lists.specs.Lists.{all, any, concat, downFrom, filter, up_from}
+use Rattle.lists.specs.Lists.{all, any, concat, down_from, filter, up_from}
 use Rattle.lists.proofs.BoolLaws.{and_left, and_right, never}
 use Rattle.lists.proofs.EachLaws.{Each}
-use Rattle.lists.proofs.RangeLaws.{concat-none, concat-nothing}
+use Rattle.lists.proofs.RangeLaws.{concat_none, concat_nothing}
 use mathlib.Core.Bool.{Bool, ◌&&◌, ◌||◌, cond, false, true}
 use mathlib.Core.List.{List, [], ◌++◌, ◌∷◌, append-nil, map, map-append}
 use Prim.Native.Nat.{◌+◌, ◌-◌, ◌<◌, ◌≤◌, suc, zero, ℕ}
@@ -15,26 +15,26 @@ use lib.ListN.{get_or, length, length-append, set, take}
 use native.Mathlib.Decide.{ℕ_discrete}
 
 module _ {A : Type 0} (p : A → Bool) where
-  pub filter-append : (xs ys : List A) → filter p (xs ++ ys) ≡ filter p xs ++ filter p ys
+  pub filter_append : (xs ys : List A) → filter p (xs ++ ys) ≡ filter p xs ++ filter p ys
   unfolding filter
-  filter-append [] ys = refl
-  filter-append (x ∷ xs) ys = rw (filter-append xs ys) (go (p x))
+  filter_append [] ys = refl
+  filter_append (x ∷ xs) ys = rw (filter_append xs ys) (go (p x))
     where
       go : (b : Bool) → cond b (x ∷ (filter p xs ++ filter p ys)) (filter p xs ++ filter p ys) ≡ cond b (x ∷ filter p xs) (filter p xs)
           ++ filter p ys
       go true = refl
       go false = refl
 
-  pub filter-every : (xs : List A) → ((x : A) → p x ≡ true) → filter p xs ≡ xs
+  pub filter_every : (xs : List A) → ((x : A) → p x ≡ true) → filter p xs ≡ xs
   unfolding filter
-  filter-every [] h = refl
-  filter-every (x ∷ xs) h = rw (h x, filter-every xs h)
+  filter_every [] h = refl
+  filter_every (x ∷ xs) h = rw (h x, filter_every xs h)
 
   -- where one is left, one passes
-  pub some-passes : (xs : List A) → 1 ≤ length (filter p xs) → any p xs ≡ true
+  pub some_passes : (xs : List A) → 1 ≤ length (filter p xs) → any p xs ≡ true
   unfolding filter any
-  some-passes [] h = absurd (not-suc-le-zero h)
-  some-passes (x ∷ xs) h = go (p x) h (some-passes xs)
+  some_passes [] h = absurd (not-suc-le-zero h)
+  some_passes (x ∷ xs) h = go (p x) h (some_passes xs)
     where
       go : (b : Bool) → 1 ≤ length (cond b (x ∷ filter p xs) (filter p xs)) → (1 ≤ length (filter p xs) → any p xs ≡ true)
           → (b || any p xs) ≡ true
@@ -42,13 +42,13 @@ module _ {A : Type 0} (p : A → Bool) where
       go false h ih = ih h
 
   -- the first of n elements has number a + 1, and those with a number above v pass
-  pub passing-above : (d : A) (v n a : ℕ) (xs : List A) → n ≤ length xs → ((i : ℕ) → i < n → p (get_or xs i d) ≡ ltb v (a + i + 1))
+  pub passing_above : (d : A) (v n a : ℕ) (xs : List A) → n ≤ length xs → ((i : ℕ) → i < n → p (get_or xs i d) ≡ ltb v (a + i + 1))
       → length (filter p (take n xs)) ≡ (a + n - v) - (a - v)
   unfolding filter
-  passing-above d v zero a xs l e = omega arith
-  passing-above d v (suc n) a [] l e = absurd (not-suc-le-zero l)
-  passing-above d v (suc n) a (x ∷ xs) l e =
-      go (p x) refl (passing-above d v n (suc a) xs (le_of_suc-le-suc l) (λ i u. e (suc i) (omega arith) ∙ ap (ltb v) (omega arith)))
+  passing_above d v zero a xs l e = omega arith
+  passing_above d v (suc n) a [] l e = absurd (not-suc-le-zero l)
+  passing_above d v (suc n) a (x ∷ xs) l e =
+      go (p x) refl (passing_above d v n (suc a) xs (le_of_suc-le-suc l) (λ i u. e (suc i) (omega arith) ∙ ap (ltb v) (omega arith)))
     where
       first : p x ≡ ltb v (a + 0 + 1)
       first = e 0 (omega arith)
@@ -59,10 +59,10 @@ module _ {A : Type 0} (p : A → Bool) where
       go false q ih = omega (arith, ltb-false v (a + 0 + 1) (sym first ∙ q))
 
 -- an element that passes is left
-pub any-passes : {A : Type 0} (p : A → Bool) (xs : List A) → any p xs ≡ true → 1 ≤ length (filter p xs)
+pub any_passes : {A : Type 0} (p : A → Bool) (xs : List A) → any p xs ≡ true → 1 ≤ length (filter p xs)
 unfolding filter any
-any-passes p [] e = never e
-any-passes p (x ∷ xs) e = go (p x) e (any-passes p xs)
+any_passes p [] e = never e
+any_passes p (x ∷ xs) e = go (p x) e (any_passes p xs)
   where
     go : (b : Bool) → (b || any p xs) ≡ true → (any p xs ≡ true → 1 ≤ length (filter p xs))
         → 1 ≤ length (cond b (x ∷ filter p xs) (filter p xs))
@@ -75,9 +75,9 @@ pub record FirstFails {A : Type 0} (p : A → Bool) (xs : List A) (d : A) (i : �
   pub front : (k : ℕ) → k < i → p (get_or xs k d) ≡ true
   pub here : i < length xs → p (get_or xs i d) ≡ false
 
-pub first-fails : {A : Type 0} (p : A → Bool) (xs : List A) (d : A) → (i : ℕ) × FirstFails p xs d i
-first-fails p [] d = (0, record { inside = omega arith; front = λ k h. absurd (omega arith); here = λ h. absurd (omega arith) })
-first-fails p (x ∷ xs) d = go (p x) refl (first-fails p xs d)
+pub first_fails : {A : Type 0} (p : A → Bool) (xs : List A) (d : A) → (i : ℕ) × FirstFails p xs d i
+first_fails p [] d = (0, record { inside = omega arith; front = λ k h. absurd (omega arith); here = λ h. absurd (omega arith) })
+first_fails p (x ∷ xs) d = go (p x) refl (first_fails p xs d)
   where
     front : (i : ℕ) → p x ≡ true → FirstFails p xs d i → (k : ℕ) → k < suc i → p (get_or (x ∷ xs) k d) ≡ true
     front i e h zero l = e
@@ -92,15 +92,15 @@ unfolding filter
 filter_alike p q [] h = refl
 filter_alike p q (x ∷ xs) h = rw (h.0, filter_alike p q xs h.1)
 
-pub filter-each : {A : Type 0} (p : A → Bool) (xs : List A) → Each (λ x. p x ≡ true) xs → filter p xs ≡ xs
+pub filter_each : {A : Type 0} (p : A → Bool) (xs : List A) → Each (λ x. p x ≡ true) xs → filter p xs ≡ xs
 unfolding filter
-filter-each p [] h = refl
-filter-each p (x ∷ xs) h = rw (h.0, filter-each p xs h.1)
+filter_each p [] h = refl
+filter_each p (x ∷ xs) h = rw (h.0, filter_each p xs h.1)
 
-pub filter-swap : {A : Type 0} (p q : A → Bool) (xs : List A) → filter p (filter q xs) ≡ filter q (filter p xs)
+pub filter_swap : {A : Type 0} (p q : A → Bool) (xs : List A) → filter p (filter q xs) ≡ filter q (filter p xs)
 unfolding filter
-filter-swap p q [] = refl
-filter-swap p q (x ∷ xs) = go (p x) refl (q x) refl (filter-swap p q xs)
+filter_swap p q [] = refl
+filter_swap p q (x ∷ xs) = go (p x) refl (q x) refl (filter_swap p q xs)
   where
     go : (b : Bool) → p x ≡ b → (c : Bool) → q x ≡ c → filter p (filter q xs) ≡ filter q (filter p xs)
         → filter p (cond c (x ∷ filter q xs) (filter q xs)) ≡ filter q (cond b (x ∷ filter p xs) (filter p xs))
@@ -129,83 +129,83 @@ module _ {A B : Type 0} (p : B → Bool) (h : A → B) (d : A) where
       rw (e 0 (omega arith) (omega arith), filter_none n xs (λ i a l. e (suc i) (omega arith) (omega arith)))
 
   -- only the element j can pass
-  pub filter-one : (n j : ℕ) (xs : List A) → j < n → j < length xs → ((i : ℕ) → i < n → i < length xs → (i ≡ j → ⊥)
+  pub filter_one : (n j : ℕ) (xs : List A) → j < n → j < length xs → ((i : ℕ) → i < n → i < length xs → (i ≡ j → ⊥)
       → p (h (get_or xs i d)) ≡ false) → filter p (map h (take n xs)) ≡ cond (p (h (get_or xs j d))) (h (get_or xs j d) ∷ []) []
   unfolding filter
-  filter-one zero j xs hn hl e = absurd (not-suc-le-zero hn)
-  filter-one (suc n) j [] hn hl e = absurd (not-suc-le-zero hl)
-  filter-one (suc n) zero (x ∷ xs) hn hl e =
+  filter_one zero j xs hn hl e = absurd (not-suc-le-zero hn)
+  filter_one (suc n) j [] hn hl e = absurd (not-suc-le-zero hl)
+  filter_one (suc n) zero (x ∷ xs) hn hl e =
       rw (filter_none n xs (λ i a l. e (suc i) (omega arith) (omega arith) (λ z. omega arith)))
-  filter-one (suc n) (suc j) (x ∷ xs) hn hl e =
-      rw (e 0 (omega arith) (omega arith) (λ z. omega arith)) (filter-one n j xs (le_of_suc-le-suc hn) (le_of_suc-le-suc hl)
+  filter_one (suc n) (suc j) (x ∷ xs) hn hl e =
+      rw (e 0 (omega arith) (omega arith) (λ z. omega arith)) (filter_one n j xs (le_of_suc-le-suc hn) (le_of_suc-le-suc hl)
       (λ i a l ne. e (suc i) (omega arith) (omega arith) (λ z. ne (omega arith))))
 
   -- of m elements the first n pass, and no others
-  pub filter-front : (n m : ℕ) (xs : List A) → n ≤ m → ((i : ℕ) → i < m → i < length xs → p (h (get_or xs i d)) ≡ ltb i n)
+  pub filter_front : (n m : ℕ) (xs : List A) → n ≤ m → ((i : ℕ) → i < m → i < length xs → p (h (get_or xs i d)) ≡ ltb i n)
       → filter p (map h (take m xs)) ≡ map h (take n xs)
   unfolding filter
-  filter-front zero zero xs l e = refl
-  filter-front (suc n) zero xs l e = absurd (not-suc-le-zero l)
-  filter-front zero (suc m) [] l e = refl
-  filter-front (suc n) (suc m) [] l e = refl
-  filter-front zero (suc m) (x ∷ xs) l e =
-      rw (e 0 (omega arith) (omega arith)) (filter-front zero m xs (omega arith)
+  filter_front zero zero xs l e = refl
+  filter_front (suc n) zero xs l e = absurd (not-suc-le-zero l)
+  filter_front zero (suc m) [] l e = refl
+  filter_front (suc n) (suc m) [] l e = refl
+  filter_front zero (suc m) (x ∷ xs) l e =
+      rw (e 0 (omega arith) (omega arith)) (filter_front zero m xs (omega arith)
       (λ i a b. e (suc i) (omega arith) (omega arith) ∙ le-ltb (suc i) 0 (omega arith) ∙ sym (le-ltb i 0 (omega arith))))
-  filter-front (suc n) (suc m) (x ∷ xs) l e =
-      rw (e 0 (omega arith) (omega arith), lt-ltb 0 (suc n) (omega arith)) (ap (◌∷◌ (h x)) (filter-front n m xs (le_of_suc-le-suc l)
+  filter_front (suc n) (suc m) (x ∷ xs) l e =
+      rw (e 0 (omega arith) (omega arith), lt-ltb 0 (suc n) (omega arith)) (ap (◌∷◌ (h x)) (filter_front n m xs (le_of_suc-le-suc l)
       (λ i a b. e (suc i) (omega arith) (omega arith) ∙ leb-suc-suc (suc i) n)))
 
 module _ {A B : Type 0} (p : B → Bool) (h : A → B) (F : ℕ → List A) where
-  filter-parts-none : (n a : ℕ) → ((s : ℕ) → a ≤ s → s < a + n → filter p (map h (F s)) ≡ [])
+  filter_parts_none : (n a : ℕ) → ((s : ℕ) → a ≤ s → s < a + n → filter p (map h (F s)) ≡ [])
       → filter p (map h (concat (map F (up_from a n)))) ≡ []
   unfolding up_from concat filter
-  filter-parts-none zero a e = refl
-  filter-parts-none (suc n) a e =
-      rw (map-append, filter-append, e a (le_refl a) (omega arith), filter-parts-none n (suc a) (λ s l u. e s (omega arith) (omega arith)))
+  filter_parts_none zero a e = refl
+  filter_parts_none (suc n) a e =
+      rw (map-append, filter_append, e a (le_refl a) (omega arith), filter_parts_none n (suc a) (λ s l u. e s (omega arith) (omega arith)))
 
   -- only part s can have elements that pass
-  pub filter-part : (n a s : ℕ) → a ≤ s → s < a + n → ((r : ℕ) → a ≤ r → r < a + n → (r ≡ s → ⊥) → filter p (map h (F r)) ≡ [])
+  pub filter_part : (n a s : ℕ) → a ≤ s → s < a + n → ((r : ℕ) → a ≤ r → r < a + n → (r ≡ s → ⊥) → filter p (map h (F r)) ≡ [])
       → filter p (map h (concat (map F (up_from a n)))) ≡ filter p (map h (F s))
   unfolding up_from concat
-  filter-part zero a s l u e = absurd (omega arith)
-  filter-part (suc n) a s l u e = elim (ℕ_discrete a s) [
+  filter_part zero a s l u e = absurd (omega arith)
+  filter_part (suc n) a s l u e = elim (ℕ_discrete a s) [
     | yes q ↦ rw (
       map-append,
-      filter-append,
-      filter-parts-none n (suc a) (λ r b c. e r (omega arith) (omega arith) (λ z. omega arith)),
+      filter_append,
+      filter_parts_none n (suc a) (λ r b c. e r (omega arith) (omega arith) (λ z. omega arith)),
       append-nil,
       q,
     )
-    | no ne ↦ rw (map-append, filter-append, e a (le_refl a) (omega arith) ne) (filter-part n (suc a) s (omega arith) (omega arith)
+    | no ne ↦ rw (map-append, filter_append, e a (le_refl a) (omega arith) ne) (filter_part n (suc a) s (omega arith) (omega arith)
         (λ r b c z. e r (omega arith) (omega arith) z))
   ]
 
-pub filter-concat : {A : Type 0} (p : A → Bool) (F : ℕ → List A) (ns : List ℕ)
+pub filter_concat : {A : Type 0} (p : A → Bool) (F : ℕ → List A) (ns : List ℕ)
     → filter p (concat (map F ns)) ≡ concat (map (λ n. filter p (F n)) ns)
 unfolding concat filter
-filter-concat p F [] = refl
-filter-concat p F (n ∷ ns) = rw (filter-append p (F n) (concat (map F ns)), filter-concat p F ns)
+filter_concat p F [] = refl
+filter_concat p F (n ∷ ns) = rw (filter_append p (F n) (concat (map F ns)), filter_concat p F ns)
 
 -- a list of lists with one more element, which does not pass
-pub filter-set : {A : Type 0} (p : A → Bool) (x : A) → p x ≡ false → (log : List (List A)) (i : ℕ)
+pub filter_set : {A : Type 0} (p : A → Bool) (x : A) → p x ≡ false → (log : List (List A)) (i : ℕ)
     → filter p (concat (set log i (get_or log i [] ++ (x ∷ [])))) ≡ filter p (concat log)
 unfolding concat filter
-filter-set p x e [] i = refl
-filter-set p x e (ys ∷ log) zero = rw (filter-append, filter-append, filter-append, e, append-nil)
-filter-set p x e (ys ∷ log) (suc i) = rw (filter-append, filter-append, filter-set p x e log i)
+filter_set p x e [] i = refl
+filter_set p x e (ys ∷ log) zero = rw (filter_append, filter_append, filter_append, e, append-nil)
+filter_set p x e (ys ∷ log) (suc i) = rw (filter_append, filter_append, filter_set p x e log i)
 
-pub map-filter-concat : {A B : Type 0} (f : A → B) (p : A → Bool) (F : ℕ → List A) (ns : List ℕ)
+pub map_filter_concat : {A B : Type 0} (f : A → B) (p : A → Bool) (F : ℕ → List A) (ns : List ℕ)
     → map f (filter p (concat (map F ns))) ≡ concat (map (λ s. map f (filter p (F s))) ns)
 unfolding concat filter
-map-filter-concat f p F [] = refl
-map-filter-concat f p F (n ∷ ns) = rw (filter-append p (F n) (concat (map F ns)), map-append, map-filter-concat f p F ns)
+map_filter_concat f p F [] = refl
+map_filter_concat f p F (n ∷ ns) = rw (filter_append p (F n) (concat (map F ns)), map-append, map_filter_concat f p F ns)
 
-pub filter-map-filter : {A : Type 0} (p : A → Bool) (f : ℕ → A) (q r : ℕ → Bool) (n a : ℕ)
+pub filter_map_filter : {A : Type 0} (p : A → Bool) (f : ℕ → A) (q r : ℕ → Bool) (n a : ℕ)
     → ((k : ℕ) → a ≤ k → k < a + n → (q k && p (f k)) ≡ r k) → filter p (map f (filter q (up_from a n))) ≡ map f (filter r (up_from a n))
 unfolding filter up_from
-filter-map-filter p f q r zero a h = refl
-filter-map-filter p f q r (suc n) a h = go (q a) (p (f a)) (r a) refl refl refl (h a (le_refl a) (omega arith))
-    (filter-map-filter p f q r n (suc a) (λ k l u. h k (omega arith) (omega arith)))
+filter_map_filter p f q r zero a h = refl
+filter_map_filter p f q r (suc n) a h = go (q a) (p (f a)) (r a) refl refl refl (h a (le_refl a) (omega arith))
+    (filter_map_filter p f q r n (suc a) (λ k l u. h k (omega arith) (omega arith)))
   where
     go : (x y z : Bool) → q a ≡ x → p (f a) ≡ y → r a ≡ z → (q a && p (f a)) ≡ r a
         → filter p (map f (filter q (up_from (suc a) n))) ≡ map f (filter r (up_from (suc a) n))
@@ -218,13 +218,13 @@ filter-map-filter p f q r (suc n) a h = go (q a) (p (f a)) (r a) refl refl refl 
     go false y true e₁ e₂ e₃ e ih = never (rw (e₁, e₃) at e)
     go false y false e₁ e₂ e₃ e ih = ih
 
-pub any-map-filter : (p : ℕ → Bool) (f : ℕ → ℕ) (q r : ℕ → Bool) (n a : ℕ) → ((k : ℕ) → a ≤ k → k < a + n → (q k && p (f k)) ≡ r k)
+pub any_map_filter : (p : ℕ → Bool) (f : ℕ → ℕ) (q r : ℕ → Bool) (n a : ℕ) → ((k : ℕ) → a ≤ k → k < a + n → (q k && p (f k)) ≡ r k)
     → any p (map f (filter q (up_from a n))) ≡ any r (up_from a n)
 unfolding any filter up_from
-any-map-filter p f q r zero a h = refl
-any-map-filter p f q r (suc n) a h = rw (
+any_map_filter p f q r zero a h = refl
+any_map_filter p f q r (suc n) a h = rw (
   ← h a (le_refl a) (omega arith),
-  ← any-map-filter p f q r n (suc a)
+  ← any_map_filter p f q r n (suc a)
       (λ k l u. h k (omega arith) (omega arith)),
 ) (go (q a))
   where
@@ -240,30 +240,30 @@ none_from p (suc n) a h =
     let e : p a ≡ false = rw (← add-zero a) (h 0 (omega arith)) in
     rw e (none_from p n (suc a) (λ i l. let q : suc a + i ≡ a + suc i = omega arith in rw q (h (suc i) (omega arith))))
 
-pub filter-length : {A : Type 0} (p : A → Bool) (xs : List A) → length (filter p xs) ≤ length xs
+pub filter_length : {A : Type 0} (p : A → Bool) (xs : List A) → length (filter p xs) ≤ length xs
 unfolding filter
-filter-length p [] = omega arith
-filter-length p (x ∷ xs) = go (p x) (filter-length p xs)
+filter_length p [] = omega arith
+filter_length p (x ∷ xs) = go (p x) (filter_length p xs)
   where
     go : (b : Bool) → length (filter p xs) ≤ length xs → length (cond b (x ∷ filter p xs) (filter p xs)) ≤ suc (length xs)
     go true ih = omega arith
     go false ih = omega arith
 
 -- where none is dropped, all are left
-pub filter-full : {A : Type 0} (p : A → Bool) (xs : List A) → length xs ≤ length (filter p xs) → filter p xs ≡ xs
+pub filter_full : {A : Type 0} (p : A → Bool) (xs : List A) → length xs ≤ length (filter p xs) → filter p xs ≡ xs
 unfolding filter
-filter-full p [] h = refl
-filter-full p (x ∷ xs) h = go (p x) h (filter-full p xs)
+filter_full p [] h = refl
+filter_full p (x ∷ xs) h = go (p x) h (filter_full p xs)
   where
     go : (b : Bool) → suc (length xs) ≤ length (cond b (x ∷ filter p xs) (filter p xs))
         → (length xs ≤ length (filter p xs) → filter p xs ≡ xs) → cond b (x ∷ filter p xs) (filter p xs) ≡ x ∷ xs
     go true h ih = ap (◌∷◌ x) (ih (le_of_suc-le-suc h))
-    go false h ih = absurd (omega (arith, filter-length p xs))
+    go false h ih = absurd (omega (arith, filter_length p xs))
 
-pub filter-both : {A : Type 0} (p q : A → Bool) (xs : List A) → filter (λ x. p x && q x) xs ≡ filter q (filter p xs)
+pub filter_both : {A : Type 0} (p q : A → Bool) (xs : List A) → filter (λ x. p x && q x) xs ≡ filter q (filter p xs)
 unfolding filter
-filter-both p q [] = refl
-filter-both p q (x ∷ xs) = rw (filter-both p q xs) (go (p x))
+filter_both p q [] = refl
+filter_both p q (x ∷ xs) = rw (filter_both p q xs) (go (p x))
   where
     go : (b : Bool) → cond (b && q x) (x ∷ filter q (filter p xs)) (filter q (filter p xs)) ≡ filter q
         (cond b (x ∷ filter p xs) (filter p xs))
@@ -277,95 +277,95 @@ module _ {A : Type 0} (P : A → Bool) where
   abbrev pub tally : List A → ℕ
   tally xs = length (filter P xs)
 
-  tally-cons : (x : A) (xs : List A) → tally (x ∷ xs) ≡ cond (P x) 1 0 + tally xs
+  tally_cons : (x : A) (xs : List A) → tally (x ∷ xs) ≡ cond (P x) 1 0 + tally xs
   unfolding filter
-  tally-cons x xs = go (P x)
+  tally_cons x xs = go (P x)
     where
       go : (b : Bool) → length (cond b (x ∷ filter P xs) (filter P xs)) ≡ cond b 1 0 + length (filter P xs)
       go true = omega arith
       go false = omega arith
 
-  tally-append : (xs ys : List A) → tally (xs ++ ys) ≡ tally xs + tally ys
-  tally-append xs ys = rw (filter-append P xs ys, length-append)
+  tally_append : (xs ys : List A) → tally (xs ++ ys) ≡ tally xs + tally ys
+  tally_append xs ys = rw (filter_append P xs ys, length-append)
 
-  pub tally-concat : (F G : ℕ → List A) (ns : List ℕ) → ((i : ℕ) → tally (F i) ≡ tally (G i))
+  pub tally_concat : (F G : ℕ → List A) (ns : List ℕ) → ((i : ℕ) → tally (F i) ≡ tally (G i))
       → tally (concat (map F ns)) ≡ tally (concat (map G ns))
   unfolding concat
-  tally-concat F G [] h = refl
-  tally-concat F G (n ∷ ns) h = rw (
-    tally-append (F n) (concat (map F ns)),
-    tally-append (G n) (concat (map G ns)),
+  tally_concat F G [] h = refl
+  tally_concat F G (n ∷ ns) h = rw (
+    tally_append (F n) (concat (map F ns)),
+    tally_append (G n) (concat (map G ns)),
     h n,
-    tally-concat F G ns
+    tally_concat F G ns
         h,
   )
 
   ---- a list in parts, by a key
 
   module _ (key : A → ℕ) where
-    abbrev pub ofKey : List A → ℕ → List A
-    ofKey xs t = filter (λ x. eqb (key x) t) xs
+    abbrev pub of_key : List A → ℕ → List A
+    of_key xs t = filter (λ x. eqb (key x) t) xs
 
-    outside-up : (x : A) (xs : List A) (n a : ℕ) → key x < a
-        → concat (map (ofKey (x ∷ xs)) (up_from a n)) ≡ concat (map (ofKey xs) (up_from a n))
+    outside_up : (x : A) (xs : List A) (n a : ℕ) → key x < a
+        → concat (map (of_key (x ∷ xs)) (up_from a n)) ≡ concat (map (of_key xs) (up_from a n))
     unfolding filter up_from concat
-    outside-up x xs zero a h = refl
-    outside-up x xs (suc n) a h = rw (ne_eqb (key x) a (λ e. omega arith))
-        (ap (λ t. ofKey xs a ++ t) (outside-up x xs n (suc a) (omega arith)))
+    outside_up x xs zero a h = refl
+    outside_up x xs (suc n) a h = rw (ne_eqb (key x) a (λ e. omega arith))
+        (ap (λ t. of_key xs a ++ t) (outside_up x xs n (suc a) (omega arith)))
 
-    inside-up : (x : A) (xs : List A) (n a : ℕ) → a ≤ key x → key x < a + n
-        → tally (concat (map (ofKey (x ∷ xs)) (up_from a n))) ≡ cond (P x) 1 0 + tally (concat (map (ofKey xs) (up_from a n)))
+    inside_up : (x : A) (xs : List A) (n a : ℕ) → a ≤ key x → key x < a + n
+        → tally (concat (map (of_key (x ∷ xs)) (up_from a n))) ≡ cond (P x) 1 0 + tally (concat (map (of_key xs) (up_from a n)))
     unfolding filter up_from concat
-    inside-up x xs zero a l u = absurd (omega arith)
-    inside-up x xs (suc n) a l u = elim (ℕ_discrete (key x) a) [
-      | yes e ↦ rw (eq-eqb (key x) a e, outside-up x xs n (suc a) (omega arith))
-          (tally-cons x (ofKey xs a ++ concat (map (ofKey xs) (up_from (suc a) n))))
+    inside_up x xs zero a l u = absurd (omega arith)
+    inside_up x xs (suc n) a l u = elim (ℕ_discrete (key x) a) [
+      | yes e ↦ rw (eq-eqb (key x) a e, outside_up x xs n (suc a) (omega arith))
+          (tally_cons x (of_key xs a ++ concat (map (of_key xs) (up_from (suc a) n))))
       | no ne ↦ rw (
         ne_eqb (key x) a ne,
-        tally-append (ofKey xs a) (concat (map (ofKey (x ∷ xs)) (up_from (suc a) n))),
-        tally-append
-            (ofKey xs a) (concat (map (ofKey xs) (up_from (suc a) n))),
-      ) (omega (arith, inside-up x xs n (suc a) (omega arith) (omega arith)))
+        tally_append (of_key xs a) (concat (map (of_key (x ∷ xs)) (up_from (suc a) n))),
+        tally_append
+            (of_key xs a) (concat (map (of_key xs) (up_from (suc a) n))),
+      ) (omega (arith, inside_up x xs n (suc a) (omega arith) (omega arith)))
     ]
 
-    outside-down : (x : A) (xs : List A) (n : ℕ) → n < key x
-        → concat (map (ofKey (x ∷ xs)) (downFrom n)) ≡ concat (map (ofKey xs) (downFrom n))
-    unfolding filter downFrom concat
-    outside-down x xs zero h = refl
-    outside-down x xs (suc n) h = rw (ne_eqb (key x) (suc n) (λ e. omega arith))
-        (ap (λ t. ofKey xs (suc n) ++ t) (outside-down x xs n (omega arith)))
+    outside_down : (x : A) (xs : List A) (n : ℕ) → n < key x
+        → concat (map (of_key (x ∷ xs)) (down_from n)) ≡ concat (map (of_key xs) (down_from n))
+    unfolding filter down_from concat
+    outside_down x xs zero h = refl
+    outside_down x xs (suc n) h = rw (ne_eqb (key x) (suc n) (λ e. omega arith))
+        (ap (λ t. of_key xs (suc n) ++ t) (outside_down x xs n (omega arith)))
 
-    inside-down : (x : A) (xs : List A) (n : ℕ) → 1 ≤ key x → key x ≤ n
-        → tally (concat (map (ofKey (x ∷ xs)) (downFrom n))) ≡ cond (P x) 1 0 + tally (concat (map (ofKey xs) (downFrom n)))
-    unfolding filter downFrom concat
-    inside-down x xs zero l u = absurd (omega arith)
-    inside-down x xs (suc n) l u = elim (ℕ_discrete (key x) (suc n)) [
-      | yes e ↦ rw (eq-eqb (key x) (suc n) e, outside-down x xs n (omega arith))
-          (tally-cons x (ofKey xs (suc n) ++ concat (map (ofKey xs) (downFrom n))))
+    inside_down : (x : A) (xs : List A) (n : ℕ) → 1 ≤ key x → key x ≤ n
+        → tally (concat (map (of_key (x ∷ xs)) (down_from n))) ≡ cond (P x) 1 0 + tally (concat (map (of_key xs) (down_from n)))
+    unfolding filter down_from concat
+    inside_down x xs zero l u = absurd (omega arith)
+    inside_down x xs (suc n) l u = elim (ℕ_discrete (key x) (suc n)) [
+      | yes e ↦ rw (eq-eqb (key x) (suc n) e, outside_down x xs n (omega arith))
+          (tally_cons x (of_key xs (suc n) ++ concat (map (of_key xs) (down_from n))))
       | no ne ↦ rw (
         ne_eqb (key x) (suc n) ne,
-        tally-append (ofKey xs (suc n)) (concat (map (ofKey (x ∷ xs)) (downFrom n))),
-        tally-append
-            (ofKey xs (suc n)) (concat (map (ofKey xs) (downFrom n))),
-      ) (omega (arith, inside-down x xs n l (omega arith)))
+        tally_append (of_key xs (suc n)) (concat (map (of_key (x ∷ xs)) (down_from n))),
+        tally_append
+            (of_key xs (suc n)) (concat (map (of_key xs) (down_from n))),
+      ) (omega (arith, inside_down x xs n l (omega arith)))
     ]
 
-    pub tally-up : (xs : List A) (n : ℕ) → all (λ x. leb 1 (key x) && leb (key x) n) xs ≡ true
-        → tally (concat (map (ofKey xs) (up_from 1 n))) ≡ tally xs
+    pub tally_up : (xs : List A) (n : ℕ) → all (λ x. leb 1 (key x) && leb (key x) n) xs ≡ true
+        → tally (concat (map (of_key xs) (up_from 1 n))) ≡ tally xs
     unfolding all filter
-    tally-up [] n h = rw (concat-nothing (ofKey []) n 1 (λ i l u. refl))
-    tally-up (x ∷ xs) n h =
+    tally_up [] n h = rw (concat_nothing (of_key []) n 1 (λ i l u. refl))
+    tally_up (x ∷ xs) n h =
         let e = and_left (leb 1 (key x) && leb (key x) n) _ h in
         let l = leb-true 1 (key x) (and_left (leb 1 (key x)) _ e) in
         let u = leb-true (key x) n (and_right (leb 1 (key x)) _ e) in
-        inside-up x xs n 1 l (omega arith) ∙ rw (tally-up xs n (and_right (leb 1 (key x) && leb (key x) n) _ h)) (sym (tally-cons x xs))
+        inside_up x xs n 1 l (omega arith) ∙ rw (tally_up xs n (and_right (leb 1 (key x) && leb (key x) n) _ h)) (sym (tally_cons x xs))
 
-    pub tally-down : (xs : List A) (n : ℕ) → all (λ x. leb 1 (key x) && leb (key x) n) xs ≡ true
-        → tally (concat (map (ofKey xs) (downFrom n))) ≡ tally xs
+    pub tally_down : (xs : List A) (n : ℕ) → all (λ x. leb 1 (key x) && leb (key x) n) xs ≡ true
+        → tally (concat (map (of_key xs) (down_from n))) ≡ tally xs
     unfolding all filter
-    tally-down [] n h = rw (concat-none (ofKey []) n (λ i l u. refl))
-    tally-down (x ∷ xs) n h =
+    tally_down [] n h = rw (concat_none (of_key []) n (λ i l u. refl))
+    tally_down (x ∷ xs) n h =
         let e = and_left (leb 1 (key x) && leb (key x) n) _ h in
         let l = leb-true 1 (key x) (and_left (leb 1 (key x)) _ e) in
         let u = leb-true (key x) n (and_right (leb 1 (key x)) _ e) in
-        inside-down x xs n l u ∙ rw (tally-down xs n (and_right (leb 1 (key x) && leb (key x) n) _ h)) (sym (tally-cons x xs))
+        inside_down x xs n l u ∙ rw (tally_down xs n (and_right (leb 1 (key x) && leb (key x) n) _ h)) (sym (tally_cons x xs))

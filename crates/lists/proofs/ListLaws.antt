@@ -15,18 +15,18 @@ use native.Mathlib.Nat.{le_of_suc-le-suc, not-suc-le-zero, suc-add, zero-add}
 
 ---- sums
 
-pub sum-suc : (c : List ℕ) (i : ℕ) → i < length c → sum (take (suc i) c) ≡ sum (take i c) + get_or c i 0
+pub sum_suc : (c : List ℕ) (i : ℕ) → i < length c → sum (take (suc i) c) ≡ sum (take i c) + get_or c i 0
 unfolding sum
-sum-suc [] i h = absurd (not-suc-le-zero h)
-sum-suc (x ∷ c) zero h = omega arith
-sum-suc (x ∷ c) (suc i) h = omega (arith, sum-suc c i (le_of_suc-le-suc h))
+sum_suc [] i h = absurd (not-suc-le-zero h)
+sum_suc (x ∷ c) zero h = omega arith
+sum_suc (x ∷ c) (suc i) h = omega (arith, sum_suc c i (le_of_suc-le-suc h))
 
-pub sum-take : (c : List ℕ) (i : ℕ) → sum (take i c) + get_or c i 0 ≤ sum c
+pub sum_take : (c : List ℕ) (i : ℕ) → sum (take i c) + get_or c i 0 ≤ sum c
 unfolding sum
-sum-take [] zero = omega arith
-sum-take [] (suc i) = omega arith
-sum-take (x ∷ c) zero = omega arith
-sum-take (x ∷ c) (suc i) = omega (arith, sum-take c i)
+sum_take [] zero = omega arith
+sum_take [] (suc i) = omega arith
+sum_take (x ∷ c) zero = omega arith
+sum_take (x ∷ c) (suc i) = omega (arith, sum_take c i)
 
 ---- two lists of bytes that are the same
 
@@ -35,32 +35,32 @@ unfolding same
 same_refl [] = refl
 same_refl (x ∷ xs) = rw (eq-eqb x x refl, same_refl xs)
 
-pub same-eq : (a b : List ℕ) → same a b ≡ true → a ≡ b
+pub same_eq : (a b : List ℕ) → same a b ≡ true → a ≡ b
 unfolding same
-same-eq [] [] e = refl
-same-eq [] (y ∷ b) e = never e
-same-eq (x ∷ a) [] e = never e
-same-eq (x ∷ a) (y ∷ b) e = ap₂ ◌∷◌ (eqb-true x y (and_left (eqb x y) _ e)) (same-eq a b (and_right (eqb x y) _ e))
+same_eq [] [] e = refl
+same_eq [] (y ∷ b) e = never e
+same_eq (x ∷ a) [] e = never e
+same_eq (x ∷ a) (y ∷ b) e = ap₂ ◌∷◌ (eqb-true x y (and_left (eqb x y) _ e)) (same_eq a b (and_right (eqb x y) _ e))
 
-pub same-sym : (a b : List ℕ) → same a b ≡ same b a
-same-sym a b =
-    both_ways (same a b) (same b a) (λ e. rw (same-eq a b e) (same_refl b)) (λ e. rw (same-eq b a e) (same_refl a))
+pub same_sym : (a b : List ℕ) → same a b ≡ same b a
+same_sym a b =
+    both_ways (same a b) (same b a) (λ e. rw (same_eq a b e) (same_refl b)) (λ e. rw (same_eq b a e) (same_refl a))
 
 -- a comparison of two lists, from place i on
-unfoldable pub sameFrom : List ℕ → List ℕ → ℕ → Bool
-sameFrom a b i = same (drop i a) (drop i b)
+unfoldable pub same_from : List ℕ → List ℕ → ℕ → Bool
+same_from a b i = same (drop i a) (drop i b)
 
-pub same-all : (a b : List ℕ) → same a b ≡ sameFrom a b 0
-unfolding sameFrom
-same-all a b = refl
+pub same_all : (a b : List ℕ) → same a b ≡ same_from a b 0
+unfolding same_from
+same_all a b = refl
 
 same_turn : (a b : List ℕ) (i : ℕ) → i < length a → i < length b
-    → sameFrom a b i ≡ (eqb (get_or a i 0) (get_or b i 0) && sameFrom a b (i + 1))
-unfolding sameFrom same
+    → same_from a b i ≡ (eqb (get_or a i 0) (get_or b i 0) && same_from a b (i + 1))
+unfolding same_from same
 same_turn a b i h l = rw (drop-cons a i 0 h, drop-cons b i 0 l, add-one i)
 
-same_end : (a b : List ℕ) (i : ℕ) → length a ≤ i → length b ≤ i → sameFrom a b i ≡ true
-unfolding sameFrom same
+same_end : (a b : List ℕ) (i : ℕ) → length a ≤ i → length b ≤ i → same_from a b i ≡ true
+unfolding same_from same
 same_end a b i h l = rw (drop_of_length-le a h, drop_of_length-le b l)
 
 -- a loop that compares two lists of one length, of which the first i elements are the same
@@ -68,50 +68,50 @@ pub record Matched (a b : List ℕ) (end i : ℕ) : Type 0 where
   pub whole : end ≡ length a
   pub long : length a ≡ length b
   pub few : i ≤ length a
-  pub left : same a b ≡ sameFrom a b i
+  pub left : same a b ≡ same_from a b i
 
 module _ (a b : List ℕ) where
-  pub match-starts : length a ≡ length b → Matched a b (length a) 0
-  match-starts h = record { whole = refl; long = h; few = omega arith; left = same-all a b }
+  pub match_starts : length a ≡ length b → Matched a b (length a) 0
+  match_starts h = record { whole = refl; long = h; few = omega arith; left = same_all a b }
 
   module _ (end i : ℕ) (t : Matched a b end i) where
-    pub match-there : i < end → i < length b
-    match-there h = omega (arith, t.whole, t.long)
+    pub match_there : i < end → i < length b
+    match_there h = omega (arith, t.whole, t.long)
 
-    match-next : i < end → same a b ≡ (eqb (get_or a i 0) (get_or b i 0) && sameFrom a b (i + 1))
-    match-next h = t.left ∙ same_turn a b i (omega (arith, t.whole)) (omega (arith, t.whole, t.long))
+    match_next : i < end → same a b ≡ (eqb (get_or a i 0) (get_or b i 0) && same_from a b (i + 1))
+    match_next h = t.left ∙ same_turn a b i (omega (arith, t.whole)) (omega (arith, t.whole, t.long))
 
-    pub match-fails : i < end → (get_or a i 0 ≡ get_or b i 0 → ⊥) → false ≡ same a b
-    match-fails h e = sym (match-next h ∙ rw (ne_eqb _ _ e))
+    pub match_fails : i < end → (get_or a i 0 ≡ get_or b i 0 → ⊥) → false ≡ same a b
+    match_fails h e = sym (match_next h ∙ rw (ne_eqb _ _ e))
 
-    pub match-on : i < end → get_or a i 0 ≡ get_or b i 0 → Matched a b end (i + 1)
-    match-on h e = record {
+    pub match_on : i < end → get_or a i 0 ≡ get_or b i 0 → Matched a b end (i + 1)
+    match_on h e = record {
       whole = t.whole;
       long = t.long;
       few = omega (arith, t.whole);
-      left = match-next h ∙ rw (eq-eqb _ _ e);
+      left = match_next h ∙ rw (eq-eqb _ _ e);
     }
 
-    pub match-ends : end ≤ i → true ≡ same a b
-    match-ends h = sym (t.left ∙ same_end a b i (omega (arith, t.whole)) (omega (arith, t.whole, t.long)))
+    pub match_ends : end ≤ i → true ≡ same a b
+    match_ends h = sym (t.left ∙ same_end a b i (omega (arith, t.whole)) (omega (arith, t.whole, t.long)))
 
 ---- lists of lists
 
-pub concat-append : {A : Type 0} (xs ys : List (List A)) → concat (xs ++ ys) ≡ concat xs ++ concat ys
+pub concat_append : {A : Type 0} (xs ys : List (List A)) → concat (xs ++ ys) ≡ concat xs ++ concat ys
 unfolding concat
-concat-append [] ys = refl
-concat-append (x ∷ xs) ys = rw (concat-append xs ys, append_assoc)
+concat_append [] ys = refl
+concat_append (x ∷ xs) ys = rw (concat_append xs ys, append_assoc)
 
-pub length-concat : {A : Type 0} (F : ℕ → List A) (ns : List ℕ) → length (concat (map F ns)) ≡ sum (map (λ n. length (F n)) ns)
+pub length_concat : {A : Type 0} (F : ℕ → List A) (ns : List ℕ) → length (concat (map F ns)) ≡ sum (map (λ n. length (F n)) ns)
 unfolding concat sum
-length-concat F [] = refl
-length-concat F (n ∷ ns) = rw (length-append, length-concat F ns)
+length_concat F [] = refl
+length_concat F (n ∷ ns) = rw (length-append, length_concat F ns)
 
-pub map-concat : {A B C : Type 0} (f : B → C) (F : A → List B) (cs : List A)
+pub map_concat : {A B C : Type 0} (f : B → C) (F : A → List B) (cs : List A)
     → map f (concat (map F cs)) ≡ concat (map (λ c. map f (F c)) cs)
 unfolding concat
-map-concat f F [] = refl
-map-concat f F (c ∷ cs) = rw (map-append, map-concat f F cs)
+map_concat f F [] = refl
+map_concat f F (c ∷ cs) = rw (map-append, map_concat f F cs)
 
 -- the image at a place
 pub map_at : {A B : Type 0} (f : A → B) (xs : List A) (i : ℕ) (e : B) (d : A) → i < length xs → get_or (map f xs) i e ≡ f (get_or xs i d)
@@ -119,19 +119,19 @@ map_at f [] i e d l = absurd (not-suc-le-zero l)
 map_at f (x ∷ xs) zero e d l = refl
 map_at f (x ∷ xs) (suc i) e d l = map_at f xs i e d (le_of_suc-le-suc l)
 
-pub map-map : {A B C : Type 0} (f : B → C) (g : A → B) (xs : List A) → map f (map g xs) ≡ map (λ x. f (g x)) xs
-map-map f g [] = refl
-map-map f g (x ∷ xs) = ap (λ ys. f (g x) ∷ ys) (map-map f g xs)
+pub map_map : {A B C : Type 0} (f : B → C) (g : A → B) (xs : List A) → map f (map g xs) ≡ map (λ x. f (g x)) xs
+map_map f g [] = refl
+map_map f g (x ∷ xs) = ap (λ ys. f (g x) ∷ ys) (map_map f g xs)
 
-pub map-take : {A B : Type 0} (g : A → B) (n : ℕ) (ys : List A) → map g (take n ys) ≡ take n (map g ys)
-map-take g zero ys = refl
-map-take g (suc n) [] = refl
-map-take g (suc n) (y ∷ ys) = ap (◌∷◌ (g y)) (map-take g n ys)
+pub map_take : {A B : Type 0} (g : A → B) (n : ℕ) (ys : List A) → map g (take n ys) ≡ take n (map g ys)
+map_take g zero ys = refl
+map_take g (suc n) [] = refl
+map_take g (suc n) (y ∷ ys) = ap (◌∷◌ (g y)) (map_take g n ys)
 
-pub map-drop : {A B : Type 0} (g : A → B) (n : ℕ) (ys : List A) → map g (drop n ys) ≡ drop n (map g ys)
-map-drop g zero ys = refl
-map-drop g (suc n) [] = refl
-map-drop g (suc n) (y ∷ ys) = map-drop g n ys
+pub map_drop : {A B : Type 0} (g : A → B) (n : ℕ) (ys : List A) → map g (drop n ys) ≡ drop n (map g ys)
+map_drop g zero ys = refl
+map_drop g (suc n) [] = refl
+map_drop g (suc n) (y ∷ ys) = map_drop g n ys
 
 ---- parts and stores
 
@@ -150,26 +150,26 @@ unfoldable pub stores : List ℕ → ℕ → List ℕ → List ℕ
 stores t n [] = t
 stores t n (x ∷ xs) = stores (set t n x) (n + 1) xs
 
-pub stores-are : (xs t : List ℕ) (n : ℕ) → n + length xs ≤ length t → stores t n xs ≡ take n t ++ (xs ++ drop (n + length xs) t)
+pub stores_are : (xs t : List ℕ) (n : ℕ) → n + length xs ≤ length t → stores t n xs ≡ take n t ++ (xs ++ drop (n + length xs) t)
 unfolding stores
-stores-are [] t n h = let z : n + 0 ≡ n = omega arith in rw z (sym (take-append-drop n t))
-stores-are (x ∷ xs) t n h =
+stores_are [] t n h = let z : n + 0 ≡ n = omega arith in rw z (sym (take-append-drop n t))
+stores_are (x ∷ xs) t n h =
     let more : n + 1 + length xs ≤ length (set t n x) = omega (arith, length-set t n x) in
     let end : n + suc (length xs) ≡ n + 1 + length xs = omega arith in
-    stores-are xs (set t n x) (n + 1) more
+    stores_are xs (set t n x) (n + 1) more
     ∙ rw (add-one n, take-suc-set t n x (omega arith), ← add-one n, drop-set-lt (n + 1 + length xs) t n x (omega arith), end, append_assoc)
 
-pub stores-append : (xs ys t : List ℕ) (n : ℕ) → stores t n (xs ++ ys) ≡ stores (stores t n xs) (n + length xs) ys
+pub stores_append : (xs ys t : List ℕ) (n : ℕ) → stores t n (xs ++ ys) ≡ stores (stores t n xs) (n + length xs) ys
 unfolding stores
-stores-append [] ys t n = let e : n + 0 ≡ n = omega arith in rw e
-stores-append (x ∷ xs) ys t n =
+stores_append [] ys t n = let e : n + 0 ≡ n = omega arith in rw e
+stores_append (x ∷ xs) ys t n =
     let e : n + suc (length xs) ≡ n + 1 + length xs = omega arith in
-    rw e (stores-append xs ys (set t n x) (n + 1))
+    rw e (stores_append xs ys (set t n x) (n + 1))
 
-pub stores-length : (xs t : List ℕ) (n : ℕ) → length (stores t n xs) ≡ length t
+pub stores_length : (xs t : List ℕ) (n : ℕ) → length (stores t n xs) ≡ length t
 unfolding stores
-stores-length [] t n = refl
-stores-length (x ∷ xs) t n = stores-length xs (set t n x) (n + 1) ∙ length-set t n x
+stores_length [] t n = refl
+stores_length (x ∷ xs) t n = stores_length xs (set t n x) (n + 1) ∙ length-set t n x
 
 ---- a loop that fills a table of n entries with x: the first i have it
 
@@ -191,17 +191,17 @@ fill_more x n i t f h = record {
   part = fill_step t i x f.part (omega (arith, f.size));
 }
 
-pub fill-all : (x n i : ℕ) (t : List ℕ) → Filled x n i t → n ≤ i → t ≡ replicate n x
-fill-all x n i t f h =
+pub fill_all : (x n i : ℕ) (t : List ℕ) → Filled x n i t → n ≤ i → t ≡ replicate n x
+fill_all x n i t f h =
     let e : i ≡ n = omega (arith, f.made) in
     sym (take_all n t (omega (arith, f.size))) ∙ rw e at f.part
 
 ---- parts of parts
 
-pub drop-take : (m n : ℕ) (l : List ℕ) → drop m (take (m + n) l) ≡ take n (drop m l)
-drop-take zero n l = rw zero-add
-drop-take (suc m) n [] = rw (suc-add, take-nil)
-drop-take (suc m) n (x ∷ l) = rw suc-add (drop-take m n l)
+pub drop_take : (m n : ℕ) (l : List ℕ) → drop m (take (m + n) l) ≡ take n (drop m l)
+drop_take zero n l = rw zero-add
+drop_take (suc m) n [] = rw (suc-add, take-nil)
+drop_take (suc m) n (x ∷ l) = rw suc-add (drop_take m n l)
 
 pub drop_past : (xs ys : List ℕ) (i j : ℕ) → i ≤ j → drop i xs ≡ drop i ys → drop j xs ≡ drop j ys
 drop_past xs ys i j h e =
@@ -211,15 +211,15 @@ drop_past xs ys i j h e =
 pub drop_more : (xs ys : List ℕ) (i : ℕ) → drop i xs ≡ drop i ys → drop (i + 1) xs ≡ drop (i + 1) ys
 drop_more xs ys i e = drop_past xs ys i (i + 1) (omega arith) e
 
-pub take-replicate : (a m n : ℕ) → m ≤ n → take m (replicate n a) ≡ replicate m a
-take-replicate a zero n l = refl
-take-replicate a (suc m) zero l = absurd (not-suc-le-zero l)
-take-replicate a (suc m) (suc n) l = ap (◌∷◌ a) (take-replicate a m n (le_of_suc-le-suc l))
+pub take_replicate : (a m n : ℕ) → m ≤ n → take m (replicate n a) ≡ replicate m a
+take_replicate a zero n l = refl
+take_replicate a (suc m) zero l = absurd (not-suc-le-zero l)
+take_replicate a (suc m) (suc n) l = ap (◌∷◌ a) (take_replicate a m n (le_of_suc-le-suc l))
 
-pub drop-replicate : (a m n : ℕ) → drop m (replicate n a) ≡ replicate (n - m) a
-drop-replicate a zero n = let e : n - 0 ≡ n = omega arith in rw e
-drop-replicate a (suc m) zero = let e : 0 - suc m ≡ 0 = omega arith in rw e
-drop-replicate a (suc m) (suc n) = let e : suc n - suc m ≡ n - m = omega arith in rw e (drop-replicate a m n)
+pub drop_replicate : (a m n : ℕ) → drop m (replicate n a) ≡ replicate (n - m) a
+drop_replicate a zero n = let e : n - 0 ≡ n = omega arith in rw e
+drop_replicate a (suc m) zero = let e : 0 - suc m ≡ 0 = omega arith in rw e
+drop_replicate a (suc m) (suc n) = let e : suc n - suc m ≡ n - m = omega arith in rw e (drop_replicate a m n)
 
 pub take_same : {A : Type 0} (d : A) (n : ℕ) (xs ys : List A) → n ≤ length xs → n ≤ length ys
     → ((i : ℕ) → i < n → get_or xs i d ≡ get_or ys i d)

@@ -9,8 +9,8 @@ use borrow.Author.Tests.{eq-eqb, ne_eqb}
 use lib.Dec.{eqb}
 use native.Mathlib.Decide.{ℕ_discrete}
 
-pub mul-step : (w n : ℕ) → w * suc n ≡ w + w * n
-mul-step w n = mul-suc w n ∙ add_comm (w * n) w
+pub mul_step : (w n : ℕ) → w * suc n ≡ w + w * n
+mul_step w n = mul-suc w n ∙ add_comm (w * n) w
 
 -- a body of w bytes for each of 255 ops
 pub product_small : (w n : ℕ) → w ≤ 255 → n ≤ 255 → w * n ≤ 65025
@@ -18,11 +18,11 @@ product_small w n a b = mul-le-mul a b
 
 ---- a bit, and the number above it
 
-pub lowest-bit : (b h : ℕ) → b < 2 → (b + 2 * h) % 2 ≡ b
-lowest-bit b h l = omega arith
+pub lowest_bit : (b h : ℕ) → b < 2 → (b + 2 * h) % 2 ≡ b
+lowest_bit b h l = omega arith
 
-pub above-bit : (b h : ℕ) → b < 2 → (b + 2 * h) / 2 ≡ h
-above-bit b h l = omega arith
+pub above_bit : (b h : ℕ) → b < 2 → (b + 2 * h) / 2 ≡ h
+above_bit b h l = omega arith
 
 ---- pigeonhole
 
@@ -79,12 +79,12 @@ least f (suc i) e = elim (ℕ_discrete (f 0) 0) [
     first j o nz (suc k) h q = o k (le_of_suc-le-suc h) q
 
 -- the first place up to i where f is n, or none
-pub search-for : (f : ℕ → ℕ) (n i : ℕ) → ((j : ℕ) × (j ≤ i) × (f j ≡ n) × ((k : ℕ) → k < j → f k ≡ n → ⊥)) ⊎ ((j : ℕ) → j ≤ i → f j ≡ n → ⊥)
-search-for f n zero = elim (ℕ_discrete (f 0) n) [
+pub search_for : (f : ℕ → ℕ) (n i : ℕ) → ((j : ℕ) × (j ≤ i) × (f j ≡ n) × ((k : ℕ) → k < j → f k ≡ n → ⊥)) ⊎ ((j : ℕ) → j ≤ i → f j ≡ n → ⊥)
+search_for f n zero = elim (ℕ_discrete (f 0) n) [
   | yes e ↦ inl (0, omega arith, e, λ k h q. omega arith)
   | no ne ↦ inr (λ j h q. ne (subst (λ (t : ℕ). f t ≡ n) (let z : j ≡ 0 = omega arith in z) q))
 ]
-search-for f n (suc i) = next (search-for f n i)
+search_for f n (suc i) = next (search_for f n i)
   where
     next : ((j : ℕ) × (j ≤ i) × (f j ≡ n) × ((k : ℕ) → k < j → f k ≡ n → ⊥)) ⊎ ((j : ℕ) → j ≤ i → f j ≡ n → ⊥)
         → ((j : ℕ) × (j ≤ suc i) × (f j ≡ n) × ((k : ℕ) → k < j → f k ≡ n → ⊥)) ⊎ ((j : ℕ) → j ≤ suc i → f j ≡ n → ⊥)

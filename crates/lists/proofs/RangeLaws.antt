@@ -1,5 +1,5 @@
 -- Laws of the numbers from a on, and of those from n down to 1.
-use Rattle.lists.specs.Lists.{all, concat, downFrom, sum, up_from}
+use Rattle.lists.specs.Lists.{all, concat, down_from, sum, up_from}
 use Rattle.lists.proofs.BoolLaws.{and_left, and_right, never}
 use mathlib.Core.Bool.{Bool, ◌&&◌, false, true}
 use mathlib.Core.List.{List, [], ◌++◌, ◌∷◌, append-nil, foldl, map, map-append}
@@ -13,50 +13,50 @@ use lib.Seq.{drop_at, take_at}
 use lib.Arith.{lt_of_le-ne}
 use native.Mathlib.Decide.{dec_lt, ℕ_discrete}
 
-upFrom-cons : (a n : ℕ) → up_from a (suc n) ≡ a ∷ up_from (suc a) n
+up_from_cons : (a n : ℕ) → up_from a (suc n) ≡ a ∷ up_from (suc a) n
 unfolding up_from
-upFrom-cons a n = refl
+up_from_cons a n = refl
 
-upFrom-none : (a : ℕ) → up_from a 0 ≡ []
+up_from_none : (a : ℕ) → up_from a 0 ≡ []
 unfolding up_from
-upFrom-none a = refl
+up_from_none a = refl
 
-pub upFrom-add : (a m n : ℕ) → up_from a (m + n) ≡ up_from a m ++ up_from (a + m) n
+pub up_from_add : (a m n : ℕ) → up_from a (m + n) ≡ up_from a m ++ up_from (a + m) n
 unfolding up_from
-upFrom-add a zero n = rw (zero-add, add-zero)
-upFrom-add a (suc m) n = rw (suc-add, upFrom-add (suc a) m n, suc-add, add-suc)
+up_from_add a zero n = rw (zero-add, add-zero)
+up_from_add a (suc m) n = rw (suc-add, up_from_add (suc a) m n, suc-add, add-suc)
 
 length_up : (a n : ℕ) → length (up_from a n) ≡ n
 unfolding up_from
 length_up a zero = refl
 length_up a (suc n) = ap suc (length_up (suc a) n)
 
-pub map-upFrom : {A : Type 0} (f g : ℕ → A) (n a : ℕ) → ((i : ℕ) → a ≤ i → i < a + n → f i ≡ g i) → map f (up_from a n) ≡ map g (up_from a n)
+pub map_up_from : {A : Type 0} (f g : ℕ → A) (n a : ℕ) → ((i : ℕ) → a ≤ i → i < a + n → f i ≡ g i) → map f (up_from a n) ≡ map g (up_from a n)
 unfolding up_from
-map-upFrom f g zero a e = refl
-map-upFrom f g (suc n) a e = ap₂ ◌∷◌ (e a (le_refl a) (omega arith)) (map-upFrom f g n (suc a) (λ i l u. e i (omega arith) (omega arith)))
+map_up_from f g zero a e = refl
+map_up_from f g (suc n) a e = ap₂ ◌∷◌ (e a (le_refl a) (omega arith)) (map_up_from f g n (suc a) (λ i l u. e i (omega arith) (omega arith)))
 
-pub map-downFrom : {A : Type 0} (f g : ℕ → A) (n : ℕ) → ((i : ℕ) → 1 ≤ i → i ≤ n → f i ≡ g i) → map f (downFrom n) ≡ map g (downFrom n)
-unfolding downFrom
-map-downFrom f g zero e = refl
-map-downFrom f g (suc n) e = ap₂ ◌∷◌ (e (suc n) (omega arith) (le_refl _)) (map-downFrom f g n (λ i l u. e i l (omega arith)))
+pub map_down_from : {A : Type 0} (f g : ℕ → A) (n : ℕ) → ((i : ℕ) → 1 ≤ i → i ≤ n → f i ≡ g i) → map f (down_from n) ≡ map g (down_from n)
+unfolding down_from
+map_down_from f g zero e = refl
+map_down_from f g (suc n) e = ap₂ ◌∷◌ (e (suc n) (omega arith) (le_refl _)) (map_down_from f g n (λ i l u. e i l (omega arith)))
 
-pub concat-nothing : {A : Type 0} (F : ℕ → List A) (n a : ℕ) → ((i : ℕ) → a ≤ i → i < a + n → F i ≡ []) → concat (map F (up_from a n)) ≡ []
+pub concat_nothing : {A : Type 0} (F : ℕ → List A) (n a : ℕ) → ((i : ℕ) → a ≤ i → i < a + n → F i ≡ []) → concat (map F (up_from a n)) ≡ []
 unfolding up_from concat
-concat-nothing F zero a e = refl
-concat-nothing F (suc n) a e = rw (e a (le_refl a) (omega arith)) (concat-nothing F n (suc a) (λ i l u. e i (omega arith) (omega arith)))
+concat_nothing F zero a e = refl
+concat_nothing F (suc n) a e = rw (e a (le_refl a) (omega arith)) (concat_nothing F n (suc a) (λ i l u. e i (omega arith) (omega arith)))
 
-pub concat-none : {A : Type 0} (F : ℕ → List A) (n : ℕ) → ((i : ℕ) → 1 ≤ i → i ≤ n → F i ≡ []) → concat (map F (downFrom n)) ≡ []
-unfolding downFrom concat
-concat-none F zero e = refl
-concat-none F (suc n) e = rw (e (suc n) (omega arith) (le_refl _)) (concat-none F n (λ i l u. e i l (omega arith)))
+pub concat_none : {A : Type 0} (F : ℕ → List A) (n : ℕ) → ((i : ℕ) → 1 ≤ i → i ≤ n → F i ≡ []) → concat (map F (down_from n)) ≡ []
+unfolding down_from concat
+concat_none F zero e = refl
+concat_none F (suc n) e = rw (e (suc n) (omega arith) (le_refl _)) (concat_none F n (λ i l u. e i l (omega arith)))
 
 -- a sum of no greater numbers is no greater, and less if one of them is
 module _ (f g : ℕ → ℕ) where
-  pub sum-le : (n a : ℕ) → ((i : ℕ) → a ≤ i → i < a + n → f i ≤ g i) → sum (map f (up_from a n)) ≤ sum (map g (up_from a n))
+  pub sum_le : (n a : ℕ) → ((i : ℕ) → a ≤ i → i < a + n → f i ≤ g i) → sum (map f (up_from a n)) ≤ sum (map g (up_from a n))
   unfolding up_from sum
-  sum-le zero a b = le_refl 0
-  sum-le (suc n) a b = omega (arith, b a (le_refl a) (omega arith), sum-le n (suc a) (λ i l u. b i (omega arith) (omega arith)))
+  sum_le zero a b = le_refl 0
+  sum_le (suc n) a b = omega (arith, b a (le_refl a) (omega arith), sum_le n (suc a) (λ i l u. b i (omega arith) (omega arith)))
 
   pub sum_less : (n a : ℕ) → ((i : ℕ) → a ≤ i → i < a + n → f i ≤ g i) → (s : ℕ) → a ≤ s → s < a + n → f s < g s
       → sum (map f (up_from a n)) < sum (map g (up_from a n))
@@ -66,17 +66,17 @@ module _ (f g : ℕ → ℕ) where
       let later : (i : ℕ) → suc a ≤ i → i < suc a + n → f i ≤ g i = λ i l u. b i (omega arith) (omega arith) in
       elim (dec_lt a s) [
         | yes p ↦ omega (arith, b a (le_refl a) (omega arith), sum_less n (suc a) later s p (omega arith) h)
-        | no p ↦ let e : s ≡ a = omega arith in let first : f a < g a = rw e at h in omega (arith, sum-le n (suc a) later)
+        | no p ↦ let e : s ≡ a = omega arith in let first : f a < g a = rw e at h in omega (arith, sum_le n (suc a) later)
       ]
 
 -- a list is made of its elements
-pub map-getD : {A : Type 0} (d : A) (xs : List A) (a : ℕ) → map (λ s. get_or xs (s - a) d) (up_from a (length xs)) ≡ xs
+pub map_get_d : {A : Type 0} (d : A) (xs : List A) (a : ℕ) → map (λ s. get_or xs (s - a) d) (up_from a (length xs)) ≡ xs
 unfolding up_from
-map-getD d [] a = refl
-map-getD d (x ∷ xs) a =
+map_get_d d [] a = refl
+map_get_d d (x ∷ xs) a =
     let z : a - a ≡ 0 = omega arith in
-    rw z (ap (λ ys. x ∷ ys) (map-upFrom (λ s. get_or (x ∷ xs) (s - a) d) (λ s. get_or xs (s - suc a) d) (length xs) (suc a) (λ s l u. next s l)
-    ∙ map-getD d xs (suc a)))
+    rw z (ap (λ ys. x ∷ ys) (map_up_from (λ s. get_or (x ∷ xs) (s - a) d) (λ s. get_or xs (s - suc a) d) (length xs) (suc a) (λ s l u. next s l)
+    ∙ map_get_d d xs (suc a)))
   where
     next : (s : ℕ) → suc a ≤ s → get_or (x ∷ xs) (s - a) d ≡ get_or xs (s - suc a) d
     next s l = let e : s - a ≡ suc (s - suc a) = omega arith in rw e
@@ -90,16 +90,16 @@ all_from p (suc n) a e s l u = elim (ℕ_discrete a s) [
 ]
 
 -- one that fails
-pub all-alike-from : (p q : ℕ → Bool) (n a : ℕ) → ((s : ℕ) → a ≤ s → s < a + n → p s ≡ q s) → all p (up_from a n) ≡ all q (up_from a n)
+pub all_alike_from : (p q : ℕ → Bool) (n a : ℕ) → ((s : ℕ) → a ≤ s → s < a + n → p s ≡ q s) → all p (up_from a n) ≡ all q (up_from a n)
 unfolding all up_from
-all-alike-from p q zero a h = refl
-all-alike-from p q (suc n) a h =
-    rw (h a (omega arith) (omega arith), all-alike-from p q n (suc a) (λ s l u. h s (omega arith) (omega arith)))
+all_alike_from p q zero a h = refl
+all_alike_from p q (suc n) a h =
+    rw (h a (omega arith) (omega arith), all_alike_from p q n (suc a) (λ s l u. h s (omega arith) (omega arith)))
 
-pub fails-from : (p : ℕ → Bool) (n a : ℕ) → all p (up_from a n) ≡ false → (s : ℕ) × (a ≤ s) × (s < a + n) × (p s ≡ false)
+pub fails_from : (p : ℕ → Bool) (n a : ℕ) → all p (up_from a n) ≡ false → (s : ℕ) × (a ≤ s) × (s < a + n) × (p s ≡ false)
 unfolding all up_from
-fails-from p zero a e = never (sym e)
-fails-from p (suc n) a e = go (p a) refl e (fails-from p n (suc a))
+fails_from p zero a e = never (sym e)
+fails_from p (suc n) a e = go (p a) refl e (fails_from p n (suc a))
   where
     go : (b : Bool) → p a ≡ b → (b && all p (up_from (suc a) n)) ≡ false
         → (all p (up_from (suc a) n) ≡ false → (s : ℕ) × (suc a ≤ s) × (s < suc a + n) × (p s ≡ false))
@@ -109,17 +109,17 @@ fails-from p (suc n) a e = go (p a) refl e (fails-from p n (suc a))
 
 module _ {A : Type 0} (F : ℕ → List A) where
   pub one_down : (n s : ℕ) → 1 ≤ s → s ≤ n → ((r : ℕ) → 1 ≤ r → r ≤ n → (r ≡ s → ⊥) → F r ≡ [])
-      → concat (map F (downFrom n)) ≡ F s
-  unfolding downFrom concat
+      → concat (map F (down_from n)) ≡ F s
+  unfolding down_from concat
   one_down zero s l u e = absurd (omega arith)
   one_down (suc n) s l u e = elim (ℕ_discrete s (suc n)) [
-    | yes z ↦ rw (concat-none F n (λ r a b. e r a (omega arith) (λ w. omega arith)), append-nil, z)
+    | yes z ↦ rw (concat_none F n (λ r a b. e r a (omega arith) (λ w. omega arith)), append-nil, z)
     | no nz ↦ rw (e (suc n) (omega arith) (le_refl _) (λ w. omega arith)) (one_down n s l (omega arith) (λ r a b. e r a (omega arith)))
   ]
 
   pub two_down : (n hi lo : ℕ) → 1 ≤ lo → lo < hi → hi ≤ n → ((r : ℕ) → 1 ≤ r → r ≤ n → (r ≡ hi → ⊥) → (r ≡ lo → ⊥) → F r ≡ [])
-      → concat (map F (downFrom n)) ≡ F hi ++ F lo
-  unfolding downFrom concat
+      → concat (map F (down_from n)) ≡ F hi ++ F lo
+  unfolding down_from concat
   two_down zero hi lo l h u e = absurd (omega arith)
   two_down (suc n) hi lo l h u e = elim (ℕ_discrete hi (suc n)) [
     | yes z ↦ rw (z, one_down n lo l (omega arith) (λ r a b w. e r a (omega arith) (λ q. omega arith) w))
@@ -134,7 +134,7 @@ module _ {A : Type 0} (g : ℕ → A) (n i : ℕ) (h : i ≤ n) where
   split =
       let e : n ≡ i + (n - i) = omega arith in
       let z : 0 + i ≡ i = omega arith in
-      ap (λ (m : ℕ). map g (up_from 0 m)) e ∙ rw (upFrom-add 0 i (n - i), map-append, z)
+      ap (λ (m : ℕ). map g (up_from 0 m)) e ∙ rw (up_from_add 0 i (n - i), map-append, z)
 
   size : length (map g (up_from 0 i)) ≡ i
   size = length-map (up_from 0 i) g ∙ length_up 0 i
@@ -142,8 +142,8 @@ module _ {A : Type 0} (g : ℕ → A) (n i : ℕ) (h : i ≤ n) where
   pub take_places : take i (map g (up_from 0 n)) ≡ map g (up_from 0 i)
   take_places = rw split (take_at (map g (up_from 0 i)) (map g (up_from i (n - i))) i size)
 
-  pub drop-places : drop i (map g (up_from 0 n)) ≡ map g (up_from i (n - i))
-  drop-places = rw split (drop_at (map g (up_from 0 i)) (map g (up_from i (n - i))) i size)
+  pub drop_places : drop i (map g (up_from 0 n)) ≡ map g (up_from i (n - i))
+  drop_places = rw split (drop_at (map g (up_from 0 i)) (map g (up_from i (n - i))) i size)
 
 ---- what is left of a fold over the numbers below n, or from n down, with those before k passed
 
@@ -152,37 +152,37 @@ module _ {A : Type 0} (f : A → ℕ → A) (x : A) (n k : ℕ) where
   unfolding up_from
   up_turn h = let e : n - k ≡ suc (n - (k + 1)) = omega arith in rw (e, add-one k)
 
-  pub up-end : n ≤ k → foldl f x (up_from k (n - k)) ≡ x
+  pub up_end : n ≤ k → foldl f x (up_from k (n - k)) ≡ x
   unfolding up_from
-  up-end h = let e : n - k ≡ 0 = omega arith in rw e
+  up_end h = let e : n - k ≡ 0 = omega arith in rw e
 
-  pub down_turn : k < n → foldl f x (downFrom (n - k)) ≡ foldl f (f x (n - k)) (downFrom (n - (k + 1)))
-  unfolding downFrom
+  pub down_turn : k < n → foldl f x (down_from (n - k)) ≡ foldl f (f x (n - k)) (down_from (n - (k + 1)))
+  unfolding down_from
   down_turn h =
       let e : n - k ≡ suc (n - (k + 1)) = omega arith in
-      ap (λ (m : ℕ). foldl f x (downFrom m)) e ∙ rw (← e)
+      ap (λ (m : ℕ). foldl f x (down_from m)) e ∙ rw (← e)
 
-  pub down-end : n ≤ k → foldl f x (downFrom (n - k)) ≡ x
-  unfolding downFrom
-  down-end h = let e : n - k ≡ 0 = omega arith in rw e
+  pub down_end : n ≤ k → foldl f x (down_from (n - k)) ≡ x
+  unfolding down_from
+  down_end h = let e : n - k ≡ 0 = omega arith in rw e
 
 -- a fold over the places of a list is one over its elements
-pub fold-places : {A B : Type 0} (f : A → B → A) (g : ℕ → B) (d : B) (xs : List B) (a : ℕ) (x : A)
+pub fold_places : {A B : Type 0} (f : A → B → A) (g : ℕ → B) (d : B) (xs : List B) (a : ℕ) (x : A)
     → ((i : ℕ) → i < length xs → g (a + i) ≡ get_or xs i d) → foldl (λ y i. f y (g i)) x (up_from a (length xs)) ≡ foldl f x xs
 unfolding up_from
-fold-places f g d [] a x h = refl
-fold-places f g d (y ∷ ys) a x h =
+fold_places f g d [] a x h = refl
+fold_places f g d (y ∷ ys) a x h =
     let z : a + 0 ≡ a = omega arith in
     let first : g a ≡ y = rw z at (h 0 (omega arith)) in
     ap (λ z. foldl (λ u i. f u (g i)) (f x z) (up_from (suc a) (length ys))) first
-    ∙ fold-places f g d ys (suc a) (f x y) (λ i l. let e : suc a + i ≡ a + suc i = omega arith in rw e (h (suc i) (omega arith)))
+    ∙ fold_places f g d ys (suc a) (f x y) (λ i l. let e : suc a + i ≡ a + suc i = omega arith in rw e (h (suc i) (omega arith)))
 
 -- n blocks of w numbers, block a first, are one row of numbers
 pub blocks : (w n a : ℕ) → 1 ≤ a → concat (map (λ s. up_from (w * (s - 1) + 1) w) (up_from a n)) ≡ up_from (w * (a - 1) + 1) (w * n)
 unfolding concat
-blocks w zero a l = rw (upFrom-none a, mul-zero) (sym (upFrom-none (w * (a - 1) + 1)))
+blocks w zero a l = rw (up_from_none a, mul-zero) (sym (up_from_none (w * (a - 1) + 1)))
 blocks w (suc n) a l =
     let s : suc a - 1 ≡ suc (a - 1) = omega arith in
     let q : w * suc (a - 1) + 1 ≡ w * (a - 1) + 1 + w = rw (mul-suc w (a - 1)) (omega arith) in
     let e : w * suc n ≡ w + w * n = rw (mul-suc w n) (omega arith) in
-    rw (upFrom-cons a n, blocks w n (suc a) (omega arith), e, s, q) (sym (upFrom-add (w * (a - 1) + 1) w (w * n)))
+    rw (up_from_cons a n, blocks w n (suc a) (omega arith), e, s, q) (sym (up_from_add (w * (a - 1) + 1) w (w * n)))

@@ -7,9 +7,9 @@ up_from a zero = []
 up_from a (suc n) = a ∷ up_from (suc a) n
 
 -- the numbers from n down to 1
-unfoldable pub downFrom : ℕ → List ℕ
-downFrom zero = []
-downFrom (suc n) = suc n ∷ downFrom n
+unfoldable pub down_from : ℕ → List ℕ
+down_from zero = []
+down_from (suc n) = suc n ∷ down_from n
 
 unfoldable pub sum : List ℕ → ℕ
 sum [] = 0
@@ -46,8 +46,8 @@ module _ {A : Type 0} where
   filter p (x ∷ xs) = cond (p x) (x ∷ filter p xs) (filter p xs)
 
 -- x is in the list
-unfoldable pub isIn : ℕ → List ℕ → Bool
-isIn x xs = any (eqb x) xs
+unfoldable pub is_in : ℕ → List ℕ → Bool
+is_in x xs = any (eqb x) xs
 
 -- how many elements stand before the first x; all of them where there is none
 unfoldable pub index_of : ℕ → List ℕ → ℕ

@@ -9,40 +9,40 @@ use mathlib.Core.List.{List}
 use mathlib.Core.Logic.{inr}
 use mathlib.Core.Path.{ap, sym, ◌∙◌, ◌≡◌}
 use Rattle.lists.proofs.BoolLaws.{tested}
-use Rattle.rules.specs.File.{Log, logOf, width}
-use Rattle.rules.specs.Marks.{isKnown, knowledge, knownMarked, knownUnmarked, marked, unknown}
+use Rattle.rules.specs.File.{Log, log_of, width}
+use Rattle.rules.specs.Marks.{is_known, knowledge, known_marked, known_unmarked, marked, unknown}
 use Rattle.rules.specs.Op.{Vector}
 use Rattle.rules.specs.Tree.{slots}
-use Rattle.rules.proofs.KnownLaws.{Known, knowledge-known, knowledge-unknown, named-valid}
-use Rattle.rules.proofs.SoundLaws.{sound-good}
-use Rattle.soundness.proofs.SoundCases.{tallied-held}
-use Rattle.tree.specs.Slots.{slotIn}
+use Rattle.rules.proofs.KnownLaws.{Known, knowledge_known, knowledge_unknown, named_valid}
+use Rattle.rules.proofs.SoundLaws.{sound_good}
+use Rattle.soundness.proofs.SoundCases.{tallied_held}
+use Rattle.tree.specs.Slots.{slot_in}
 use Rattle.marks.specs.Knowing.{MarkedLog}
-use Rattle.marks.proofs.MarkLaws.{marks-long, marks-say}
+use Rattle.marks.proofs.MarkLaws.{marks_long, marks_say}
 
 module _ (f : List ℕ) (u : Vector) (t : List ℕ) (a : MarkedLog f u t) where
   abbrev log : Log
-  log = logOf width f
+  log = log_of width f
 
-  pub table-long : length t ≡ slots
-  table-long = ap length a.marks-are ∙ marks-long log
+  pub table_long : length t ≡ slots
+  table_long = ap length a.marks_are ∙ marks_long log
 
   module _ (n : ℕ) where
-    pub not_known : isKnown (knowledge log u n) ≡ false → unknown ≡ knowledge log u n
-    not_known e = sym (knowledge-unknown log u n e)
+    pub not_known : is_known (knowledge log u n) ≡ false → unknown ≡ knowledge log u n
+    not_known e = sym (knowledge_unknown log u n e)
 
     -- k is the slot of the node
-    module _ (e : Known log u n) (k : ℕ) (is : k ≡ slotIn n) where
-      mark-at : marked log u n ≡ not (eqb (get_or t k 0) 0)
-      mark-at =
-          let good = sound-good width f a.tallied.is-sound in
-          rw (a.marks-are, is, a.tallied.counts) (sym (marks-say log good n (named-valid log u n (inr e))))
+    module _ (e : Known log u n) (k : ℕ) (is : k ≡ slot_in n) where
+      mark_at : marked log u n ≡ not (eqb (get_or t k 0) 0)
+      mark_at =
+          let good = sound_good width f a.tallied.is_sound_so in
+          rw (a.marks_are, is, a.tallied.counts) (sym (marks_say log good n (named_valid log u n (inr e))))
 
-      pub no-mark : get_or t k 0 ≡ 0 → knownUnmarked ≡ knowledge log u n
-      no-mark z = rw (knowledge-known log u n e, mark-at, eq-eqb _ 0 z)
+      pub no_mark : get_or t k 0 ≡ 0 → known_unmarked ≡ knowledge log u n
+      no_mark z = rw (knowledge_known log u n e, mark_at, eq-eqb _ 0 z)
 
-      pub some-mark : (get_or t k 0 ≡ 0 → ⊥) → knownMarked ≡ knowledge log u n
-      some-mark z = rw (knowledge-known log u n e, mark-at, ne_eqb _ 0 z)
+      pub some_mark : (get_or t k 0 ≡ 0 → ⊥) → known_marked ≡ knowledge log u n
+      some_mark z = rw (knowledge_known log u n e, mark_at, ne_eqb _ 0 z)
 
 ---- what the code of knowing needs: search knowing
-pub ruleset knowing = (rules, tested, tallied-held, table-long, not_known, no-mark, some-mark)
+pub ruleset knowing = (rules, tested, tallied_held, table_long, not_known, no_mark, some_mark)

@@ -1,6 +1,6 @@
 ghost use Rattle.std.specs.Prelude.{◌≡◌};
-ghost use Rattle.rules.specs.File.{width, logOf};
-ghost use Rattle.marks.specs.Knowing.{MarkedLog, knowledgeOf};
+ghost use Rattle.rules.specs.File.{width, log_of};
+ghost use Rattle.marks.specs.Knowing.{MarkedLog, knowledge_of};
 ghost use Rattle.rules.specs.Marks as rules;
 
 use soundness::WIDTH;
@@ -18,7 +18,7 @@ pub enum Knowledge {
 // What the held counts know of a node, by the table of marks.
 pub fn knowledge_of(file: &[u8], counts: [u8; 8], marks: &[u8], node: u16) -> Knowledge
     requires { MarkedLog file.now counts marks.now }
-    ensures { knowledgeOf result ≡ rules.knowledge (logOf width file.now) counts node }
+    ensures { knowledge_of result ≡ rules.knowledge (log_of width file.now) counts node }
 {
     if !known_in(file, counts, node, WIDTH) {
         return Knowledge::Unknown;

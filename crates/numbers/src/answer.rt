@@ -1,7 +1,7 @@
 ghost use Rattle.std.specs.Prelude.{◌≡◌};
 ghost use Rattle.codec.specs.Answers.{answer_of};
 ghost use Rattle.numbers.specs.Fits.{PageFits, fits};
-ghost use Rattle.numbers.specs.Number.{pageNumber};
+ghost use Rattle.numbers.specs.Number.{page_number};
 ghost use Rattle.numbers.specs.Number as specs;
 
 use codec::{Answer, number_of};
@@ -23,7 +23,7 @@ pub fn number(answer: Answer) -> usize
 // One number for an answer and how many ops were taken back.
 pub fn page_number(answer: Answer, taken: usize) -> usize
     requires { PageFits (answer_of answer) taken }
-    ensures { result ≡ pageNumber (answer_of answer) taken }
+    ensures { result ≡ page_number (answer_of answer) taken }
 {
     number(answer) + 65536 * taken
 }

@@ -12,18 +12,18 @@ use borrow.Author.Rules.{rules}
 use borrow.Author.Tests.{leb-true, eqb-true, le-leb, lt-leb}
 use Rattle.lists.specs.Lists.{up_from, concat, sum}
 use Rattle.lists.proofs.BoolLaws.{and_right, and_left, tested}
-use Rattle.lists.proofs.ListLaws.{sum-suc, sum-take, concat-append}
+use Rattle.lists.proofs.ListLaws.{sum_suc, sum_take, concat_append}
 use Rattle.lists.proofs.NumberLaws.{product_small}
-use Rattle.lists.proofs.RangeLaws.{upFrom-add}
-use Rattle.rules.specs.File.{fileEnd, start_at, start_of, countAt, headerEntry, headerCounts, headerOf, end_of}
-use Rattle.rules.specs.Log.{soundHeader, laid}
-use Rattle.rules.specs.Op.{countIn, Vector, replicas}
+use Rattle.lists.proofs.RangeLaws.{up_from_add}
+use Rattle.rules.specs.File.{file_end, start_at, start_of, count_at, header_entry, header_counts, header_of, end_of}
+use Rattle.rules.specs.Log.{sound_header, laid}
+use Rattle.rules.specs.Op.{count_in, Vector, replicas}
 use Rattle.rules.specs.Bytes.{word_at, word}
-use Rattle.rules.proofs.FileLaws.{counts-at, length-counts}
-use Rattle.rules.proofs.ReplicaLaws.{pass_all, pass-turn, pass-end, replica-passes, passFrom}
-use Rattle.rules.proofs.StructureLaws.{laid-reads}
-use Rattle.vector.proofs.VectorLaws.{build-step, count_of}
-use Rattle.oplog.specs.Header.{entryRight, withEntry}
+use Rattle.rules.proofs.FileLaws.{counts_at, length_counts}
+use Rattle.rules.proofs.ReplicaLaws.{pass_all, pass_turn, pass_end, replica_passes, pass_from}
+use Rattle.rules.proofs.StructureLaws.{laid_reads}
+use Rattle.vector.proofs.VectorLaws.{build_step, count_of}
+use Rattle.oplog.specs.Header.{entry_right, with_entry}
 
 ---- starts by counts
 
@@ -31,182 +31,182 @@ pub start_first : (w : ℕ) (counts : Vector) → start_of w counts 1 ≡ 32
 unfolding start_of sum
 start_first w counts = rw mul-zero
 
-start-next : (w : ℕ) (counts : Vector) (i : ℕ) → i < length counts
-    → start_of w counts (i + 1 + 1) ≡ start_of w counts (i + 1) + w * countIn counts (i + 1)
-unfolding start_of countIn
-start-next w counts i h =
+start_next : (w : ℕ) (counts : Vector) (i : ℕ) → i < length counts
+    → start_of w counts (i + 1 + 1) ≡ start_of w counts (i + 1) + w * count_in counts (i + 1)
+unfolding start_of count_in
+start_next w counts i h =
     let e : i + 1 + 1 - 1 ≡ suc i = omega arith in
     let e' : i + 1 - 1 ≡ i = omega arith in
-    rw (e, e', sum-suc counts i h, mul-add w (sum (take i counts)) (get_or counts i 0)) (omega arith)
+    rw (e, e', sum_suc counts i h, mul-add w (sum (take i counts)) (get_or counts i 0)) (omega arith)
 
-pub start-after : (w : ℕ) (f : List ℕ) (s : ℕ) → 1 ≤ s → s ≤ 8
-    → start_of w (headerCounts f) (s + 1) ≡ start_of w (headerCounts f) s + w * countAt f s
-start-after w f s l u =
+pub start_after : (w : ℕ) (f : List ℕ) (s : ℕ) → 1 ≤ s → s ≤ 8
+    → start_of w (header_counts f) (s + 1) ≡ start_of w (header_counts f) s + w * count_at f s
+start_after w f s l u =
     let e : s - 1 + 1 ≡ s = omega arith in
-    rw (e, counts-at f s l u) at (start-next w (headerCounts f) (s - 1) (omega (arith, length-counts f)))
+    rw (e, counts_at f s l u) at (start_next w (header_counts f) (s - 1) (omega (arith, length_counts f)))
 
-pub end_is : (w : ℕ) (f : List ℕ) → start_of w (headerCounts f) 9 ≡ fileEnd w f
-unfolding start_of fileEnd end_of
-end_is w f = rw (take_all 8 (headerCounts f) (omega (arith, length-counts f)))
+pub end_is : (w : ℕ) (f : List ℕ) → start_of w (header_counts f) 9 ≡ file_end w f
+unfolding start_of file_end end_of
+end_is w f = rw (take_all 8 (header_counts f) (omega (arith, length_counts f)))
 
 -- every start lies within the file
-pub start-within : (w : ℕ) (f : List ℕ) (s : ℕ) → start_of w (headerCounts f) (s + 1) ≤ fileEnd w f
-unfolding start_of fileEnd end_of
-start-within w f s =
+pub start_within : (w : ℕ) (f : List ℕ) (s : ℕ) → start_of w (header_counts f) (s + 1) ≤ file_end w f
+unfolding start_of file_end end_of
+start_within w f s =
     let e : s + 1 - 1 ≡ s = omega arith in
-    rw e (let m : w * sum (take s (headerCounts f)) ≤ w * sum (headerCounts f) = mul-le-mul_left w
-    (omega (arith, sum-take (headerCounts f) s)) in omega arith)
+    rw e (let m : w * sum (take s (header_counts f)) ≤ w * sum (header_counts f) = mul-le-mul_left w
+    (omega (arith, sum_take (header_counts f) s)) in omega arith)
 
 ---- an entry: n is the count that was read, m the start
 
 module _ (f : List ℕ) (s : ℕ) where
-  pub count-read : (n x : ℕ) → n ≡ x → x ≡ word_at f (4 * (s - 1)) → n ≡ countAt f s
-  unfolding countAt
-  count-read n x e h = e ∙ h
+  pub count_read : (n x : ℕ) → n ≡ x → x ≡ word_at f (4 * (s - 1)) → n ≡ count_at f s
+  unfolding count_at
+  count_read n x e h = e ∙ h
 
-  pub start-read : (m x : ℕ) → m ≡ x → x ≡ word_at f (4 * (s - 1) + 2) → m ≡ start_at f s
+  pub start_read : (m x : ℕ) → m ≡ x → x ≡ word_at f (4 * (s - 1) + 2) → m ≡ start_at f s
   unfolding start_at
-  start-read m x e h = e ∙ h
+  start_read m x e h = e ∙ h
 
-  module _ (n : ℕ) (e : n ≡ countAt f s) (start : ℕ) where
-    pub entry-large : (k : ℕ) → k < n → 255 ≤ k → false ≡ entryRight f s start
-    unfolding entryRight
-    entry-large k h l = rw (← e, lt-leb n 255 (omega arith))
+  module _ (n : ℕ) (e : n ≡ count_at f s) (start : ℕ) where
+    pub entry_large : (k : ℕ) → k < n → 255 ≤ k → false ≡ entry_right f s start
+    unfolding entry_right
+    entry_large k h l = rw (← e, lt-leb n 255 (omega arith))
 
-    pub entry-small : n ≤ 255 → (m : ℕ) → m ≡ start_at f s → eqb m start ≡ entryRight f s start
-    unfolding entryRight
-    entry-small h m x = rw (← e, le-leb n 255 h, x)
+    pub entry_small : n ≤ 255 → (m : ℕ) → m ≡ start_at f s → eqb m start ≡ entry_right f s start
+    unfolding entry_right
+    entry_small h m x = rw (← e, le-leb n 255 h, x)
 
-  entry-parts : (start : ℕ) → entryRight f s start ≡ true → (countAt f s ≤ 255) × (start_at f s ≡ start)
-  unfolding entryRight
-  entry-parts start e =
-      (leb-true _ _ (and_left (leb (countAt f s) 255) _ e), eqb-true _ _ (and_right (leb (countAt f s) 255) _ e))
+  entry_parts : (start : ℕ) → entry_right f s start ≡ true → (count_at f s ≤ 255) × (start_at f s ≡ start)
+  unfolding entry_right
+  entry_parts start e =
+      (leb-true _ _ (and_left (leb (count_at f s) 255) _ e), eqb-true _ _ (and_right (leb (count_at f s) 255) _ e))
 
 ---- entry after entry
 
 module _ (w : ℕ) (f : List ℕ) where
-  unfoldable pub rightAt : ℕ → Bool
-  rightAt s = entryRight f s (start_of w (headerCounts f) s)
+  unfoldable pub right_at : ℕ → Bool
+  right_at s = entry_right f s (start_of w (header_counts f) s)
 
-  header-by : soundHeader w f ≡ passFrom rightAt 0
-  unfolding soundHeader rightAt entryRight
-  header-by = pass_all rightAt
+  header_by : sound_header w f ≡ pass_from right_at 0
+  unfolding sound_header right_at entry_right
+  header_by = pass_all right_at
 
-  header-entry : soundHeader w f ≡ true → (s : ℕ) → 1 ≤ s → s ≤ 8 → (countAt f s ≤ 255) × (start_at f s ≡ start_of w (headerCounts f) s)
-  unfolding soundHeader entryRight rightAt
-  header-entry t s a b = entry-parts f s (start_of w (headerCounts f) s) (replica-passes rightAt t s a b)
+  header_entry_law : sound_header w f ≡ true → (s : ℕ) → 1 ≤ s → s ≤ 8 → (count_at f s ≤ 255) × (start_at f s ≡ start_of w (header_counts f) s)
+  unfolding sound_header entry_right right_at
+  header_entry_law t s a b = entry_parts f s (start_of w (header_counts f) s) (replica_passes right_at t s a b)
 
 -- the first i entries are right, and the next should start at `start`
 pub record EntriesRight (w : ℕ) (f : List ℕ) (start i : ℕ) : Type 0 where
   pub narrow : w ≤ 255
   pub few : i ≤ 8
-  pub next : start_of w (headerCounts f) (i + 1) ≡ start
+  pub next : start_of w (header_counts f) (i + 1) ≡ start
   pub bound : start ≤ 32 + 65025 * i
-  pub left : soundHeader w f ≡ passFrom (rightAt w f) i
+  pub left : sound_header w f ≡ pass_from (right_at w f) i
 
 module _ (w : ℕ) (f : List ℕ) where
-  pub header-first : w ≤ 255 → EntriesRight w f 32 0
-  header-first h = record {
+  pub header_first : w ≤ 255 → EntriesRight w f 32 0
+  header_first h = record {
     narrow = h;
     few = omega arith;
-    next = start_first w (headerCounts f);
+    next = start_first w (header_counts f);
     bound = omega arith;
-    left = header-by w f;
+    left = header_by w f;
   }
 
   module _ (start i : ℕ) (t : EntriesRight w f start i) where
-    header-turn : i < 8 → soundHeader w f ≡ (entryRight f (i + 1) start && passFrom (rightAt w f) (i + 1))
-    unfolding rightAt
-    header-turn h = t.left ∙ pass-turn (rightAt w f) i h ∙ rw t.next
+    header_turn : i < 8 → sound_header w f ≡ (entry_right f (i + 1) start && pass_from (right_at w f) (i + 1))
+    unfolding right_at
+    header_turn h = t.left ∙ pass_turn (right_at w f) i h ∙ rw t.next
 
     module _ (h : i < 8) where
-      pub header-wrong : entryRight f (i + 1) start ≡ false → false ≡ soundHeader w f
-      header-wrong e = sym (header-turn h ∙ rw e)
+      pub header_wrong : entry_right f (i + 1) start ≡ false → false ≡ sound_header w f
+      header_wrong e = sym (header_turn h ∙ rw e)
 
-      module _ (e : entryRight f (i + 1) start ≡ true) (n : ℕ) (is : n ≡ countAt f (i + 1)) where
-        header-few : w * n ≤ 65025
-        header-few = product_small w n t.narrow (omega (arith, (entry-parts f (i + 1) start e).0))
+      module _ (e : entry_right f (i + 1) start ≡ true) (n : ℕ) (is : n ≡ count_at f (i + 1)) where
+        header_few : w * n ≤ 65025
+        header_few = product_small w n t.narrow (omega (arith, (entry_parts f (i + 1) start e).0))
 
-        pub header-size : w * n < 2 ^ 64
-        header-size = omega (arith, header-few)
+        pub header_size : w * n < 2 ^ 64
+        header_size = omega (arith, header_few)
 
-        pub header-sum : start + w * n < 2 ^ 64
-        header-sum = omega (arith, header-few, t.bound)
+        pub header_sum : start + w * n < 2 ^ 64
+        header_sum = omega (arith, header_few, t.bound)
 
-        pub header-next : EntriesRight w f (start + w * n) (i + 1)
-        header-next = record {
+        pub header_next : EntriesRight w f (start + w * n) (i + 1)
+        header_next = record {
           narrow = t.narrow;
           few = omega arith;
-          next = start-after w f (i + 1) (omega arith) (omega arith) ∙ rw (t.next, is);
-          bound = omega (arith, header-few, t.bound);
-          left = header-turn h ∙ rw e;
+          next = start_after w f (i + 1) (omega arith) (omega arith) ∙ rw (t.next, is);
+          bound = omega (arith, header_few, t.bound);
+          left = header_turn h ∙ rw e;
         }
 
-    pub header-last : 8 ≤ i → true ≡ soundHeader w f
-    header-last h = sym (t.left ∙ pass-end (rightAt w f) i h)
+    pub header_last : 8 ≤ i → true ≡ sound_header w f
+    header_last h = sym (t.left ∙ pass_end (right_at w f) i h)
 
 ---- where the bodies of a replica end
 
-module _ (w : ℕ) (f : List ℕ) (t : soundHeader w f ≡ true) (s : ℕ) (l : 1 ≤ s) (u : s ≤ 8) where
-  module _ (n : ℕ) (is : n ≡ countAt f s) where
-    end-few : w ≤ 255 → w * n ≤ 65025
-    end-few h = product_small w n h (omega (arith, (header-entry w f t s l u).0))
+module _ (w : ℕ) (f : List ℕ) (t : sound_header w f ≡ true) (s : ℕ) (l : 1 ≤ s) (u : s ≤ 8) where
+  module _ (n : ℕ) (is : n ≡ count_at f s) where
+    end_few : w ≤ 255 → w * n ≤ 65025
+    end_few h = product_small w n h (omega (arith, (header_entry_law w f t s l u).0))
 
-    pub end-size : w ≤ 255 → w * n < 2 ^ 64
-    end-size h = omega (arith, end-few h)
+    pub end_size : w ≤ 255 → w * n < 2 ^ 64
+    end_size h = omega (arith, end_few h)
 
-    pub end-sum : w ≤ 255 → (m : ℕ) → m < 65536 → m + w * n < 2 ^ 64
-    end-sum h m b = omega (arith, end-few h)
+    pub end_sum : w ≤ 255 → (m : ℕ) → m < 65536 → m + w * n < 2 ^ 64
+    end_sum h m b = omega (arith, end_few h)
 
-    pub end_read : (m : ℕ) → m ≡ start_at f s → m + w * n ≡ start_of w (headerCounts f) (s + 1)
-    end_read m e = rw (e, is, (header-entry w f t s l u).1) (sym (start-after w f s l u))
+    pub end_read : (m : ℕ) → m ≡ start_at f s → m + w * n ≡ start_of w (header_counts f) (s + 1)
+    end_read m e = rw (e, is, (header_entry_law w f t s l u).1) (sym (start_after w f s l u))
 
 ---- the held counts
 
 -- a count stands in the low byte of its entry
-low_count : (f : List ℕ) (i : ℕ) → countAt f (i + 1) ≤ 255 → countAt f (i + 1) ≡ get_or f (4 * i + 1) 0
-unfolding word_at countAt
+low_count : (f : List ℕ) (i : ℕ) → count_at f (i + 1) ≤ 255 → count_at f (i + 1) ≡ get_or f (4 * i + 1) 0
+unfolding word_at count_at
 low_count f i h =
     let k : i + 1 - 1 ≡ i = omega arith in
-    let e : countAt f (i + 1) ≡ get_or f (4 * i) 0 * 256 + get_or f (4 * i + 1) 0 = rw k in
+    let e : count_at f (i + 1) ≡ get_or f (4 * i) 0 * 256 + get_or f (4 * i + 1) 0 = rw k in
     omega arith
 
 -- the first i counts are read
 pub record CountsRead (f : List ℕ) (v : Vector) (i : ℕ) : Type 0 where
   pub few : i ≤ 8
   pub eight : length v ≡ 8
-  pub read : take i v ≡ take i (headerCounts f)
+  pub read : take i v ≡ take i (header_counts f)
 
 module _ (f : List ℕ) (v : Vector) where
-  pub counts-first : length v ≡ 8 → CountsRead f v 0
-  counts-first h = record { few = omega arith; eight = h; read = refl }
+  pub counts_first : length v ≡ 8 → CountsRead f v 0
+  counts_first h = record { few = omega arith; eight = h; read = refl }
 
   module _ (i : ℕ) (t : CountsRead f v i) where
-    pub counts-next : (w : ℕ) → soundHeader w f ≡ true → i < 8 → CountsRead f (set v i (get_or f (4 * i + 1) 0)) (i + 1)
-    unfolding headerCounts
-    counts-next w e h =
-        let b = (header-entry w f e (i + 1) (omega arith) (omega arith)).0 in
+    pub counts_next : (w : ℕ) → sound_header w f ≡ true → i < 8 → CountsRead f (set v i (get_or f (4 * i + 1) 0)) (i + 1)
+    unfolding header_counts
+    counts_next w e h =
+        let b = (header_entry_law w f e (i + 1) (omega arith) (omega arith)).0 in
         record {
           few = omega arith;
           eight = length-set v i _ ∙ t.eight;
-          read = build-step (countAt f) v i _ t.read h t.eight (sym (low_count f i b));
+          read = build_step (count_at f) v i _ t.read h t.eight (sym (low_count f i b));
         }
 
-    pub counts-last : 8 ≤ i → v ≡ headerCounts f
-    counts-last h =
+    pub counts_last : 8 ≤ i → v ≡ header_counts f
+    counts_last h =
         let e : i ≡ 8 = omega (arith, t.few) in
         sym (take_all 8 v (omega (arith, t.eight)))
         ∙ rw e at t.read
-        ∙ take_all 8 (headerCounts f) (omega (arith, length-counts f))
+        ∙ take_all 8 (header_counts f) (omega (arith, length_counts f))
 
 ---- writing an entry
 
 module _ (b x y : List ℕ) (i n m : ℕ) where
-  pub entry-put : 4 * i + 4 ≤ length b → x ≡ set (set b (4 * i) (n / 256)) (4 * i + 1) (n % 256)
+  pub entry_put : 4 * i + 4 ≤ length b → x ≡ set (set b (4 * i) (n / 256)) (4 * i + 1) (n % 256)
       → y ≡ set (set x (4 * i + 2) (m / 256)) (4 * i + 2 + 1) (m % 256)
-      → y ≡ withEntry b i n m
-  unfolding word withEntry
-  entry-put h p q =
+      → y ≡ with_entry b i n m
+  unfolding word with_entry
+  entry_put h p q =
       let e1 : 4 * i + 1 ≡ suc (4 * i) = omega arith in
       let e2 : 4 * i + 2 ≡ suc (suc (4 * i)) = omega arith in
       let e3 : 4 * i + 2 + 1 ≡ suc (suc (suc (4 * i))) = omega arith in
@@ -216,21 +216,21 @@ module _ (b x y : List ℕ) (i n m : ℕ) where
 
 -- the entries of the first i replicas
 unfoldable pub entries : ℕ → Vector → ℕ → List ℕ
-entries w counts i = concat (map (headerEntry w counts) (up_from 1 i))
+entries w counts i = concat (map (header_entry w counts) (up_from 1 i))
 
-entries-length : (w : ℕ) (counts : Vector) (i : ℕ) → length (entries w counts i) ≡ 4 * i
-unfolding entries concat up_from headerEntry word
-entries-length w counts i = go i 1
+entries_length : (w : ℕ) (counts : Vector) (i : ℕ) → length (entries w counts i) ≡ 4 * i
+unfolding entries concat up_from header_entry word
+entries_length w counts i = go i 1
   where
-    go : (n a : ℕ) → length (concat (map (headerEntry w counts) (up_from a n))) ≡ 4 * n
+    go : (n a : ℕ) → length (concat (map (header_entry w counts) (up_from a n))) ≡ 4 * n
     go zero a = refl
     go (suc n) a = let h = go n (suc a) in omega arith
 
-entries_next : (w : ℕ) (counts : Vector) (i : ℕ) → entries w counts (i + 1) ≡ entries w counts i ++ headerEntry w counts (i + 1)
+entries_next : (w : ℕ) (counts : Vector) (i : ℕ) → entries w counts (i + 1) ≡ entries w counts i ++ header_entry w counts (i + 1)
 unfolding entries up_from concat
 entries_next w counts i =
     let e : 1 + i ≡ i + 1 = omega arith in
-    rw (upFrom-add 1 i 1, map-append, concat-append, append-nil, e)
+    rw (up_from_add 1 i 1, map-append, concat_append, append-nil, e)
 
 -- b is a with the first i entries of the header written over it; the next starts at `start`
 pub record HeaderWritten (w : ℕ) (counts : Vector) (a b : List ℕ) (start i : ℕ) : Type 0 where
@@ -244,9 +244,9 @@ pub record HeaderWritten (w : ℕ) (counts : Vector) (a b : List ℕ) (start i :
   pub written : b ≡ entries w counts i ++ drop (4 * i) a
 
 module _ (w : ℕ) (counts : Vector) (a : List ℕ) where
-  pub write-first : w ≤ 16 → length counts ≡ 8 → 32 ≤ length a → HeaderWritten w counts a a 32 0
+  pub write_first : w ≤ 16 → length counts ≡ 8 → 32 ≤ length a → HeaderWritten w counts a a 32 0
   unfolding entries up_from concat
-  write-first n e h = record {
+  write_first n e h = record {
     narrow = n;
     eight = e;
     long = h;
@@ -259,24 +259,24 @@ module _ (w : ℕ) (counts : Vector) (a : List ℕ) where
 
   module _ (b : List ℕ) (start i : ℕ) (t : HeaderWritten w counts a b start i) where
     module _ (n : ℕ) (is : (n ≡ get_or counts i 0) × (n ≤ 255)) where
-      write-few : w * n ≤ 4080
-      write-few = mul-le-mul t.narrow is.1
+      write_few : w * n ≤ 4080
+      write_few = mul-le-mul t.narrow is.1
 
-      pub write-size : w * n < 2 ^ 64
-      write-size = omega (arith, write-few)
+      pub write_size : w * n < 2 ^ 64
+      write_size = omega (arith, write_few)
 
-      pub write-short : w * n < 2 ^ 16
-      write-short = omega (arith, write-few)
+      pub write_short : w * n < 2 ^ 16
+      write_short = omega (arith, write_few)
 
-      pub write-sum : i < 8 → start + w * n < 2 ^ 16
-      write-sum h = omega (arith, write-few, t.bound)
+      pub write_sum : i < 8 → start + w * n < 2 ^ 16
+      write_sum h = omega (arith, write_few, t.bound)
 
       module _ (h : i < 8) (d : List ℕ) where
-        pub write-next : d ≡ withEntry b i (get_or counts i 0) start → HeaderWritten w counts a d (start + w * n) (i + 1)
-        unfolding headerEntry withEntry
-        write-next e =
+        pub write_next : d ≡ with_entry b i (get_or counts i 0) start → HeaderWritten w counts a d (start + w * n) (i + 1)
+        unfolding header_entry with_entry
+        write_next e =
             let p : List ℕ = entries w counts i in
-            let k : length p ≡ 4 * i = entries-length w counts i in
+            let k : length p ≡ 4 * i = entries_length w counts i in
             let q : 4 * i + 4 ≡ length p + 4 = omega arith in
             let m : 4 * i + 4 ≡ 4 * (i + 1) = omega arith in
             let z : drop (4 * i + 4) (p ++ drop (4 * i) a) ≡ drop (4 * (i + 1)) a =
@@ -288,59 +288,59 @@ module _ (w : ℕ) (counts : Vector) (a : List ℕ) where
               narrow = t.narrow;
               eight = t.eight;
               long = t.long;
-              same = rw (x, length-append, length-drop, entries-length w counts (i + 1)) (omega (arith, t.long));
+              same = rw (x, length-append, length-drop, entries_length w counts (i + 1)) (omega (arith, t.long));
               few = omega arith;
-              next = start-next w counts i (omega (arith, t.eight)) ∙ rw (t.next, count_of counts i, ← is.0);
-              bound = omega (arith, write-few, t.bound);
+              next = start_next w counts i (omega (arith, t.eight)) ∙ rw (t.next, count_of counts i, ← is.0);
+              bound = omega (arith, write_few, t.bound);
               written = x;
             }
 
-    pub write-last : 8 ≤ i → b ≡ headerOf w counts ++ drop 32 a
-    unfolding entries headerOf replicas
-    write-last h = let e : i ≡ 8 = omega (arith, t.few) in t.written ∙ rw e
+    pub write_last : 8 ≤ i → b ≡ header_of w counts ++ drop 32 a
+    unfolding entries header_of replicas
+    write_last h = let e : i ≡ 8 = omega (arith, t.few) in t.written ∙ rw e
 
 ---- a file's layout, test by test
 
 module _ (w : ℕ) (f : List ℕ) where
-  pub laid-short : length f < 32 → false ≡ laid w f
+  pub laid_short : length f < 32 → false ≡ laid w f
   unfolding laid
-  laid-short h = rw (lt-leb 32 (length f) h)
+  laid_short h = rw (lt-leb 32 (length f) h)
 
   module _ (l : 32 ≤ length f) where
-    pub laid-wrong : soundHeader w f ≡ false → false ≡ laid w f
+    pub laid_wrong : sound_header w f ≡ false → false ≡ laid w f
     unfolding laid
-    laid-wrong e = rw (le-leb 32 (length f) l, e)
+    laid_wrong e = rw (le-leb 32 (length f) l, e)
 
-    pub laid-fits : soundHeader w f ≡ true → (n : ℕ) → n ≡ start_of w (headerCounts f) 9 → leb n (length f) ≡ laid w f
+    pub laid_fits : sound_header w f ≡ true → (n : ℕ) → n ≡ start_of w (header_counts f) 9 → leb n (length f) ≡ laid w f
     unfolding laid
-    laid-fits e n is = rw (le-leb 32 (length f) l, e, is, end_is w f)
+    laid_fits e n is = rw (le-leb 32 (length f) l, e, is, end_is w f)
 
-  pub laid-long : laid w f ≡ true → 32 ≤ length f
-  laid-long e = (laid-reads w f e).header
+  pub laid_long : laid w f ≡ true → 32 ≤ length f
+  laid_long e = (laid_reads w f e).header
 
-  pub laid-header : laid w f ≡ true → soundHeader w f ≡ true
+  pub laid_header : laid w f ≡ true → sound_header w f ≡ true
   unfolding laid
-  laid-header e = let h = simp and-eq-true_iff at e in h.0.1
+  laid_header e = let h = simp and-eq-true_iff at e in h.0.1
 
 ---- what the code of the header needs: search heading
 pub ruleset reading = (
-  count-read,
-  start-read,
-  entry-large,
-  entry-small,
-  header-first,
-  header-wrong,
-  header-size,
-  header-sum,
-  header-next,
-  header-last,
-  end-size,
-  end-sum,
+  count_read,
+  start_read,
+  entry_large,
+  entry_small,
+  header_first,
+  header_wrong,
+  header_size,
+  header_sum,
+  header_next,
+  header_last,
+  end_size,
+  end_sum,
   end_read,
 )
 
-pub ruleset copying = (counts-first, counts-next, counts-last)
+pub ruleset copying = (counts_first, counts_next, counts_last)
 
-pub ruleset writing = (entry-put, write-first, write-size, write-short, write-sum, write-next, write-last)
+pub ruleset writing = (entry_put, write_first, write_size, write_short, write_sum, write_next, write_last)
 
 pub ruleset heading = (rules, tested, reading, copying, writing)

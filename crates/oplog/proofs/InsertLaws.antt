@@ -9,15 +9,15 @@ use native.Mathlib.Omega.{arith}
 use native.Mathlib.Numerals.{add-one}
 use native.Mathlib.Nat.{le_of_suc-le-suc, mul-add, mul-zero, not-suc-le-zero, zero-add}
 use borrow.Author.Rules.{rules}
-use Rattle.rules.specs.File.{end_of, headerCounts, fileEnd, fileOf, start_of, ops_of, Log, headerOf, countsOf, logOf, chunks, chunks_of}
-use Rattle.rules.specs.Log.{laid, soundHeader}
-use Rattle.rules.specs.Op.{countIn, Op, Vector}
+use Rattle.rules.specs.File.{end_of, header_counts, file_end, file_of, start_of, ops_of, Log, header_of, counts_of, log_of, chunks, chunks_of}
+use Rattle.rules.specs.Log.{laid, sound_header}
+use Rattle.rules.specs.Op.{count_in, Op, Vector}
 use Rattle.lists.specs.Lists.{concat, sum}
-use Rattle.lists.proofs.ListLaws.{concat-append}
-use Rattle.rules.proofs.FileLaws.{bodies-chunksOf, concat-chunks, counts-at, counts-logOf, length-chunks, length-logOf}
-use Rattle.rules.proofs.StructureLaws.{count_held, laid-reads}
-use Rattle.oplog.specs.Append.{Appendable, appendAll, appendedAll, headedBy, inserted, shifted}
-use Rattle.oplog.proofs.HeaderLaws.{end_is, laid-header, laid-long, start-within}
+use Rattle.lists.proofs.ListLaws.{concat_append}
+use Rattle.rules.proofs.FileLaws.{bodies_chunks_of, concat_chunks, counts_at, counts_log_of, length_chunks, length_log_of}
+use Rattle.rules.proofs.StructureLaws.{count_held, laid_reads}
+use Rattle.oplog.specs.Append.{Appendable, append_all, appended_all, headed_by, inserted, shifted}
+use Rattle.oplog.proofs.HeaderLaws.{end_is, laid_header, laid_long, start_within}
 
 ---- moving up
 
@@ -28,9 +28,9 @@ moved w m p k = take (k + w) p ++ slice k m p
 moved_none : (w m : ℕ) (p : List ℕ) → length p ≤ m + w → p ≡ moved w m p m
 moved_none w m p h = sym (rw (take_all (m + w) p h, slice_empty m p, append-nil))
 
-moved-step : (w m : ℕ) (p : List ℕ) (j k : ℕ) → suc j ≡ k → k ≤ m → m + w ≤ length p
+moved_step : (w m : ℕ) (p : List ℕ) (j k : ℕ) → suc j ≡ k → k ≤ m → m + w ≤ length p
     → set (moved w m p k) (j + w) (get_or (moved w m p k) j 0) ≡ moved w m p j
-moved-step w m p j k e hk hm =
+moved_step w m p j k e hk hm =
     let e' : k + w ≡ suc (j + w) = omega arith in
     let l : length (take (k + w) p) ≡ k + w = length-take-le (k + w) p (omega arith) in
     let r : get_or (moved w m p k) j 0 ≡ get_or p j 0 = get_or-append (take (k + w) p) (slice k m p) 0 j (omega arith)
@@ -48,22 +48,22 @@ pub record MovedUp (w : ℕ) (p part : List ℕ) (k : ℕ) : Type 0 where
   pub bytes : part ≡ moved w (length p - w) p k
 
 module _ (w : ℕ) (p : List ℕ) where
-  pub move-first : w ≤ length p → MovedUp w p p (length p - w)
-  move-first h = record { long = h; few = omega arith; same = refl; bytes = moved_none w (length p - w) p (omega arith) }
+  pub move_first : w ≤ length p → MovedUp w p p (length p - w)
+  move_first h = record { long = h; few = omega arith; same = refl; bytes = moved_none w (length p - w) p (omega arith) }
 
   module _ (part : List ℕ) (k : ℕ) (t : MovedUp w p part k) where
-    pub move-next : (n : ℕ) → n < k → MovedUp w p (set part (k - 1 + w) (get_or part (k - 1) 0)) (k - 1)
-    move-next n h = record {
+    pub move_next : (n : ℕ) → n < k → MovedUp w p (set part (k - 1 + w) (get_or part (k - 1) 0)) (k - 1)
+    move_next n h = record {
       long = t.long;
       few = omega (arith, t.few);
       same = length-set part _ _ ∙ t.same;
       bytes =
           ap (λ (x : List ℕ). set x (k - 1 + w) (get_or x (k - 1) 0)) t.bytes
-          ∙ moved-step w (length p - w) p (k - 1) k (omega arith) t.few (omega (arith, t.long));
+          ∙ moved_step w (length p - w) p (k - 1) k (omega arith) t.few (omega (arith, t.long));
     }
 
-    pub move-last : k ≤ 0 → part ≡ take w p ++ take (length p - w) p
-    move-last h = let e : k ≡ 0 = omega arith in rw (e, zero-add) at t.bytes
+    pub move_last : k ≤ 0 → part ≡ take w p ++ take (length p - w) p
+    move_last h = let e : k ≡ 0 = omega arith in rw (e, zero-add) at t.bytes
 
 ---- storing in front
 
@@ -71,8 +71,8 @@ module _ (w : ℕ) (p : List ℕ) where
 abbrev pub front : List ℕ → List ℕ → ℕ → List ℕ
 front r d j = take j r ++ drop j d
 
-pub front-step : (r d : List ℕ) (j : ℕ) → j < length r → length r ≤ length d → set (front r d j) j (get_or r j 0) ≡ front r d (j + 1)
-front-step r d j h hd =
+pub front_step : (r d : List ℕ) (j : ℕ) → j < length r → length r ≤ length d → set (front r d j) j (get_or r j 0) ≡ front r d (j + 1)
+front_step r d j h hd =
     rw (drop-cons d j 0 (omega arith), set_at (take j r) _ _ _ j (length-take-le j r (omega arith)), add-one, take-suc r j 0, append_snoc)
 
 -- part is d with its first j bytes replaced by r's
@@ -84,29 +84,29 @@ pub record Fronted (r d part : List ℕ) (end j : ℕ) : Type 0 where
   pub bytes : part ≡ front r d j
 
 module _ (r d : List ℕ) where
-  pub front-first : length r ≤ length d → Fronted r d d (length r) 0
-  front-first h = record { whole = refl; long = h; few = omega arith; same = refl; bytes = refl }
+  pub front_first : length r ≤ length d → Fronted r d d (length r) 0
+  front_first h = record { whole = refl; long = h; few = omega arith; same = refl; bytes = refl }
 
   module _ (part : List ℕ) (end j : ℕ) (t : Fronted r d part end j) where
-    pub front-next : j < end → Fronted r d (set part j (get_or r j 0)) end (j + 1)
-    front-next h =
+    pub front_next : j < end → Fronted r d (set part j (get_or r j 0)) end (j + 1)
+    front_next h =
         let l : j < length r = omega (arith, t.whole) in
         record {
           whole = t.whole;
           long = t.long;
           few = omega arith;
           same = length-set part _ _ ∙ t.same;
-          bytes = ap (λ (x : List ℕ). set x j (get_or r j 0)) t.bytes ∙ front-step r d j l t.long;
+          bytes = ap (λ (x : List ℕ). set x j (get_or r j 0)) t.bytes ∙ front_step r d j l t.long;
         }
 
-    pub front-last : end ≤ j → part ≡ r ++ drop (length r) d
-    front-last h = let e : j ≡ length r = omega (arith, t.whole, t.few) in t.bytes ∙ rw (e, take-length)
+    pub front_last : end ≤ j → part ≡ r ++ drop (length r) d
+    front_last h = let e : j ≡ length r = omega (arith, t.whole, t.few) in t.bytes ∙ rw (e, take-length)
 
 -- the ops in front of the bytes that were moved up
-pub shift-front : (r p a b : List ℕ) → length r ≤ length p → a ≡ take (length r) p ++ take (length p - length r) p
+pub shift_front : (r p a b : List ℕ) → length r ≤ length p → a ≡ take (length r) p ++ take (length p - length r) p
     → b ≡ r ++ drop (length r) a → b ≡ shifted r p
 unfolding shifted
-shift-front r p a b h e i = i ∙ rw (e, drop_at (take (length r) p) _ (length r) (length-take-le (length r) p h))
+shift_front r p a b h e i = i ∙ rw (e, drop_at (take (length r) p) _ (length r) (length-take-le (length r) p h))
 
 -- a part with the ops in front of its moved bytes, put back into its buffer
 pub put_back : (r b ys : List ℕ) (place end : ℕ) → place ≤ end → end + length r ≤ length b
@@ -122,82 +122,82 @@ put_back r b ys place end h hb e =
 
 ---- the whole
 
-map-set : (log : Log) (i : ℕ) (ops : List Op) → map length (set log i ops) ≡ set (map length log) i (length ops)
-map-set [] i ops = refl
-map-set (x ∷ log) zero ops = refl
-map-set (x ∷ log) (suc i) ops = ap (◌∷◌ (length x)) (map-set log i ops)
+map_set : (log : Log) (i : ℕ) (ops : List Op) → map length (set log i ops) ≡ set (map length log) i (length ops)
+map_set [] i ops = refl
+map_set (x ∷ log) zero ops = refl
+map_set (x ∷ log) (suc i) ops = ap (◌∷◌ (length x)) (map_set log i ops)
 
-take-chunksOf : (w k : ℕ) (ns bs : List ℕ) → take k (chunks_of w ns bs) ≡ chunks_of w (take k ns) bs
+take_chunks_of : (w k : ℕ) (ns bs : List ℕ) → take k (chunks_of w ns bs) ≡ chunks_of w (take k ns) bs
 unfolding chunks_of
-take-chunksOf w zero ns bs = refl
-take-chunksOf w (suc k) [] bs = refl
-take-chunksOf w (suc k) (n ∷ ns) bs = rw (take-chunksOf w k ns (drop (w * n) bs))
+take_chunks_of w zero ns bs = refl
+take_chunks_of w (suc k) [] bs = refl
+take_chunks_of w (suc k) (n ∷ ns) bs = rw (take_chunks_of w k ns (drop (w * n) bs))
 
-drop-chunksOf : (w k : ℕ) (ns bs : List ℕ) → drop k (chunks_of w ns bs) ≡ chunks_of w (drop k ns) (drop (w * sum (take k ns)) bs)
+drop_chunks_of : (w k : ℕ) (ns bs : List ℕ) → drop k (chunks_of w ns bs) ≡ chunks_of w (drop k ns) (drop (w * sum (take k ns)) bs)
 unfolding chunks_of sum
-drop-chunksOf w zero ns bs = rw mul-zero
-drop-chunksOf w (suc k) [] bs = refl
-drop-chunksOf w (suc k) (n ∷ ns) bs = rw (drop-chunksOf w k ns (drop (w * n) bs), drop-drop, ← mul-add w n (sum (take k ns)))
+drop_chunks_of w zero ns bs = rw mul-zero
+drop_chunks_of w (suc k) [] bs = refl
+drop_chunks_of w (suc k) (n ∷ ns) bs = rw (drop_chunks_of w k ns (drop (w * n) bs), drop-drop, ← mul-add w n (sum (take k ns)))
 
 -- the bodies of a log with more ops last in its list i
-bodies-set : (log : Log) (i : ℕ) (ops : List Op) → i < length log
+bodies_set : (log : Log) (i : ℕ) (ops : List Op) → i < length log
     → concat (concat (set log i (get_or log i [] ++ ops)))
     ≡ concat (concat (take (suc i) log)) ++ (concat ops ++ concat (concat (drop (suc i) log)))
 unfolding concat
-bodies-set [] i ops h = absurd (not-suc-le-zero h)
-bodies-set (x ∷ log) zero ops h = simp (append_assoc, concat-append)
-bodies-set (x ∷ log) (suc i) ops h =
-    simp (concat-append, append_assoc) (ap (λ t. concat x ++ t) (bodies-set log i ops (le_of_suc-le-suc h)))
+bodies_set [] i ops h = absurd (not-suc-le-zero h)
+bodies_set (x ∷ log) zero ops h = simp (append_assoc, concat_append)
+bodies_set (x ∷ log) (suc i) ops h =
+    simp (concat_append, append_assoc) (ap (λ t. concat x ++ t) (bodies_set log i ops (le_of_suc-le-suc h)))
 
 module _ (w : ℕ) (f : List ℕ) (s : ℕ) (l : 1 ≤ s) (u : s ≤ 8) (ops : List Op) where
   abbrev log : Log
-  log = logOf w f
+  log = log_of w f
 
   -- what the bodies of the replicas up to s take, and those of the later ones
   abbrev before : ℕ
-  before = w * sum (take s (headerCounts f))
+  before = w * sum (take s (header_counts f))
 
   abbrev after : ℕ
-  after = w * sum (drop s (headerCounts f))
+  after = w * sum (drop s (header_counts f))
 
-  bodies : concat (concat (appendAll log s ops)) ≡ take before (drop 32 f) ++ (concat ops ++ take after (drop before (drop 32 f)))
-  unfolding appendAll ops_of logOf
+  bodies : concat (concat (append_all log s ops)) ≡ take before (drop 32 f) ++ (concat ops ++ take after (drop before (drop 32 f)))
+  unfolding append_all ops_of log_of
   bodies =
       let k : suc (s - 1) ≡ s = omega arith in
       rw (
-        bodies-set (chunks_of w (headerCounts f) (drop 32 f)) (s - 1) ops (omega (arith, length-logOf w f)),
+        bodies_set (chunks_of w (header_counts f) (drop 32 f)) (s - 1) ops (omega (arith, length_log_of w f)),
         k,
-        take-chunksOf,
-        drop-chunksOf,
-        bodies-chunksOf,
-        bodies-chunksOf,
+        take_chunks_of,
+        drop_chunks_of,
+        bodies_chunks_of,
+        bodies_chunks_of,
       )
 
-  appended-bytes : appendedAll w f s ops ≡ headerOf w (countsOf (appendAll log s ops))
-      ++ (take before (drop 32 f) ++ (concat ops ++ (take after (drop before (drop 32 f)) ++ drop (fileEnd w f + w * length ops) f)))
-  unfolding appendedAll fileOf
-  appended-bytes = rw bodies (simp append_assoc)
+  appended_bytes : appended_all w f s ops ≡ header_of w (counts_of (append_all log s ops))
+      ++ (take before (drop 32 f) ++ (concat ops ++ (take after (drop before (drop 32 f)) ++ drop (file_end w f + w * length ops) f)))
+  unfolding appended_all file_of
+  appended_bytes = rw bodies (simp append_assoc)
 
   -- the counts with so many ops more
-  pub counts-more : countsOf (appendAll log s ops) ≡ set (headerCounts f) (s - 1) (get_or (headerCounts f) (s - 1) 0 + length ops)
-  unfolding countsOf appendAll countIn
-  counts-more =
-      let count-getD : countIn (countsOf log) s ≡ get_or (headerCounts f) (s - 1) 0 = ap (λ v. get_or v (s - 1) 0) (counts-logOf w f) in
-      let n : length (ops_of log s ++ ops) ≡ get_or (headerCounts f) (s - 1) 0 + length ops =
+  pub counts_more : counts_of (append_all log s ops) ≡ set (header_counts f) (s - 1) (get_or (header_counts f) (s - 1) 0 + length ops)
+  unfolding counts_of append_all count_in
+  counts_more =
+      let count-getD : count_in (counts_of log) s ≡ get_or (header_counts f) (s - 1) 0 = ap (λ v. get_or v (s - 1) 0) (counts_log_of w f) in
+      let n : length (ops_of log s ++ ops) ≡ get_or (header_counts f) (s - 1) 0 + length ops =
       length-append (ops_of log s) ops ∙ ap (λ (k : ℕ). k + length ops) (sym (count_held log s) ∙ count-getD) in
-      map-set log (s - 1) (ops_of log s ++ ops)
-      ∙ rw n (ap (λ v. set v (s - 1) (get_or (headerCounts f) (s - 1) 0 + length ops)) (counts-logOf w f))
+      map_set log (s - 1) (ops_of log s ++ ops)
+      ∙ rw n (ap (λ v. set v (s - 1) (get_or (header_counts f) (s - 1) 0 + length ops)) (counts_log_of w f))
 
   -- a new header over the inserted ops: the buffer with them
-  inserted-appended : laid w f ≡ true
-      → headerOf w (countsOf (appendAll log s ops))
-      ++ drop 32 (inserted (concat ops) f (start_of w (headerCounts f) (s + 1)) (fileEnd w f) (w * length ops))
-      ≡ appendedAll w f s ops
-  unfolding start_of fileEnd end_of sum inserted
-  inserted-appended good =
-      let c : List ℕ = headerCounts f in
+  inserted_appended : laid w f ≡ true
+      → header_of w (counts_of (append_all log s ops))
+      ++ drop 32 (inserted (concat ops) f (start_of w (header_counts f) (s + 1)) (file_end w f) (w * length ops))
+      ≡ appended_all w f s ops
+  unfolding start_of file_end end_of sum inserted
+  inserted_appended good =
+      let c : List ℕ = header_counts f in
       let k : s + 1 - 1 ≡ s = omega arith in
-      let total : sum c ≡ sum (take s c) + sum (drop s c) = sum-split c s in
+      let total : sum c ≡ sum (take s c) + sum (drop s c) = sum_split c s in
       let whole : 32 + w * sum c ≡ 32 + before + after =
       omega (arith, ap (λ (n : ℕ). w * n) total, mul-add w (sum (take s c)) (sum (drop s c))) in
       let e : 32 + w * sum c - (32 + before) ≡ after = omega arith in
@@ -207,71 +207,71 @@ module _ (w : ℕ) (f : List ℕ) (s : ℕ) (l : 1 ≤ s) (u : s ≤ 8) (ops : L
       rw (
         take-add 32 before f,
         append_assoc,
-        drop_at (take 32 f) _ 32 (length-take-le 32 f (laid-reads w f good).header),
+        drop_at (take 32 f) _ 32 (length-take-le 32 f (laid_reads w f good).header),
         drop-drop before 32 f,
       ) in
-      rw (k, e, t) (sym appended-bytes)
+      rw (k, e, t) (sym appended_bytes)
     where
-      sum-split : (c : List ℕ) (n : ℕ) → sum c ≡ sum (take n c) + sum (drop n c)
-      sum-split [] zero = omega arith
-      sum-split [] (suc n) = omega arith
-      sum-split (x ∷ c) zero = omega arith
-      sum-split (x ∷ c) (suc n) = omega (arith, sum-split c n)
+      sum_split : (c : List ℕ) (n : ℕ) → sum c ≡ sum (take n c) + sum (drop n c)
+      sum_split [] zero = omega arith
+      sum_split [] (suc n) = omega arith
+      sum_split (x ∷ c) zero = omega arith
+      sum_split (x ∷ c) (suc n) = omega (arith, sum_split c n)
 
 -- and then the header
-pub put-head : (w : ℕ) (v : Vector) (r b x y : List ℕ) (place end : ℕ) → x ≡ inserted r b place end (length r)
-    → y ≡ headerOf w v ++ drop 32 x → y ≡ headedBy w v r b place end
-unfolding headedBy
-put-head w v r b x y place end e i = i ∙ rw e
+pub put_head : (w : ℕ) (v : Vector) (r b x y : List ℕ) (place end : ℕ) → x ≡ inserted r b place end (length r)
+    → y ≡ header_of w v ++ drop 32 x → y ≡ headed_by w v r b place end
+unfolding headed_by
+put_head w v r b x y place end e i = i ∙ rw e
 
 ---- adding n ops: v are the held counts
 
 module _ (v : Vector) (s n k : ℕ) (is : k ≡ get_or v (s - 1) 0) where
-  pub more-fits : countIn v s + n ≤ 255 → k + n < 2 ^ 8
-  unfolding countIn
-  more-fits h = omega arith
+  pub more_fits : count_in v s + n ≤ 255 → k + n < 2 ^ 8
+  unfolding count_in
+  more_fits h = omega arith
 
-  pub more-is : set v (s - 1) (k + n) ≡ set v (s - 1) (countIn v s + n)
-  unfolding countIn
-  more-is = rw is
+  pub more_is : set v (s - 1) (k + n) ≡ set v (s - 1) (count_in v s + n)
+  unfolding count_in
+  more_is = rw is
 
 module _ (w : ℕ) (f : List ℕ) (v : Vector) (s : ℕ) (r : List ℕ) (n : ℕ) (t : Appendable w f v s r n) where
-  pub append-long : 32 ≤ length f
-  append-long = laid-long w f t.is-laid
+  pub append_long : 32 ≤ length f
+  append_long = laid_long w f t.is_laid
 
-  pub append-header : soundHeader w f ≡ true
-  append-header = laid-header w f t.is-laid
+  pub append_header : sound_header w f ≡ true
+  append_header = laid_header w f t.is_laid
 
-  pub append-below : countIn v s + n ≤ 255
-  append-below = rw (t.held, counts-at f s t.low t.high) t.below
+  pub append_below : count_in v s + n ≤ 255
+  append_below = rw (t.held, counts_at f s t.low t.high) t.below
 
   -- where the file ends, and where the replica's ops end
-  module _ (end : ℕ) (ie : end ≡ start_of w (headerCounts f) 9) where
-    end-there : end ≡ fileEnd w f
-    end-there = ie ∙ end_is w f
+  module _ (end : ℕ) (ie : end ≡ start_of w (header_counts f) 9) where
+    end_there : end ≡ file_end w f
+    end_there = ie ∙ end_is w f
 
-    pub ops-fit : end + length r ≤ length f
-    ops-fit = omega (arith, end-there, t.room, t.long)
+    pub ops_fit : end + length r ≤ length f
+    ops_fit = omega (arith, end_there, t.room, t.long)
 
-    module _ (place : ℕ) (is : place ≡ start_of w (headerCounts f) (s + 1)) where
-      pub place-before : place ≤ end
-      place-before = omega (arith, end-there, start-within w f s)
+    module _ (place : ℕ) (is : place ≡ start_of w (header_counts f) (s + 1)) where
+      pub place_before : place ≤ end
+      place_before = omega (arith, end_there, start_within w f s)
 
-      pub append-all : (c : Vector) → c ≡ set v (s - 1) (countIn v s + n) → (b : List ℕ) → b ≡ headedBy w c r f place end
-          → b ≡ appendedAll w f s (chunks w n r)
-      unfolding countIn headedBy
-      append-all c ic b ib =
+      pub append_all_law : (c : Vector) → c ≡ set v (s - 1) (count_in v s + n) → (b : List ℕ) → b ≡ headed_by w c r f place end
+          → b ≡ appended_all w f s (chunks w n r)
+      unfolding count_in headed_by
+      append_all_law c ic b ib =
           let ops : List Op = chunks w n r in
-          let many : length ops ≡ n = length-chunks w n r in
-          let all : concat ops ≡ r = concat-chunks w n r ∙ take_all (w * n) r (omega (arith, t.long)) in
-          let k : c ≡ countsOf (appendAll (logOf w f) s ops) =
-          ic ∙ rw t.held (sym (counts-more w f s t.low t.high ops ∙ rw many)) in
-          let whole = inserted-appended w f s t.low t.high ops t.is-laid in
-          ib ∙ rw (k, is, end-there, t.long) (rw (all, many) at whole)
+          let many : length ops ≡ n = length_chunks w n r in
+          let all : concat ops ≡ r = concat_chunks w n r ∙ take_all (w * n) r (omega (arith, t.long)) in
+          let k : c ≡ counts_of (append_all (log_of w f) s ops) =
+          ic ∙ rw t.held (sym (counts_more w f s t.low t.high ops ∙ rw many)) in
+          let whole = inserted_appended w f s t.low t.high ops t.is_laid in
+          ib ∙ rw (k, is, end_there, t.long) (rw (all, many) at whole)
 
 ---- what the code of appending needs: search appending
-pub ruleset shifting = (move-first, move-next, move-last, front-first, front-next, front-last, shift-front, put_back, put-head)
+pub ruleset shifting = (move_first, move_next, move_last, front_first, front_next, front_last, shift_front, put_back, put_head)
 
-pub ruleset adding = (more-fits, more-is, append-long, append-header, append-below, place-before, ops-fit, append-all)
+pub ruleset adding = (more_fits, more_is, append_long, append_header, append_below, place_before, ops_fit, append_all_law)
 
 pub ruleset appending = (rules, shifting, adding)

@@ -13,15 +13,15 @@ use borrow.Author.Rules.{rules}
 use borrow.Author.Tests.{le-leb, lt-leb, lt-ltb, le-ltb}
 use Rattle.lists.specs.Lists.{up_from, concat}
 use Rattle.rules.specs.Op.{replicas}
-use Rattle.rules.specs.File.{Log, countAt, ops_of, logOf, opAt}
+use Rattle.rules.specs.File.{Log, count_at, ops_of, log_of, op_at}
 use Rattle.rules.specs.Log.{laid}
-use Rattle.lists.proofs.RangeLaws.{map-getD}
-use Rattle.rules.proofs.FileLaws.{log-eta}
-use Rattle.rules.proofs.ReplicaLaws.{map-replicas}
-use Rattle.rules.proofs.StructureLaws.{count_held, laid-reads}
+use Rattle.lists.proofs.RangeLaws.{map_get_d}
+use Rattle.rules.proofs.FileLaws.{log_eta}
+use Rattle.rules.proofs.ReplicaLaws.{map_replicas}
+use Rattle.rules.proofs.StructureLaws.{count_held, laid_reads}
 use Rattle.oplog.specs.declared.marker.Marker.{Marker}
-use Rattle.oplog.specs.Places.{nextMarker}
-use Rattle.oplog.proofs.FieldLaws.{counts-in}
+use Rattle.oplog.specs.Places.{next_marker}
+use Rattle.oplog.proofs.FieldLaws.{counts_in}
 
 module _ {A : Type 0} (log : Log) (E : ℕ → ℕ → A) where
   -- the ops of replica s from number q on; those of the replicas above it
@@ -38,49 +38,49 @@ module _ {A : Type 0} (log : Log) (E : ℕ → ℕ → A) where
   unfolding left
   left_end s q h = rw (lt-leb s 8 h)
 
-  above-next : (s : ℕ) → s ≤ 8 → above s ≡ left (s + 1) 1
+  above_next : (s : ℕ) → s ≤ 8 → above s ≡ left (s + 1) 1
   unfolding above left up_from concat
-  above-next s h = elim (dec_le (s + 1) 8) [
+  above_next s h = elim (dec_le (s + 1) 8) [
     | yes l ↦ let e : 8 - s ≡ suc (8 - (s + 1)) = omega arith in rw (le-leb (s + 1) 8 l, e, ← add-one (s + 1))
     | no l ↦ let e : 8 - s ≡ 0 = omega arith in rw (lt-leb (s + 1) 8 (omega arith), e)
   ]
 
-  pub left-first : concat (map (λ s. row s 1) replicas) ≡ left 1 1
+  pub left_first : concat (map (λ s. row s 1) replicas) ≡ left 1 1
   unfolding replicas above
-  left-first = above-next 0 (omega arith)
+  left_first = above_next 0 (omega arith)
 
   module _ (s q : ℕ) (h : s ≤ 8) (lq : 1 ≤ q) where
-    left-more : q < length (ops_of log s) → left s q ≡ E s q ∷ left s (q + 1)
+    left_more : q < length (ops_of log s) → left s q ≡ E s q ∷ left s (q + 1)
     unfolding left row up_from
-    left-more u =
+    left_more u =
         let e : length (ops_of log s) + 1 - q ≡ suc (length (ops_of log s) + 1 - (q + 1)) = omega arith in
         rw (le-leb s 8 h, e, ← add-one q)
 
-    left-last : q ≡ length (ops_of log s) → left s q ≡ E s q ∷ left (s + 1) 1
+    left_last : q ≡ length (ops_of log s) → left s q ≡ E s q ∷ left (s + 1) 1
     unfolding left row up_from
-    left-last u =
+    left_last u =
         let e : length (ops_of log s) + 1 - q ≡ suc zero = omega arith in
-        rw (← above-next s h, le-leb s 8 h, e)
+        rw (← above_next s h, le-leb s 8 h, e)
 
-    left-none : length (ops_of log s) < q → left s q ≡ left (s + 1) 1
+    left_none : length (ops_of log s) < q → left s q ≡ left (s + 1) 1
     unfolding left row up_from
-    left-none u =
+    left_none u =
         let e : length (ops_of log s) + 1 - q ≡ 0 = omega arith in
-        rw (← above-next s h, le-leb s 8 h, e)
+        rw (← above_next s h, le-leb s 8 h, e)
 
 ---- a step of the marker; n is the count that was read
 
-module _ (f : List ℕ) (m : Marker) (n : ℕ) (e : n ≡ countAt f m.replica) where
-  pub in-file-read : leb m.sequence n ≡ leb m.sequence (countAt f m.replica)
-  in-file-read = rw e
+module _ (f : List ℕ) (m : Marker) (n : ℕ) (e : n ≡ count_at f m.replica) where
+  pub in_file_read : leb m.sequence n ≡ leb m.sequence (count_at f m.replica)
+  in_file_read = rw e
 
-  pub next_more : m.sequence < n → record { replica = m.replica; sequence = m.sequence + 1 } ≡ nextMarker f m
-  unfolding nextMarker
+  pub next_more : m.sequence < n → record { replica = m.replica; sequence = m.sequence + 1 } ≡ next_marker f m
+  unfolding next_marker
   next_more h = rw (← e, lt-ltb m.sequence n h)
 
-  pub next-replica : n ≤ m.sequence → record { replica = m.replica + 1; sequence = 1 } ≡ nextMarker f m
-  unfolding nextMarker
-  next-replica h = rw (← e, le-ltb m.sequence n h)
+  pub next_replica : n ≤ m.sequence → record { replica = m.replica + 1; sequence = 1 } ≡ next_marker f m
+  unfolding next_marker
+  next_replica h = rw (← e, le-ltb m.sequence n h)
 
 ---- a turn of the walk
 
@@ -99,55 +99,55 @@ pub record Onward (m m' : Marker) : Type 0 where
   pub at : Walk m'
   pub less : togo m' < togo m
 
-module _ (w : ℕ) (f : List ℕ) (good : laid w f ≡ true) (m m' : Marker) (e : m' ≡ nextMarker f m) (at : Walk m) (u : m.replica ≤ 8) where
-  abbrev is-there : Bool
-  is-there = leb m.sequence (countAt f m.replica)
+module _ (w : ℕ) (f : List ℕ) (good : laid w f ≡ true) (m m' : Marker) (e : m' ≡ next_marker f m) (at : Walk m) (u : m.replica ≤ 8) where
+  abbrev is_there : Bool
+  is_there = leb m.sequence (count_at f m.replica)
 
   pub onward : Onward m m'
-  unfolding nextMarker
-  onward = rw e (elim (dec_le (m.sequence + 1) (countAt f m.replica)) [
+  unfolding next_marker
+  onward = rw e (elim (dec_le (m.sequence + 1) (count_at f m.replica)) [
     | yes h ↦
-        let k : countAt f m.replica ≤ 255 = (laid-reads w f good).counts m.replica at.low u in
-        rw (lt-ltb m.sequence (countAt f m.replica) (omega arith)) (record {
+        let k : count_at f m.replica ≤ 255 = (laid_reads w f good).counts m.replica at.low u in
+        rw (lt-ltb m.sequence (count_at f m.replica) (omega arith)) (record {
           at = record { first = omega arith; last = omega arith; low = at.low; high = omega arith };
           less = omega (arith, at);
         })
-    | no h ↦ rw (le-ltb m.sequence (countAt f m.replica) (omega arith)) (record {
+    | no h ↦ rw (le-ltb m.sequence (count_at f m.replica) (omega arith)) (record {
       at = record { first = omega arith; last = omega arith; low = omega arith; high = omega arith };
       less = omega (arith, at);
     })
   ])
 
   -- the op at the marker comes first, if it is there
-  pub left-next : {A : Type 0} (E : ℕ → ℕ → A) → let rest = left (logOf w f) E m'.replica m'.sequence in
-      left (logOf w f) E m.replica m.sequence ≡ cond is-there (E m.replica m.sequence ∷ rest) rest
-  unfolding nextMarker
-  left-next E =
+  pub left_next : {A : Type 0} (E : ℕ → ℕ → A) → let rest = left (log_of w f) E m'.replica m'.sequence in
+      left (log_of w f) E m.replica m.sequence ≡ cond is_there (E m.replica m.sequence ∷ rest) rest
+  unfolding next_marker
+  left_next E =
       let s : ℕ = m.replica in
       let q : ℕ = m.sequence in
-      let n : ℕ = countAt f s in
-      let l : length (ops_of (logOf w f) s) ≡ n = sym (count_held (logOf w f) s) ∙ counts-in w f s at.low u in
+      let n : ℕ = count_at f s in
+      let l : length (ops_of (log_of w f) s) ≡ n = sym (count_held (log_of w f) s) ∙ counts_in w f s at.low u in
       rw e (elim (dec_le (q + 1) n) [
-        | yes h ↦ rw (lt-ltb q n (omega arith), le-leb q n (omega arith)) (left-more (logOf w f) E s q u at.first (omega arith))
+        | yes h ↦ rw (lt-ltb q n (omega arith), le-leb q n (omega arith)) (left_more (log_of w f) E s q u at.first (omega arith))
         | no h ↦ rw (le-ltb q n (omega arith)) (elim (ℕ_discrete q n) [
-          | yes z ↦ rw (le-leb q n (omega arith)) (left-last (logOf w f) E s q u at.first (omega arith))
-          | no nz ↦ rw (lt-leb q n (omega arith)) (left-none (logOf w f) E s q u at.first (omega arith))
+          | yes z ↦ rw (le-leb q n (omega arith)) (left_last (log_of w f) E s q u at.first (omega arith))
+          | no nz ↦ rw (lt-leb q n (omega arith)) (left_none (log_of w f) E s q u at.first (omega arith))
         ])
       ])
 
 ---- what the code of the marker needs: search stepping
-pub ruleset stepping = (rules, in-file-read, next_more, next-replica)
+pub ruleset stepping = (rules, in_file_read, next_more, next_replica)
 
 ---- what the walk of a whole log says
 
 -- all ops
-ops-row : (log : Log) (s : ℕ) → row log (opAt log) s 1 ≡ ops_of log s
-unfolding row opAt
-ops-row log s =
+ops_row : (log : Log) (s : ℕ) → row log (op_at log) s 1 ≡ ops_of log s
+unfolding row op_at
+ops_row log s =
     let n : length (ops_of log s) + 1 - 1 ≡ length (ops_of log s) = omega arith in
-    rw n (map-getD [] (ops_of log s) 1)
+    rw n (map_get_d [] (ops_of log s) 1)
 
-pub left-ops : (log : Log) → length log ≡ 8 → concat log ≡ left log (opAt log) 1 1
-left-ops log e =
-    sym (ap concat (map-replicas (λ s. row log (opAt log) s 1) (ops_of log) (λ s l u. ops-row log s) ∙ log-eta log e))
-    ∙ left-first log (opAt log)
+pub left_ops : (log : Log) → length log ≡ 8 → concat log ≡ left log (op_at log) 1 1
+left_ops log e =
+    sym (ap concat (map_replicas (λ s. row log (op_at log) s 1) (ops_of log) (λ s l u. ops_row log s) ∙ log_eta log e))
+    ∙ left_first log (op_at log)

@@ -1,7 +1,7 @@
 ghost use Rattle.std.specs.Prelude.{◌≡◌, ◌++◌, ◌+◌, ◌-◌, ◌≤◌, length, take, drop, set};
-ghost use Rattle.rules.specs.Op.{countIn};
+ghost use Rattle.rules.specs.Op.{count_in};
 ghost use Rattle.rules.specs.File.{chunks};
-ghost use Rattle.oplog.specs.Append.{Appendable, appendedAll, headedBy, inserted, shifted};
+ghost use Rattle.oplog.specs.Append.{Appendable, appended_all, headed_by, inserted, shifted};
 
 use crate::header::{end_of, write_header};
 use codec::widen;
@@ -50,7 +50,7 @@ fn insert(buf: &mut [u8], place: usize, end: usize, ops: &[u8])
 // Puts ops at a place, and writes the header of the new counts.
 fn put_ops(buf: &mut [u8], place: usize, end: usize, ops: &[u8], counts: [u8; 8], width: usize)
     requires { (place ≤ end) × (end + length ops.now ≤ length buf.old) × (32 ≤ length buf.old) × (width ≤ 16) }
-    ensures { buf.new ≡ headedBy width counts ops.now buf.old place end }
+    ensures { buf.new ≡ headed_by width counts ops.now buf.old place end }
 {
     insert(buf, place, end, ops);
     write_header(buf, counts, width);
@@ -58,8 +58,8 @@ fn put_ops(buf: &mut [u8], place: usize, end: usize, ops: &[u8], counts: [u8; 8]
 
 // The counts with n ops more of a replica.
 pub fn with_more(counts: [u8; 8], replica: usize, n: usize) -> [u8; 8]
-    requires { (1 ≤ replica) × (replica ≤ 8) × (countIn counts replica + n ≤ 255) }
-    ensures { result ≡ set counts (replica - 1) (countIn counts replica + n) }
+    requires { (1 ≤ replica) × (replica ≤ 8) × (count_in counts replica + n ≤ 255) }
+    ensures { result ≡ set counts (replica - 1) (count_in counts replica + n) }
 {
     let mut more = counts;
     let held = widen(counts[replica - 1]);
@@ -77,7 +77,7 @@ pub fn append_ops(
     width: usize,
 )
     requires { Appendable width buf.old counts replica ops.now n }
-    ensures { buf.new ≡ appendedAll width buf.old replica (chunks width n ops.now) }
+    ensures { buf.new ≡ appended_all width buf.old replica (chunks width n ops.now) }
 {
     let place = end_of(buf, replica, width);
     let end = end_of(buf, 8, width);

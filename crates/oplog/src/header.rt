@@ -1,14 +1,14 @@
 ghost use Rattle.std.specs.Prelude.{◌≡◌, true, ◌++◌, ◌+◌, ◌*◌, ◌≤◌, ◌<◌, length, drop};
-ghost use Rattle.rules.specs.File.{countAt, start_at, headerCounts, start_of, headerOf};
-ghost use Rattle.rules.specs.Log.{soundHeader};
-ghost use Rattle.oplog.specs.Header.{entryRight, withEntry};
+ghost use Rattle.rules.specs.File.{count_at, start_at, header_counts, start_of, header_of};
+ghost use Rattle.rules.specs.Log.{sound_header};
+ghost use Rattle.oplog.specs.Header.{entry_right, with_entry};
 
 use codec::{put_word, widen, widen16, word_at};
 
 // The count that the header gives for replica s.
 pub fn count_at(file: &[u8], s: usize) -> usize
     requires { (32 ≤ length file.now) × (1 ≤ s) × (s ≤ 8) }
-    ensures { result ≡ countAt file.now s }
+    ensures { result ≡ count_at file.now s }
 {
     widen16(word_at(file, 4 * (s - 1)))
 }
@@ -24,7 +24,7 @@ pub(crate) fn start_at(file: &[u8], s: usize) -> usize
 // Whether the entry of replica s has a count of at most 255, and this start.
 fn entry_right(file: &[u8], s: usize, start: usize) -> bool
     requires { (32 ≤ length file.now) × (1 ≤ s) × (s ≤ 8) }
-    ensures { result ≡ entryRight file.now s start }
+    ensures { result ≡ entry_right file.now s start }
 {
     if 255 < count_at(file, s) {
         return false;
@@ -35,7 +35,7 @@ fn entry_right(file: &[u8], s: usize, start: usize) -> bool
 // Whether counts are at most 255 and starts are right.
 pub fn header_right(file: &[u8], width: usize) -> bool
     requires { (32 ≤ length file.now) × (width ≤ 255) }
-    ensures { result ≡ soundHeader width file.now }
+    ensures { result ≡ sound_header width file.now }
 {
     let mut start: usize = 32;
     for i in 0..8usize {
@@ -50,16 +50,16 @@ pub fn header_right(file: &[u8], width: usize) -> bool
 // Where the bodies of replica s end: where those of the next start, and after the last the file's
 // end.
 pub fn end_of(file: &[u8], s: usize, width: usize) -> usize
-    requires { (32 ≤ length file.now) × (width ≤ 255) × (soundHeader width file.now ≡ true) × (1 ≤ s) × (s ≤ 8) }
-    ensures { result ≡ start_of width (headerCounts file.now) (s + 1) }
+    requires { (32 ≤ length file.now) × (width ≤ 255) × (sound_header width file.now ≡ true) × (1 ≤ s) × (s ≤ 8) }
+    ensures { result ≡ start_of width (header_counts file.now) (s + 1) }
 {
     start_at(file, s) + width * count_at(file, s)
 }
 
 // The held counts.
 pub fn counts_of(file: &[u8], width: usize) -> [u8; 8]
-    requires { (32 ≤ length file.now) × (soundHeader width file.now ≡ true) }
-    ensures { result ≡ headerCounts file.now }
+    requires { (32 ≤ length file.now) × (sound_header width file.now ≡ true) }
+    ensures { result ≡ header_counts file.now }
 {
     let mut counts = [0u8; 8];
     for i in 0..8 {
@@ -71,7 +71,7 @@ pub fn counts_of(file: &[u8], width: usize) -> [u8; 8]
 // Writes entry i of the header, from 0: a count and a start.
 fn put_entry(buf: &mut [u8], i: usize, count: u8, start: u16)
     requires { 4 * i + 4 ≤ length buf.old }
-    ensures { buf.new ≡ withEntry buf.old i count start }
+    ensures { buf.new ≡ with_entry buf.old i count start }
 {
     put_word(buf, 4 * i, count as u16);
     put_word(buf, 4 * i + 2, start);
@@ -80,7 +80,7 @@ fn put_entry(buf: &mut [u8], i: usize, count: u8, start: u16)
 // Writes the header of some counts.
 pub fn write_header(buf: &mut [u8], counts: [u8; 8], width: usize)
     requires { (32 ≤ length buf.old) × (width ≤ 16) }
-    ensures { buf.new ≡ headerOf width counts ++ drop 32 buf.old }
+    ensures { buf.new ≡ header_of width counts ++ drop 32 buf.old }
 {
     let mut start: u16 = 32;
     for i in 0..8usize {

@@ -1,6 +1,6 @@
 ghost use Rattle.std.specs.Prelude.{◌≡◌, ◌+◌, ◌≤◌, length, leb};
-ghost use Rattle.rules.specs.File.{countAt};
-ghost use Rattle.oplog.specs.Places.{nextMarker};
+ghost use Rattle.rules.specs.File.{count_at};
+ghost use Rattle.oplog.specs.Places.{next_marker};
 
 use crate::header::count_at;
 
@@ -25,7 +25,7 @@ impl Marker {
     // Whether the file has the op.
     pub fn in_file(self, file: &[u8]) -> bool
         requires { (32 ≤ length file.now) × (1 ≤ self.replica) × (self.replica ≤ 8) }
-        ensures { result ≡ leb self.sequence (countAt file.now self.replica) }
+        ensures { result ≡ leb self.sequence (count_at file.now self.replica) }
     {
         self.sequence <= count_at(file, self.replica)
     }
@@ -33,7 +33,7 @@ impl Marker {
     // The next in file order; a replica without ops is passed with sequence 1.
     pub fn next(self, file: &[u8]) -> Marker
         requires { (32 ≤ length file.now) × (1 ≤ self.replica) × (self.replica ≤ 8) }
-        ensures { result ≡ nextMarker file.now self }
+        ensures { result ≡ next_marker file.now self }
     {
         let replica = self.replica;
         let sequence = self.sequence;

@@ -8,21 +8,21 @@ use mathlib.Core.Path.{◌≡◌, sym, ap, ◌∙◌}
 use native.Mathlib.Omega.{arith}
 use Rattle.lists.specs.Lists.{filter}
 use Rattle.lists.proofs.EachLaws.{Each}
-use Rattle.lists.proofs.FilterLaws.{filter_alike, filter-append}
-use Rattle.rules.specs.File.{Log, countsOf}
+use Rattle.lists.proofs.FilterLaws.{filter_alike, filter_append}
+use Rattle.rules.specs.File.{Log, counts_of}
 use Rattle.rules.specs.Log.{covered}
 use Rattle.rules.specs.Op.{Vector}
 use Rattle.rules.specs.Replay.{Stamped, order_of, ordered}
-use Rattle.rules.proofs.CausalLaws.{Le, le-within}
+use Rattle.rules.proofs.CausalLaws.{Le, le_within}
 use Rattle.rules.proofs.StructureLaws.{GoodLog, held_in}
-use Rattle.order.specs.Undo.{replayKeeping, stepKeeping, takeBack, unjudged}
-use Rattle.order.proofs.PartLaws.{inCut, ordered-part}
-use Rattle.order.proofs.SlotLaws.{slots-distinct, slots-in}
-use Rattle.order.proofs.UndoLaws.{opsIn, take-back-after}
+use Rattle.order.specs.Undo.{replay_keeping, step_keeping, take_back, unjudged}
+use Rattle.order.proofs.PartLaws.{in_cut, ordered_part}
+use Rattle.order.proofs.SlotLaws.{slots_distinct, slots_in}
+use Rattle.order.proofs.UndoLaws.{ops_in, take_back_after}
 
 -- two cuts count the same of these
 abbrev pub Agrees : Vector → Vector → List Stamped → Type 0
-Agrees v w xs = Each (λ x. inCut v x ≡ inCut w x) xs
+Agrees v w xs = Each (λ x. in_cut v x ≡ in_cut w x) xs
 
 module _ (log : Log) (good : GoodLog log) (v w u : Vector) (cu : covered log u ≡ true) (vu : Le v u) (wu : Le w u) (i : ℕ) where
   abbrev front : List Stamped
@@ -31,19 +31,19 @@ module _ (log : Log) (good : GoodLog log) (v w u : Vector) (cu : covered log u �
   abbrev back : List Stamped
   back = drop i (ordered log u)
 
-  parts : (z : Vector) → Le z u → ordered log z ≡ filter (inCut z) front ++ filter (inCut z) back
+  parts : (z : Vector) → Le z u → ordered log z ≡ filter (in_cut z) front ++ filter (in_cut z) back
   parts z le =
-      ordered-part log good z u cu le ∙ ap (filter (inCut z)) (sym (take-append-drop i (ordered log u)))
-      ∙ filter-append (inCut z) front back
+      ordered_part log good z u cu le ∙ ap (filter (in_cut z)) (sym (take-append-drop i (ordered log u)))
+      ∙ filter_append (in_cut z) front back
 
   pub carried : Agrees v w front
-      → foldl stepKeeping (takeBack (replayKeeping log v) (opsIn (filter (inCut v) back))) (filter (inCut w) back) ≡ replayKeeping log w
-  unfolding replayKeeping order_of covered
+      → foldl step_keeping (take_back (replay_keeping log v) (ops_in (filter (in_cut v) back))) (filter (in_cut w) back) ≡ replay_keeping log w
+  unfolding replay_keeping order_of covered
   carried agree =
-      let cv : covered log v ≡ true = le-within v (countsOf log) (λ s l b. omega (arith, vu s l b, held_in log u cu s l b)) in
-      let taken : takeBack (foldl stepKeeping unjudged (ordered log v)) (opsIn (filter (inCut v) back))
-      ≡ foldl stepKeeping unjudged (filter (inCut v) front) =
-      ap (λ ys. takeBack (foldl stepKeeping unjudged ys) (opsIn (filter (inCut v) back))) (parts v vu)
-      ∙ take-back-after (filter (inCut v) front) (filter (inCut v) back) (rw (← parts v vu) (slots-in log good v cv))
-      (rw (← parts v vu) (slots-distinct log good v cv)) in
-      rw (taken, filter_alike (inCut v) (inCut w) front agree, parts w wu, foldl-append)
+      let cv : covered log v ≡ true = le_within v (counts_of log) (λ s l b. omega (arith, vu s l b, held_in log u cu s l b)) in
+      let taken : take_back (foldl step_keeping unjudged (ordered log v)) (ops_in (filter (in_cut v) back))
+      ≡ foldl step_keeping unjudged (filter (in_cut v) front) =
+      ap (λ ys. take_back (foldl step_keeping unjudged ys) (ops_in (filter (in_cut v) back))) (parts v vu)
+      ∙ take_back_after (filter (in_cut v) front) (filter (in_cut v) back) (rw (← parts v vu) (slots_in log good v cv))
+      (rw (← parts v vu) (slots_distinct log good v cv)) in
+      rw (taken, filter_alike (in_cut v) (in_cut w) front agree, parts w wu, foldl-append)

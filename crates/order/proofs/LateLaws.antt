@@ -9,145 +9,145 @@ use mathlib.Core.Logic.{⊎_elim}
 use mathlib.Core.Path.{ap, ◌∙◌, ◌≡◌, ap₂, sym}
 use native.Mathlib.Decide.{dec_le}
 use native.Mathlib.Omega.{arith}
-use Rattle.order.proofs.RunLaws.{op-ready, op-none}
-use Rattle.order.proofs.LevelLaws.{AtLevel, time-of, counted-value, Cut, whole-cut, equation, off-time, of-replica, by-time-more, matches, stamped-times, one-level, counted-bound, status}
-use Rattle.order.specs.Levels.{level, readyOps, readyOp}
-use Rattle.rules.proofs.AppendLaws.{closed-more}
-use Rattle.lists.proofs.RangeLaws.{map-downFrom, map-upFrom, upFrom-add}
-use Rattle.lists.proofs.FilterLaws.{filter-append, filter_none}
-use Rattle.lists.proofs.ListLaws.{concat-append}
-use Rattle.rules.proofs.StructureLaws.{GoodLog, good-ops, counts-covered, counts-closed}
-use Rattle.rules.proofs.TimeLaws.{map-within}
+use Rattle.order.proofs.RunLaws.{op_ready, op_none}
+use Rattle.order.proofs.LevelLaws.{AtLevel, time_of, counted_value, Cut, whole_cut, equation, off_time, of_replica_law, by_time_more, matches, stamped_times, one_level, counted_bound, status}
+use Rattle.order.specs.Levels.{level, ready_ops, ready_op}
+use Rattle.rules.proofs.AppendLaws.{closed_more}
+use Rattle.lists.proofs.RangeLaws.{map_down_from, map_up_from, up_from_add}
+use Rattle.lists.proofs.FilterLaws.{filter_append, filter_none}
+use Rattle.lists.proofs.ListLaws.{concat_append}
+use Rattle.rules.proofs.StructureLaws.{GoodLog, good_ops, counts_covered, counts_closed}
+use Rattle.rules.proofs.TimeLaws.{map_within}
 use Rattle.lists.specs.Lists.{greatest, concat, up_from, filter}
-use Rattle.rules.specs.File.{Log, countsOf, opAt, ops_of, Extends}
-use Rattle.rules.specs.Op.{Vector, countIn, vectorOf, Op, kind_of}
-use Rattle.rules.specs.Replay.{timestamp, ofTime, ordered, opsWithin, ofKind, ofReplica, stamped, Stamped, stamp}
-use Rattle.rules.proofs.ExtendLaws.{Alike, alike-more, inner-alike, ordered-alike, timestamp-alike, within-alike}
+use Rattle.rules.specs.File.{Log, counts_of, op_at, ops_of, Extends}
+use Rattle.rules.specs.Op.{Vector, count_in, vector_of, Op, kind_of}
+use Rattle.rules.specs.Replay.{timestamp, of_time, ordered, ops_within, of_kind, of_replica, stamped, Stamped, stamp}
+use Rattle.rules.proofs.ExtendLaws.{Alike, alike_more, inner_alike, ordered_alike, timestamp_alike, within_alike}
 
 -- more is log and, of each replica, perhaps one op with the held counts of log as its vector
 pub record Late (log more : Log) : Type 0 where
   pub extends : Extends log more
-  pub vector : (s q : ℕ) → 1 ≤ s → s ≤ 8 → countIn (countsOf log) s < q → q ≤ countIn (countsOf more) s
-      → vectorOf (opAt more s q) ≡ countsOf log
+  pub vector : (s q : ℕ) → 1 ≤ s → s ≤ 8 → count_in (counts_of log) s < q → q ≤ count_in (counts_of more) s
+      → vector_of (op_at more s q) ≡ counts_of log
 
-module _ (log more : Log) (x : Late log more) (good : GoodLog log) (goodMore : GoodLog more) where
+module _ (log more : Log) (x : Late log more) (good : GoodLog log) (good_more : GoodLog more) where
   abbrev held : Vector
-  held = countsOf log
+  held = counts_of log
 
   abbrev all_held : Vector
-  all_held = countsOf more
+  all_held = counts_of more
 
   -- the greatest timestamp of the log; a late op's is the next
   unfoldable pub top : ℕ
-  top = greatest (map (timestamp log) (opsWithin log held))
+  top = greatest (map (timestamp log) (ops_within log held))
 
   -- what the first log holds, the second replays alike
   alike : Alike log more held
-  alike = alike-more log more x.extends held (counts-covered log) (counts-closed log good)
+  alike = alike_more log more x.extends held (counts_covered log) (counts_closed log good)
 
   held_cut : Cut more held
-  held_cut = record { is-covered = alike.there; is-closed = closed-more log more held alike.same ∙ counts-closed log good }
+  held_cut = record { is_covered = alike.there; is_closed = closed_more log more held alike.same ∙ counts_closed log good }
 
-  all-cut : Cut more all_held
-  all-cut = whole-cut more goodMore
+  all_cut : Cut more all_held
+  all_cut = whole_cut more good_more
 
-  times-within : map (timestamp more) (opsWithin more held) ≡ map (timestamp log) (opsWithin log held)
-  times-within =
-      rw (within-alike log more held alike) (map-within (timestamp more) (timestamp log) log held (λ s q l u lq uq.
-      timestamp-alike log more (good-ops good) (opAt log s q) (inner-alike log more (good-ops good) held alike s q l u lq uq)))
+  times_within : map (timestamp more) (ops_within more held) ≡ map (timestamp log) (ops_within log held)
+  times_within =
+      rw (within_alike log more held alike) (map_within (timestamp more) (timestamp log) log held (λ s q l u lq uq.
+      timestamp_alike log more (good_ops good) (op_at log s q) (inner_alike log more (good_ops good) held alike s q l u lq uq)))
 
-  early-time : (s q : ℕ) → 1 ≤ s → s ≤ 8 → 1 ≤ q → q ≤ countIn held s → time-of more goodMore s q ≤ top
+  early_time : (s q : ℕ) → 1 ≤ s → s ≤ 8 → 1 ≤ q → q ≤ count_in held s → time_of more good_more s q ≤ top
   unfolding top
-  early-time s q l u lq uq =
-      rw (← times-within) (counted-value more held (timestamp more) s q l u lq uq (omega (arith, x.extends.counts s l u)))
+  early_time s q l u lq uq =
+      rw (← times_within) (counted_value more held (timestamp more) s q l u lq uq (omega (arith, x.extends.counts s l u)))
 
-  late-time : (s q : ℕ) → 1 ≤ s → s ≤ 8 → countIn held s < q → q ≤ countIn all_held s → time-of more goodMore s q ≡ suc top
+  late_time : (s q : ℕ) → 1 ≤ s → s ≤ 8 → count_in held s < q → q ≤ count_in all_held s → time_of more good_more s q ≡ suc top
   unfolding top
-  late-time s q l u lq uq =
-      let e : time-of more goodMore s q ≡ 1 + top = equation more goodMore s q l u (omega arith) uq
-      ∙ rw (x.vector s q l u lq uq, times-within) in
+  late_time s q l u lq uq =
+      let e : time_of more good_more s q ≡ 1 + top = equation more good_more s q l u (omega arith) uq
+      ∙ rw (x.vector s q l u lq uq, times_within) in
       omega arith
 
-  last-level : AtLevel more goodMore all_held all-cut (suc top) held
-  last-level = record {
+  last_level : AtLevel more good_more all_held all_cut (suc top) held
+  last_level = record {
     inside = x.extends.counts;
-    low = λ s q l u lq uq. omega (arith, early-time s q l u lq uq);
-    high = λ s q l u lq uq. omega (arith, late-time s q l u lq uq);
+    low = λ s q l u lq uq. omega (arith, early_time s q l u lq uq);
+    high = λ s q l u lq uq. omega (arith, late_time s q l u lq uq);
   }
 
   -- no late op has an earlier time
-  late-none : (t k s : ℕ) → t ≤ top → 1 ≤ s → s ≤ 8 → ofReplica (stamped more all_held) t k s ≡ ofReplica (stamped more held) t k s
-  late-none t k s h l u =
+  late_none : (t k s : ℕ) → t ≤ top → 1 ≤ s → s ≤ 8 → of_replica (stamped more all_held) t k s ≡ of_replica (stamped more held) t k s
+  late_none t k s h l u =
       let b = x.extends.counts s l u in
-      let d : ℕ = countIn all_held s - countIn held s in
-      let e : countIn all_held s ≡ countIn held s + d = omega arith in
-      let none : filter (matches t k s) (map (stamp more) (take d (drop (countIn held s) (ops_of more s)))) ≡ [] =
-      filter_none (matches t k s) (stamp more) [] d (drop (countIn held s) (ops_of more s)) (λ i a c.
-      rw (get_or-drop (countIn held s) (ops_of more s) i []) (off-time more goodMore all_held all-cut t k s (countIn held s + i) l u
+      let d : ℕ = count_in all_held s - count_in held s in
+      let e : count_in all_held s ≡ count_in held s + d = omega arith in
+      let none : filter (matches t k s) (map (stamp more) (take d (drop (count_in held s) (ops_of more s)))) ≡ [] =
+      filter_none (matches t k s) (stamp more) [] d (drop (count_in held s) (ops_of more s)) (λ i a c.
+      rw (get_or-drop (count_in held s) (ops_of more s) i []) (off_time more good_more all_held all_cut t k s (count_in held s + i) l u
       (omega arith) (λ z.
-      omega (arith, late-time s (countIn held s + i + 1) l u (omega arith) (omega arith))))) in
-      of-replica more goodMore all_held all-cut t k s l u ∙ rw (
+      omega (arith, late_time s (count_in held s + i + 1) l u (omega arith) (omega arith))))) in
+      of_replica_law more good_more all_held all_cut t k s l u ∙ rw (
         e,
-        take-add (countIn held s) d (ops_of more s),
+        take-add (count_in held s) d (ops_of more s),
         map-append,
-        filter-append,
+        filter_append,
         none,
         append-nil,
-        of-replica more goodMore held held_cut t k s l u,
+        of_replica_law more good_more held held_cut t k s l u,
       )
 
-  early-times : (t : ℕ) → t ≤ top → ofTime (stamped more all_held) t ≡ ofTime (stamped more held) t
-  unfolding ofTime ofKind
-  early-times t h =
-      ap concat (map-upFrom (ofKind (stamped more all_held) t) (ofKind (stamped more held) t) 4 1 (λ k a b.
-      ap concat (map-downFrom (ofReplica (stamped more all_held) t k) (ofReplica (stamped more held) t k) 8
-      (λ s l u. late-none t k s h l u))))
+  early_times : (t : ℕ) → t ≤ top → of_time (stamped more all_held) t ≡ of_time (stamped more held) t
+  unfolding of_time of_kind
+  early_times t h =
+      ap concat (map_up_from (of_kind (stamped more all_held) t) (of_kind (stamped more held) t) 4 1 (λ k a b.
+      ap concat (map_down_from (of_replica (stamped more all_held) t k) (of_replica (stamped more held) t k) 8
+      (λ s l u. late_none t k s h l u))))
 
-  pub ordered-late : ordered more all_held ≡ ordered log held ++ level more (suc top) (readyOps more all_held held)
+  pub ordered_late : ordered more all_held ≡ ordered log held ++ level more (suc top) (ready_ops more all_held held)
   unfolding ordered stamped up_from concat
-  ordered-late =
-      by-time-more (stamped more all_held) (top + 1) all-times ∙ rw (upFrom-add 1 top 1, map-append, concat-append, append-nil)
+  ordered_late =
+      by_time_more (stamped more all_held) (top + 1) all_times ∙ rw (up_from_add 1 top 1, map-append, concat_append, append-nil)
       (ap₂ ◌++◌ early last)
     where
-      all-times : greatest (map (λ (y : Stamped). y.time) (stamped more all_held)) ≤ top + 1
-      all-times =
-          rw (stamped-times more (opsWithin more all_held)) (counted-bound more all_held (timestamp more) (top + 1)
-          (λ s q l u lq uq. elim (dec_le q (countIn held s)) [
-            | yes h ↦ omega (arith, early-time s q l u lq h)
-            | no h ↦ omega (arith, late-time s q l u (omega arith) uq)
+      all_times : greatest (map (λ (y : Stamped). y.time) (stamped more all_held)) ≤ top + 1
+      all_times =
+          rw (stamped_times more (ops_within more all_held)) (counted_bound more all_held (timestamp more) (top + 1)
+          (λ s q l u lq uq. elim (dec_le q (count_in held s)) [
+            | yes h ↦ omega (arith, early_time s q l u lq h)
+            | no h ↦ omega (arith, late_time s q l u (omega arith) uq)
           ]))
 
-      held-times : greatest (map (λ (y : Stamped). y.time) (stamped more held)) ≤ top
-      held-times =
-          rw (stamped-times more (opsWithin more held)) (counted-bound more held (timestamp more) top
-          (λ s q l u lq uq. early-time s q l u lq uq))
+      held_times : greatest (map (λ (y : Stamped). y.time) (stamped more held)) ≤ top
+      held_times =
+          rw (stamped_times more (ops_within more held)) (counted_bound more held (timestamp more) top
+          (λ s q l u lq uq. early_time s q l u lq uq))
 
-      early : concat (map (ofTime (stamped more all_held)) (up_from 1 top)) ≡ ordered log held
+      early : concat (map (of_time (stamped more all_held)) (up_from 1 top)) ≡ ordered log held
       early =
-          ap concat (map-upFrom (ofTime (stamped more all_held)) (ofTime (stamped more held)) top 1 (λ t a b. early-times t (omega arith)))
-          ∙ sym (by-time-more (stamped more held) top held-times)
-          ∙ ordered-alike log more (good-ops good) held alike
+          ap concat (map_up_from (of_time (stamped more all_held)) (of_time (stamped more held)) top 1 (λ t a b. early_times t (omega arith)))
+          ∙ sym (by_time_more (stamped more held) top held_times)
+          ∙ ordered_alike log more (good_ops good) held alike
 
-      last : ofTime (stamped more all_held) (1 + top) ≡ level more (suc top) (readyOps more all_held held)
+      last : of_time (stamped more all_held) (1 + top) ≡ level more (suc top) (ready_ops more all_held held)
       last =
-          ap (ofTime (stamped more all_held)) (omega arith) ∙ one-level more goodMore all_held all-cut (suc top) (omega arith) held
-          last-level
+          ap (of_time (stamped more all_held)) (omega arith) ∙ one_level more good_more all_held all_cut (suc top) (omega arith) held
+          last_level
 
   ---- the entries of that level
 
   module _ (k s : ℕ) (l : 1 ≤ s) (u : s ≤ 8) where
-    abbrev late-op : Op
-    late-op = opAt more s (countIn held s + 1)
+    abbrev late_op : Op
+    late_op = op_at more s (count_in held s + 1)
 
-    pub late-ready : countIn held s < countIn all_held s → readyOp more (suc top) (readyOps more all_held held) k s ≡ cond
-        (eqb (kind_of late-op) k) (record { time = suc top; op = late-op } ∷ []) []
-    late-ready h = ⊎_elim
-        (λ y. op-ready more goodMore all_held all-cut (suc top) (omega arith) held last-level k s l u y.0)
-        (λ y. absurd (omega (arith, y.1 h, late-time s (countIn held s + 1) l u (omega arith) (omega arith))))
-        (status more goodMore all_held all-cut (suc top) (omega arith) held last-level s l u)
+    pub late_ready : count_in held s < count_in all_held s → ready_op more (suc top) (ready_ops more all_held held) k s ≡ cond
+        (eqb (kind_of late_op) k) (record { time = suc top; op = late_op } ∷ []) []
+    late_ready h = ⊎_elim
+        (λ y. op_ready more good_more all_held all_cut (suc top) (omega arith) held last_level k s l u y.0)
+        (λ y. absurd (omega (arith, y.1 h, late_time s (count_in held s + 1) l u (omega arith) (omega arith))))
+        (status more good_more all_held all_cut (suc top) (omega arith) held last_level s l u)
 
-    pub late-empty : countIn all_held s ≡ countIn held s → readyOp more (suc top) (readyOps more all_held held) k s ≡ []
-    late-empty e = ⊎_elim
+    pub late_empty : count_in all_held s ≡ count_in held s → ready_op more (suc top) (ready_ops more all_held held) k s ≡ []
+    late_empty e = ⊎_elim
         (λ y. absurd (omega (arith, y.1)))
-        (λ y. op-none more goodMore all_held all-cut (suc top) (omega arith) held last-level k s l u y.0)
-        (status more goodMore all_held all-cut (suc top) (omega arith) held last-level s l u)
+        (λ y. op_none more good_more all_held all_cut (suc top) (omega arith) held last_level k s l u y.0)
+        (status more good_more all_held all_cut (suc top) (omega arith) held last_level s l u)

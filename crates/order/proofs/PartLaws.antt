@@ -6,70 +6,70 @@ use mathlib.Core.Bool.{Bool, true}
 use mathlib.Core.List.{List, [], map}
 use mathlib.Core.Path.{◌≡◌, sym, ap, ◌∙◌}
 use native.Mathlib.Omega.{arith}
-use Rattle.lists.specs.Lists.{up_from, downFrom, concat, filter, greatest}
-use Rattle.lists.proofs.FilterLaws.{filter-concat, filter-front, filter-swap}
-use Rattle.lists.proofs.ListLaws.{map-concat}
-use Rattle.lists.proofs.RangeLaws.{map-downFrom, map-upFrom}
-use Rattle.rules.specs.File.{Log, opAt, ops_of}
+use Rattle.lists.specs.Lists.{up_from, down_from, concat, filter, greatest}
+use Rattle.lists.proofs.FilterLaws.{filter_concat, filter_front, filter_swap}
+use Rattle.lists.proofs.ListLaws.{map_concat}
+use Rattle.lists.proofs.RangeLaws.{map_down_from, map_up_from}
+use Rattle.rules.specs.File.{Log, op_at, ops_of}
 use Rattle.rules.specs.Log.{covered}
-use Rattle.rules.specs.Op.{Vector, countIn, counted, replicaOf, replicas, seqOf}
-use Rattle.rules.specs.Replay.{Stamped, stamp, stamped, ofReplica, ofKind, ofTime, ordered, opsWithin, timestamp}
+use Rattle.rules.specs.Op.{Vector, count_in, counted, replica_of, replicas, seq_of}
+use Rattle.rules.specs.Replay.{Stamped, stamp, stamped, of_replica, of_kind, of_time, ordered, ops_within, timestamp}
 use Rattle.rules.specs.Tree.{slots}
 use Rattle.rules.proofs.CausalLaws.{Le}
-use Rattle.rules.proofs.StructureLaws.{GoodLog, good-ops, held_in}
-use Rattle.order.proofs.LevelLaws.{by-time-more, counted-bound, stamped-times, timestamp-bound}
+use Rattle.rules.proofs.StructureLaws.{GoodLog, good_ops, held_in}
+use Rattle.order.proofs.LevelLaws.{by_time_more, counted_bound, stamped_times, timestamp_bound}
 
 -- a cut counts an op with its timestamp
-abbrev pub inCut : Vector → Stamped → Bool
-inCut v x = counted v x.op
+abbrev pub in_cut : Vector → Stamped → Bool
+in_cut v x = counted v x.op
 
-times-bound : (log : Log) (v : Vector) → greatest (map (λ (y : Stamped). y.time) (stamped log v)) ≤ slots
+times_bound : (log : Log) (v : Vector) → greatest (map (λ (y : Stamped). y.time) (stamped log v)) ≤ slots
 unfolding stamped timestamp
-times-bound log v =
-    rw (stamped-times log (opsWithin log v)) (counted-bound log v (timestamp log) slots
-    (λ s q l u lq uq. timestamp-bound slots log (opAt log s q)))
+times_bound log v =
+    rw (stamped_times log (ops_within log v)) (counted_bound log v (timestamp log) slots
+    (λ s q l u lq uq. timestamp_bound slots log (op_at log s q)))
 
 -- what passes of an order is the order of what passes
 module _ (p : Stamped → Bool) (xs : List Stamped) where
-  filter-kind : (t k : ℕ) → filter p (ofKind xs t k) ≡ ofKind (filter p xs) t k
-  unfolding ofKind ofReplica
-  filter-kind t k =
-      filter-concat p (ofReplica xs t k) (downFrom 8)
-      ∙ ap concat (map-downFrom (λ s. filter p (ofReplica xs t k s)) (ofReplica (filter p xs) t k) 8 (λ s l u. filter-swap p _ xs))
+  filter_kind : (t k : ℕ) → filter p (of_kind xs t k) ≡ of_kind (filter p xs) t k
+  unfolding of_kind of_replica
+  filter_kind t k =
+      filter_concat p (of_replica xs t k) (down_from 8)
+      ∙ ap concat (map_down_from (λ s. filter p (of_replica xs t k s)) (of_replica (filter p xs) t k) 8 (λ s l u. filter_swap p _ xs))
 
-  filter-time : (t : ℕ) → filter p (ofTime xs t) ≡ ofTime (filter p xs) t
-  unfolding ofTime
-  filter-time t =
-      filter-concat p (ofKind xs t) (up_from 1 4)
-      ∙ ap concat (map-upFrom (λ k. filter p (ofKind xs t k)) (ofKind (filter p xs) t) 4 1 (λ k a b. filter-kind t k))
+  filter_time : (t : ℕ) → filter p (of_time xs t) ≡ of_time (filter p xs) t
+  unfolding of_time
+  filter_time t =
+      filter_concat p (of_kind xs t) (up_from 1 4)
+      ∙ ap concat (map_up_from (λ k. filter p (of_kind xs t k)) (of_kind (filter p xs) t) 4 1 (λ k a b. filter_kind t k))
 
 module _ (log : Log) (good : GoodLog log) (v w : Vector) (cw : covered log w ≡ true) (le : Le v w) where
-  in-part : (s i : ℕ) → 1 ≤ s → s ≤ 8 → i < countIn w s → inCut v (stamp log (get_or (ops_of log s) i [])) ≡ ltb i (countIn v s)
-  unfolding stamp opAt
-  in-part s i l u h =
+  in_part : (s i : ℕ) → 1 ≤ s → s ≤ 8 → i < count_in w s → in_cut v (stamp log (get_or (ops_of log s) i [])) ≡ ltb i (count_in v s)
+  unfolding stamp op_at
+  in_part s i l u h =
       let e : i + 1 - 1 ≡ i = omega arith in
-      let x = good-ops good s (i + 1) l u (omega arith) (omega (arith, held_in log w cw s l u)) in
-      let o : replicaOf (get_or (ops_of log s) i []) ≡ s = rw e at x.origin in
-      let n : seqOf (get_or (ops_of log s) i []) ≡ suc i = rw e at x.number ∙ omega arith in
+      let x = good_ops good s (i + 1) l u (omega arith) (omega (arith, held_in log w cw s l u)) in
+      let o : replica_of (get_or (ops_of log s) i []) ≡ s = rw e at x.origin in
+      let n : seq_of (get_or (ops_of log s) i []) ≡ suc i = rw e at x.number ∙ omega arith in
       rw (o, n)
 
-  stamped-part : filter (inCut v) (stamped log w) ≡ stamped log v
-  unfolding stamped opsWithin replicas
-  stamped-part =
-      ap (filter (inCut v)) (map-concat (stamp log) (λ s. take (countIn w s) (ops_of log s)) (up_from 1 8))
-      ∙ filter-concat (inCut v) (λ s. map (stamp log) (take (countIn w s) (ops_of log s))) (up_from 1 8)
-      ∙ ap concat (map-upFrom (λ s. filter (inCut v) (map (stamp log) (take (countIn w s) (ops_of log s))))
-      (λ s. map (stamp log) (take (countIn v s) (ops_of log s))) 8 1
-      (λ s l u. filter-front (inCut v) (stamp log) [] (countIn v s) (countIn w s) (ops_of log s) (le s l (omega arith))
-      (λ i a b. in-part s i l (omega arith) a)))
-      ∙ sym (map-concat (stamp log) (λ s. take (countIn v s) (ops_of log s)) (up_from 1 8))
+  stamped_part : filter (in_cut v) (stamped log w) ≡ stamped log v
+  unfolding stamped ops_within replicas
+  stamped_part =
+      ap (filter (in_cut v)) (map_concat (stamp log) (λ s. take (count_in w s) (ops_of log s)) (up_from 1 8))
+      ∙ filter_concat (in_cut v) (λ s. map (stamp log) (take (count_in w s) (ops_of log s))) (up_from 1 8)
+      ∙ ap concat (map_up_from (λ s. filter (in_cut v) (map (stamp log) (take (count_in w s) (ops_of log s))))
+      (λ s. map (stamp log) (take (count_in v s) (ops_of log s))) 8 1
+      (λ s l u. filter_front (in_cut v) (stamp log) [] (count_in v s) (count_in w s) (ops_of log s) (le s l (omega arith))
+      (λ i a b. in_part s i l (omega arith) a)))
+      ∙ sym (map_concat (stamp log) (λ s. take (count_in v s) (ops_of log s)) (up_from 1 8))
 
   -- the order of a part is that of the whole without the rest
-  pub ordered-part : ordered log v ≡ filter (inCut v) (ordered log w)
+  pub ordered_part : ordered log v ≡ filter (in_cut v) (ordered log w)
   unfolding ordered
-  ordered-part =
-      by-time-more (stamped log v) slots (times-bound log v)
-      ∙ ap concat (map-upFrom (ofTime (stamped log v)) (λ t. filter (inCut v) (ofTime (stamped log w) t)) slots 1 (λ t a b.
-      ap (λ xs. ofTime xs t) (sym stamped-part) ∙ sym (filter-time (inCut v) (stamped log w) t)))
-      ∙ sym (filter-concat (inCut v) (ofTime (stamped log w)) (up_from 1 slots))
-      ∙ ap (filter (inCut v)) (sym (by-time-more (stamped log w) slots (times-bound log w)))
+  ordered_part =
+      by_time_more (stamped log v) slots (times_bound log v)
+      ∙ ap concat (map_up_from (of_time (stamped log v)) (λ t. filter (in_cut v) (of_time (stamped log w) t)) slots 1 (λ t a b.
+      ap (λ xs. of_time xs t) (sym stamped_part) ∙ sym (filter_time (in_cut v) (stamped log w) t)))
+      ∙ sym (filter_concat (in_cut v) (of_time (stamped log w)) (up_from 1 slots))
+      ∙ ap (filter (in_cut v)) (sym (by_time_more (stamped log w) slots (times_bound log w)))

@@ -5,5 +5,5 @@ use Rattle.outline.specs.Reading.{Within}
 use Rattle.outline.specs.declared.Input.{Input}
 use Rattle.outline.specs.declared.Input.TheVariants.{Bytes}
 
-pub read-within : (i : Input) (n room : ℕ) → i ≡ Bytes n → Within i room → n ≤ room
-read-within i n room e h = subst (λ (x : Input). Within x room) e h
+pub read_within : (i : Input) (n room : ℕ) → i ≡ Bytes n → Within i room → n ≤ room
+read_within i n room e h = subst (λ (x : Input). Within x room) e h

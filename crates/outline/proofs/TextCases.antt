@@ -10,20 +10,20 @@ use Rattle.rules.specs.Answer.{Answer, accepted}
 use Rattle.rules.specs.File.{largest, width}
 use Rattle.rules.specs.Listing.{outline}
 use Rattle.rules.specs.Path.{Written}
-use Rattle.printing.proofs.PrintTheorems.{long-refused, outline-size}
+use Rattle.printing.proofs.PrintTheorems.{long_refused, outline_size}
 use Rattle.view.proofs.PutCases.{put_all}
 use Rattle.view.specs.Answers.{put_in}
-use Rattle.view.specs.Tables.{putFront}
+use Rattle.view.specs.Tables.{put_front}
 use Rattle.outline.specs.Text.{Printed, Readable, TextOf, counted}
 
 -- the bytes that were read settle what is printed: either they are all, or the input is too long in any case
-read-settles : (buf : List ℕ) (n : ℕ) → n ≤ length buf → largest width < length buf → TextOf buf n (outline width (take n buf))
-read-settles buf n within big input x = elim (dec_lt n (length buf)) [
+read_settles : (buf : List ℕ) (n : ℕ) → n ≤ length buf → largest width < length buf → TextOf buf n (outline width (take n buf))
+read_settles buf n within big input x = elim (dec_lt n (length buf)) [
   | yes p ↦ ap (outline width) (sym (x.is ∙ rw (x.ended p, append-nil)))
   | no p ↦
       let full : length (take n buf) ≡ n = length-take-le n buf within in
       let long : largest width < length input = rw (x.is, length-append) (omega arith) in
-      long-refused width (take n buf) (omega arith) ∙ sym (long-refused width input long)
+      long_refused width (take n buf) (omega arith) ∙ sym (long_refused width input long)
 ]
 
 -- lent 24,492 bytes, the whole output is put in front
@@ -32,21 +32,21 @@ module _ (buf out : List ℕ) (n : ℕ) (x : Readable buf n out) where
   text = outline width (take n buf)
 
   fits : length text ≤ length out
-  fits = let s = outline-size (take n buf) in omega (arith, x.out-size)
+  fits = let s = outline_size (take n buf) in omega (arith, x.out_size)
 
-  pub text-put : (a : Answer) (o : List ℕ) → ◌≡◌ {A = Written} (record { answer = a; out = o }) (put_in (outline width (take n buf)) out)
+  pub text_put : (a : Answer) (o : List ℕ) → ◌≡◌ {A = Written} (record { answer = a; out = o }) (put_in (outline width (take n buf)) out)
       → (r : ℕ) → r ≡ counted a → TextOf buf n (take r o) × (r ≤ length out)
-  unfolding putFront
-  text-put a o e r is =
-      let whole : Written = record { answer = accepted (length text); out = putFront text out } in
+  unfolding put_front
+  text_put a o e r is =
+      let whole : Written = record { answer = accepted (length text); out = put_front text out } in
       let all-put : ◌≡◌ {A = Written} (record { answer = a; out = o }) whole =
-      e ∙ sym (put_all text out (length text) refl fits (putFront text out) refl) in
+      e ∙ sym (put_all text out (length text) refl fits (put_front text out) refl) in
       let long : r ≡ length text = is ∙ ap (λ (x : Written). counted x.answer) all-put in
-      let written : o ≡ putFront text out = ap (λ (x : Written). x.out) all-put in
+      let written : o ≡ put_front text out = ap (λ (x : Written). x.out) all-put in
       let front : take r o ≡ text = rw (long, written) (take_at text (drop (length text) out) (length text) refl) in
-      (λ input i. front ∙ read-settles buf n x.within x.buf-size input i, rw long fits)
+      (λ input i. front ∙ read_settles buf n x.within x.buf_size input i, rw long fits)
 
 -- it is the output for the bytes that were read, if no more follow
-pub text-printed : (buf : List ℕ) (n : ℕ) (o : List ℕ) (r : ℕ) → r ≤ length o → TextOf buf n (take r o) → Printed o r
-text-printed buf n o r h t =
+pub text_printed : (buf : List ℕ) (n : ℕ) (o : List ℕ) (r : ℕ) → r ≤ length o → TextOf buf n (take r o) → Printed o r
+text_printed buf n o r h t =
     (h, take n buf, t (take n buf) (record { rest = []; is = sym (append-nil (take n buf)); ended = λ p. refl }))

@@ -1,7 +1,7 @@
 ghost use Rattle.std.specs.Prelude.{◌≡◌};
 ghost use Rattle.rules.specs.File.{width};
-ghost use Rattle.batch_rules.specs.Batch.{issueMoves};
-ghost use Rattle.outline_c.specs.Number.{ofIssued};
+ghost use Rattle.batch_rules.specs.Batch.{issue_moves};
+ghost use Rattle.outline_c.specs.Number.{of_issued};
 
 use batch::issue_moves;
 use numbers::number;
@@ -16,7 +16,7 @@ pub extern "C" fn outline_issue_moves(
     out: &mut [u8],
 ) -> usize
     ensures { (result, buf.new, out.new)
-        ≡ ofIssued (issueMoves width buf.old out.old replica nodes.now parent) }
+        ≡ of_issued (issue_moves width buf.old out.old replica nodes.now parent) }
 {
     number(issue_moves(buf, replica, nodes, parent, out))
 }

@@ -1,7 +1,7 @@
 ghost use Rattle.std.specs.Prelude.{◌≡◌};
-ghost use Rattle.rules.specs.Bundle.{bundleCall, openBundle};
+ghost use Rattle.rules.specs.Bundle.{bundle_call, open_bundle};
 ghost use Rattle.rules.specs.File.{width};
-ghost use Rattle.outline_c.specs.Number.{ofResult, ofWritten};
+ghost use Rattle.outline_c.specs.Number.{of_result, of_written};
 
 use bundle::{make, open};
 use numbers::number;
@@ -10,7 +10,7 @@ use numbers::number;
 #[unsafe(no_mangle)]
 pub extern "C" fn outline_bundle_make(file: &[u8], counts: &[u8; 8], out: &mut [u8]) -> usize
     ensures { (result, out.new)
-        ≡ ofWritten (bundleCall width file.now counts.now out.old) }
+        ≡ of_written (bundle_call width file.now counts.now out.old) }
 {
     let others = *counts;
     number(make(file, others, out))
@@ -19,7 +19,7 @@ pub extern "C" fn outline_bundle_make(file: &[u8], counts: &[u8; 8], out: &mut [
 // Opens a bundle at the log in a buffer.
 #[unsafe(no_mangle)]
 pub extern "C" fn outline_bundle_open(buf: &mut [u8], bundle: &[u8]) -> usize
-    ensures { (result, buf.new) ≡ ofResult (openBundle width buf.old bundle.now) }
+    ensures { (result, buf.new) ≡ of_result (open_bundle width buf.old bundle.now) }
 {
     number(open(buf, bundle))
 }

@@ -1,11 +1,11 @@
 ghost use Rattle.std.specs.Prelude.{◌≡◌};
 ghost use Rattle.rules.specs.Issue.{add, remove, move};
 ghost use Rattle.rules.specs.File.{width};
-ghost use Rattle.rules.specs.Measure.{endAnswer, countsCall};
-ghost use Rattle.rules.specs.Path.{pathCall};
+ghost use Rattle.rules.specs.Measure.{end_answer, counts_call};
+ghost use Rattle.rules.specs.Path.{path_call};
 ghost use Rattle.rules.specs.Sound.{sound};
 ghost use Rattle.view.specs.Answers.{view_of};
-ghost use Rattle.outline_c.specs.Number.{version, viewFor, ofResult, ofIssued, ofJudgement, ofWritten};
+ghost use Rattle.outline_c.specs.Number.{version, view_for, of_result, of_issued, of_judgement, of_written};
 ghost use Rattle.numbers.specs.Number as specs;
 ghost use Rattle.rules.specs.Deliver as delivering;
 ghost use Rattle.rules.specs.Issue as issuing;
@@ -28,7 +28,7 @@ pub extern "C" fn outline_version() -> usize
 // Makes an empty log in a buffer.
 #[unsafe(no_mangle)]
 pub extern "C" fn outline_make(buf: &mut [u8]) -> usize
-    ensures { (result, buf.new) ≡ ofResult (delivering.make width buf.old) }
+    ensures { (result, buf.new) ≡ of_result (delivering.make width buf.old) }
 {
     number(make(buf))
 }
@@ -36,7 +36,7 @@ pub extern "C" fn outline_make(buf: &mut [u8]) -> usize
 // Delivers an op to the log in a buffer.
 #[unsafe(no_mangle)]
 pub extern "C" fn outline_deliver(buf: &mut [u8], op: &[u8]) -> usize
-    ensures { (result, buf.new) ≡ ofResult (delivering.deliver width buf.old op.now) }
+    ensures { (result, buf.new) ≡ of_result (delivering.deliver width buf.old op.now) }
 {
     number(deliver(buf, op))
 }
@@ -50,7 +50,7 @@ pub extern "C" fn outline_issue_add(
     out: &mut [u8],
 ) -> usize
     ensures { (result, buf.new, out.new)
-        ≡ ofIssued (issuing.issue width buf.old out.old replica (add parent)) }
+        ≡ of_issued (issuing.issue width buf.old out.old replica (add parent)) }
 {
     number(issue_add(buf, replica, parent, out))
 }
@@ -64,7 +64,7 @@ pub extern "C" fn outline_issue_remove(
     out: &mut [u8],
 ) -> usize
     ensures { (result, buf.new, out.new)
-        ≡ ofIssued (issuing.issue width buf.old out.old replica (remove node)) }
+        ≡ of_issued (issuing.issue width buf.old out.old replica (remove node)) }
 {
     number(issue_remove(buf, replica, node, out))
 }
@@ -79,7 +79,7 @@ pub extern "C" fn outline_issue_move(
     out: &mut [u8],
 ) -> usize
     ensures { (result, buf.new, out.new)
-        ≡ ofIssued (issuing.issue width buf.old out.old replica (move node parent)) }
+        ≡ of_issued (issuing.issue width buf.old out.old replica (move node parent)) }
 {
     number(issue_move(buf, replica, node, parent, out))
 }
@@ -88,7 +88,7 @@ pub extern "C" fn outline_issue_move(
 #[unsafe(no_mangle)]
 pub extern "C" fn outline_judge(file: &[u8], parents: &mut [u16], outcomes: &mut [u8]) -> usize
     ensures { (result, parents.new, outcomes.new)
-        ≡ ofJudgement (judging.judge width file.now parents.old outcomes.old) }
+        ≡ of_judgement (judging.judge width file.now parents.old outcomes.old) }
 {
     number(judge(file, parents, outcomes))
 }
@@ -96,13 +96,13 @@ pub extern "C" fn outline_judge(file: &[u8], parents: &mut [u16], outcomes: &mut
 // Puts the path of a node into lent entries.
 #[unsafe(no_mangle)]
 pub extern "C" fn outline_path(file: &[u8], node: u16, out: &mut [u16]) -> usize
-    ensures { (result, out.new) ≡ ofWritten (pathCall width file.now node out.old) }
+    ensures { (result, out.new) ≡ of_written (path_call width file.now node out.old) }
 {
     number(path(file, node, out))
 }
 
 fn view_for(skipping: bool) -> View
-    ensures { view_of result ≡ viewFor skipping }
+    ensures { view_of result ≡ view_for skipping }
 {
     if skipping {
         return View::Skipping;
@@ -114,7 +114,7 @@ fn view_for(skipping: bool) -> View
 #[unsafe(no_mangle)]
 pub extern "C" fn outline_listing(file: &[u8], skipping: bool, out: &mut [u8]) -> usize
     ensures { (result, out.new)
-        ≡ ofWritten (listings.listing width file.now (viewFor skipping) out.old) }
+        ≡ of_written (listings.listing width file.now (view_for skipping) out.old) }
 {
     number(listing(file, view_for(skipping), out))
 }
@@ -122,7 +122,7 @@ pub extern "C" fn outline_listing(file: &[u8], skipping: bool, out: &mut [u8]) -
 // How many bytes the listing of a view has.
 #[unsafe(no_mangle)]
 pub extern "C" fn outline_listing_size(file: &[u8], skipping: bool) -> usize
-    ensures { result ≡ specs.number (listings.listingSize width file.now (viewFor skipping)) }
+    ensures { result ≡ specs.number (listings.listing_size width file.now (view_for skipping)) }
 {
     number(listing_size(file, view_for(skipping)))
 }
@@ -138,7 +138,7 @@ pub extern "C" fn outline_is_sound(file: &[u8]) -> bool
 // Where the file of the log in a buffer ends.
 #[unsafe(no_mangle)]
 pub extern "C" fn outline_end(file: &[u8]) -> usize
-    ensures { result ≡ specs.number (endAnswer width file.now) }
+    ensures { result ≡ specs.number (end_answer width file.now) }
 {
     number(file_end(file))
 }
@@ -146,7 +146,7 @@ pub extern "C" fn outline_end(file: &[u8]) -> usize
 // Puts the held counts into lent bytes.
 #[unsafe(no_mangle)]
 pub extern "C" fn outline_counts(file: &[u8], out: &mut [u8]) -> usize
-    ensures { (result, out.new) ≡ ofWritten (countsCall width file.now out.old) }
+    ensures { (result, out.new) ≡ of_written (counts_call width file.now out.old) }
 {
     number(held_counts(file, out))
 }

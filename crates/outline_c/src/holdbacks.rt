@@ -1,7 +1,7 @@
 ghost use Rattle.std.specs.Prelude.{◌≡◌};
 ghost use Rattle.rules.specs.File.{width};
-ghost use Rattle.rules.specs.Holdback.{deliverHoldback};
-ghost use Rattle.outline_c.specs.Number.{ofHoldback};
+ghost use Rattle.rules.specs.Holdback.{deliver_holdback};
+ghost use Rattle.outline_c.specs.Number.{of_holdback};
 
 use holdback::deliver;
 use numbers::number;
@@ -10,7 +10,7 @@ use numbers::number;
 #[unsafe(no_mangle)]
 pub extern "C" fn outline_holdback_deliver(buf: &mut [u8], op: &[u8], holdback: &mut [u8]) -> usize
     ensures { (result, buf.new, holdback.new)
-        ≡ ofHoldback (deliverHoldback width buf.old op.now holdback.old) }
+        ≡ of_holdback (deliver_holdback width buf.old op.now holdback.old) }
 {
     number(deliver(buf, op, holdback))
 }

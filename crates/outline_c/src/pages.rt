@@ -2,10 +2,10 @@ ghost use Rattle.std.specs.Prelude.{◌≡◌};
 ghost use Rattle.rules.specs.File.{width};
 ghost use Rattle.rules.specs.Issue.{add, remove, move};
 ghost use Rattle.codec.specs.Answers.{answer_of};
-ghost use Rattle.page_rules.specs.Page.{deliverPage, issuePage, page};
+ghost use Rattle.page_rules.specs.Page.{deliver_page, issue_page, page};
 ghost use Rattle.numbers.specs.Fits.{PageFits};
-ghost use Rattle.numbers.specs.Number.{pageNumber};
-ghost use Rattle.outline_c.specs.Number.{ofPage, ofPageIssued};
+ghost use Rattle.numbers.specs.Number.{page_number};
+ghost use Rattle.outline_c.specs.Number.{of_page, of_page_issued};
 
 use numbers::page_number;
 use page::{Paged, deliver, issue_add, issue_move, issue_remove};
@@ -13,7 +13,7 @@ use page::{Paged, deliver, issue_add, issue_move, issue_remove};
 // One number for what a call with a page hands back.
 fn number_of(paged: Paged) -> usize
     requires { PageFits (answer_of paged.answer) paged.taken }
-    ensures { result ≡ pageNumber (answer_of paged.answer) paged.taken }
+    ensures { result ≡ page_number (answer_of paged.answer) paged.taken }
 {
     let answer = paged.answer;
     page_number(answer, paged.taken)
@@ -29,7 +29,7 @@ pub extern "C" fn outline_page_deliver(
     outcomes: &mut [u8],
 ) -> usize
     ensures { (result, buf.new, page order.new parents.new outcomes.new)
-        ≡ ofPage (deliverPage width buf.old op.now
+        ≡ of_page (deliver_page width buf.old op.now
         (page order.old parents.old outcomes.old)) }
 {
     number_of(deliver(buf, op, order, parents, outcomes))
@@ -47,7 +47,7 @@ pub extern "C" fn outline_page_issue_add(
     outcomes: &mut [u8],
 ) -> usize
     ensures { (result, buf.new, out.new, page order.new parents.new outcomes.new)
-        ≡ ofPageIssued (issuePage width buf.old out.old replica (add parent)
+        ≡ of_page_issued (issue_page width buf.old out.old replica (add parent)
         (page order.old parents.old outcomes.old)) }
 {
     number_of(issue_add(buf, replica, parent, out, order, parents, outcomes))
@@ -65,7 +65,7 @@ pub extern "C" fn outline_page_issue_remove(
     outcomes: &mut [u8],
 ) -> usize
     ensures { (result, buf.new, out.new, page order.new parents.new outcomes.new)
-        ≡ ofPageIssued (issuePage width buf.old out.old replica (remove node)
+        ≡ of_page_issued (issue_page width buf.old out.old replica (remove node)
         (page order.old parents.old outcomes.old)) }
 {
     number_of(issue_remove(buf, replica, node, out, order, parents, outcomes))
@@ -84,7 +84,7 @@ pub extern "C" fn outline_page_issue_move(
     outcomes: &mut [u8],
 ) -> usize
     ensures { (result, buf.new, out.new, page order.new parents.new outcomes.new)
-        ≡ ofPageIssued (issuePage width buf.old out.old replica (move node parent)
+        ≡ of_page_issued (issue_page width buf.old out.old replica (move node parent)
         (page order.old parents.old outcomes.old)) }
 {
     number_of(issue_move(buf, replica, node, parent, out, order, parents, outcomes))

@@ -9,26 +9,26 @@ use borrow.Author.Rules.{rules}
 use borrow.Author.Tests.{leb-true}
 use lib.Dec.{leb}
 use Rattle.lists.proofs.BoolLaws.{and_left, and_right, tested}
-use Rattle.rules.specs.Answer.{Answer, ifAccepted, refused, require}
-use Rattle.rules.specs.Deliver.{Result, deliver, deliverAnswer, deliverBuffer}
-use Rattle.rules.specs.File.{Log, append, appended, countsOf, headerCounts, logOf, width}
-use Rattle.rules.specs.Issue.{Issued, Request, issue, issueAnswer, issueBuffer, issueOut, issued}
-use Rattle.rules.specs.Log.{soundHeader}
+use Rattle.rules.specs.Answer.{Answer, if_accepted, refused, require}
+use Rattle.rules.specs.Deliver.{Result, deliver, deliver_answer, deliver_buffer}
+use Rattle.rules.specs.File.{Log, append, appended, counts_of, header_counts, log_of, width}
+use Rattle.rules.specs.Issue.{Issued, Request, issue, issue_answer, issue_buffer, issue_out, issued}
+use Rattle.rules.specs.Log.{sound_header}
 use Rattle.rules.specs.Op.{Op, Vector}
-use Rattle.page_rules.specs.Page.{Page, PageIssued, PageResult, deliverPage, deliverPageAnswer, pageFilled, issuePage, issuePageAnswer, longEnough, page, pageWith, page_of, takenWith, tookBack, withPage}
+use Rattle.page_rules.specs.Page.{Page, PageIssued, PageResult, deliver_page, deliver_page_answer, page_filled, issue_page, issue_page_answer, long_enough, page, page_with, page_of, taken_with, took_back, with_page}
 use Rattle.rules.specs.Sound.{sound}
-use Rattle.rules.specs.Tree.{mostOps, slots}
-use Rattle.rules.proofs.AppendLaws.{extends, in-range, sum-append}
-use Rattle.rules.proofs.CausalLaws.{le-within}
-use Rattle.rules.proofs.DeliverLaws.{Admitted, admitted, appended-log, appended-sound}
-use Rattle.rules.proofs.FileLaws.{counts-logOf}
-use Rattle.rules.proofs.IssueLaws.{counts-eight, issue-admitted}
-use Rattle.rules.proofs.SoundLaws.{sound-good, sound-structural}
+use Rattle.rules.specs.Tree.{most_ops, slots}
+use Rattle.rules.proofs.AppendLaws.{extends, in_range, sum_append}
+use Rattle.rules.proofs.CausalLaws.{le_within}
+use Rattle.rules.proofs.DeliverLaws.{Admitted, admitted, appended_log, appended_sound}
+use Rattle.rules.proofs.FileLaws.{counts_log_of}
+use Rattle.rules.proofs.IssueLaws.{counts_eight, issue_admitted}
+use Rattle.rules.proofs.SoundLaws.{sound_good, sound_structural}
 use Rattle.rules.proofs.StructureLaws.{GoodLog}
-use Rattle.codec.specs.Asked.{isAccepted}
-use Rattle.codec.proofs.AnswerLaws.{accepted-with, if-accepted, if-not-accepted}
-use Rattle.page_rules.proofs.PageLaws.{behind-is, old-cut, page-before}
-use Rattle.replay.proofs.CutLaws.{whole-header, whole-sound}
+use Rattle.codec.specs.Asked.{is_accepted}
+use Rattle.codec.proofs.AnswerLaws.{accepted_with, if_accepted_law, if_not_accepted}
+use Rattle.page_rules.proofs.PageLaws.{behind_is, old_cut, page_before}
+use Rattle.replay.proofs.CutLaws.{whole_header, whole_sound}
 use Rattle.page_tables.specs.Tables.{LongPage}
 use Rattle.page.specs.Renewing.{OneMore, OneMoreLent, PageReady, Took}
 
@@ -36,59 +36,59 @@ use Rattle.page.specs.Renewing.{OneMore, OneMoreLent, PageReady, Took}
 
 module _ (f : List ℕ) (r : Op) (n : ℕ) (h : Admitted width f r n) where
   abbrev log : Log
-  log = logOf width f
+  log = log_of width f
 
   abbrev new : List ℕ
   new = appended width f r
 
   good : GoodLog log
-  good = sound-good width f h.is-sound
+  good = sound_good width f h.is_sound_so
 
-  log-new : logOf width new ≡ append log r
-  log-new = appended-log width f r n h
+  log_new : log_of width new ≡ append log r
+  log_new = appended_log width f r n h
 
-  counts-new : headerCounts new ≡ countsOf (append log r)
-  counts-new = sym (counts-logOf width new) ∙ ap countsOf log-new
+  counts_new : header_counts new ≡ counts_of (append log r)
+  counts_new = sym (counts_log_of width new) ∙ ap counts_of log_new
 
-  grown : OneMore new (headerCounts f)
+  grown : OneMore new (header_counts f)
   grown =
-      let b = in-range log r good h.admits in
-      rw (← counts-logOf width f) (record {
-        is-structural = sound-structural width new (appended-sound width f r n h);
-        eight = counts-eight log good;
-        inside = rw counts-new (le-within (countsOf log) (countsOf (append log r)) (extends log r good h.admits).counts);
-        is-closed = rw log-new (old-cut log good r h.admits).is-closed;
-        one = rw (counts-new, sum-append log r good.eight b.0 b.1) (omega arith);
+      let b = in_range log r good h.admits in
+      rw (← counts_log_of width f) (record {
+        is_structural = sound_structural width new (appended_sound width f r n h);
+        eight = counts_eight log good;
+        inside = rw counts_new (le_within (counts_of log) (counts_of (append log r)) (extends log r good h.admits).counts);
+        is_closed = rw log_new (old_cut log good r h.admits).is_closed;
+        one = rw (counts_new, sum_append log r good.eight b.0 b.1) (omega arith);
       })
 
-  took-is : (lent : Page) (t : ℕ) → Took (logOf width new) (headerCounts f) lent t → t ≡ tookBack log lent r
-  unfolding tookBack
-  took-is lent t x =
-      let y : Took (append log r) (countsOf log) lent t = rw (log-new, ← counts-logOf width f) at x in
-      y.number ∙ rw (page-before log good r h.admits, behind-is log good r h.admits y.place y.first)
+  took_is : (lent : Page) (t : ℕ) → Took (log_of width new) (header_counts f) lent t → t ≡ took_back log lent r
+  unfolding took_back
+  took_is lent t x =
+      let y : Took (append log r) (counts_of log) lent t = rw (log_new, ← counts_log_of width f) at x in
+      y.number ∙ rw (page_before log good r h.admits, behind_is log good r h.admits y.place y.first)
 
 ---- the lent tables
 
 module _ (f ls lp lo : List ℕ) (x : PageReady f ls lp lo) where
   lent : LongPage ls lp lo
-  unfolding longEnough
+  unfolding long_enough
   lent =
       let e = x.long in
-      let ab = and_left (leb mostOps (length ls) && leb slots (length lp)) _ e in
+      let ab = and_left (leb most_ops (length ls) && leb slots (length lp)) _ e in
       record {
-        order = leb-true mostOps (length ls) (and_left _ (leb slots (length lp)) ab);
-        parents = leb-true slots (length lp) (and_right (leb mostOps (length ls)) _ ab);
-        outcomes = leb-true slots (length lo) (and_right (leb mostOps (length ls) && leb slots (length lp)) _ e);
+        order = leb-true most_ops (length ls) (and_left _ (leb slots (length lp)) ab);
+        parents = leb-true slots (length lp) (and_right (leb most_ops (length ls)) _ ab);
+        outcomes = leb-true slots (length lo) (and_right (leb most_ops (length ls) && leb slots (length lp)) _ e);
       }
 
-  pub ready-header : 32 ≤ length f
-  ready-header = whole-header width f (sound-structural width f x.is-sound)
+  pub ready_header : 32 ≤ length f
+  ready_header = whole_header width f (sound_structural width f x.is_sound_so)
 
-  pub ready-sound : soundHeader width f ≡ true
-  ready-sound = whole-sound width f (sound-structural width f x.is-sound)
+  pub ready_sound : sound_header width f ≡ true
+  ready_sound = whole_sound width f (sound_structural width f x.is_sound_so)
 
-pub ready : (f ls lp lo : List ℕ) → sound width f ≡ true → longEnough (page ls lp lo) ≡ true → PageReady f ls lp lo
-ready f ls lp lo a b = record { is-sound = a; long = b }
+pub ready : (f ls lp lo : List ℕ) → sound width f ≡ true → long_enough (page ls lp lo) ≡ true → PageReady f ls lp lo
+ready f ls lp lo a b = record { is_sound_so = a; long = b }
 
 ---- what a call that may add r leaves, by its answer
 
@@ -96,23 +96,23 @@ module _ (f ls lp lo : List ℕ) (r : Op) (a : Answer) where
   abbrev before : Page
   before = page ls lp lo
 
-  none-taken : isAccepted a ≡ false → 0 ≡ takenWith width f before r a
-  unfolding takenWith
-  none-taken e = sym (if-not-accepted (tookBack (logOf width f) before r) 0 a e)
+  none_taken : is_accepted a ≡ false → 0 ≡ taken_with width f before r a
+  unfolding taken_with
+  none_taken e = sym (if_not_accepted (took_back (log_of width f) before r) 0 a e)
 
-  same-page : isAccepted a ≡ false → before ≡ pageWith width f before r a
-  unfolding pageWith
-  same-page e = sym (if-not-accepted (pageFilled before (page_of (append (logOf width f) r))) before a e)
+  same_page : is_accepted a ≡ false → before ≡ page_with width f before r a
+  unfolding page_with
+  same_page e = sym (if_not_accepted (page_filled before (page_of (append (log_of width f) r))) before a e)
 
-  module _ (n : ℕ) (h : Admitted width f r n) (e : isAccepted a ≡ true) where
-    added-taken : (t : ℕ) → Took (logOf width (appended width f r)) (headerCounts f) before t → t ≡ takenWith width f before r a
-    unfolding takenWith
-    added-taken t x = took-is f r n h before t x ∙ sym (if-accepted (tookBack (logOf width f) before r) 0 a e)
+  module _ (n : ℕ) (h : Admitted width f r n) (e : is_accepted a ≡ true) where
+    added_taken : (t : ℕ) → Took (log_of width (appended width f r)) (header_counts f) before t → t ≡ taken_with width f before r a
+    unfolding taken_with
+    added_taken t x = took_is f r n h before t x ∙ sym (if_accepted_law (took_back (log_of width f) before r) 0 a e)
 
-    added-page : (q : Page) → q ≡ pageFilled before (page_of (logOf width (appended width f r))) → q ≡ pageWith width f before r a
-    unfolding pageWith
-    added-page q x =
-        x ∙ rw (log-new f r n h) (sym (if-accepted (pageFilled before (page_of (append (logOf width f) r))) before a e))
+    added_page : (q : Page) → q ≡ page_filled before (page_of (log_of width (appended width f r))) → q ≡ page_with width f before r a
+    unfolding page_with
+    added_page q x =
+        x ∙ rw (log_new f r n h) (sym (if_accepted_law (page_filled before (page_of (append (log_of width f) r))) before a e))
 
 ---- delivering
 
@@ -120,122 +120,122 @@ abbrev handed : Answer → ℕ → (buffer : List ℕ) → Page → PageResult
 handed a t f p = record { answer = a; taken = t; buffer = f; page = p }
 
 module _ (f op ls lp lo : List ℕ) where
-  pub deliver-unsound : sound width f ≡ false → (a : Answer) (t : ℕ) → a ≡ refused 1 → t ≡ 0
-      → handed a t f (page ls lp lo) ≡ deliverPage width f op (page ls lp lo)
-  unfolding deliverPageAnswer withPage takenWith pageWith require
-  deliver-unsound e a t ea et = rw (e, ea, et)
+  pub deliver_unsound : sound width f ≡ false → (a : Answer) (t : ℕ) → a ≡ refused 1 → t ≡ 0
+      → handed a t f (page ls lp lo) ≡ deliver_page width f op (page ls lp lo)
+  unfolding deliver_page_answer with_page taken_with page_with require
+  deliver_unsound e a t ea et = rw (e, ea, et)
 
-  pub deliver-short : sound width f ≡ true → longEnough (page ls lp lo) ≡ false → (a : Answer) (t : ℕ) → a ≡ refused 2 → t ≡ 0
-      → handed a t f (page ls lp lo) ≡ deliverPage width f op (page ls lp lo)
-  unfolding deliverPageAnswer withPage takenWith pageWith require
-  deliver-short s e a t ea et = rw (s, e, ea, et)
+  pub deliver_short : sound width f ≡ true → long_enough (page ls lp lo) ≡ false → (a : Answer) (t : ℕ) → a ≡ refused 2 → t ≡ 0
+      → handed a t f (page ls lp lo) ≡ deliver_page width f op (page ls lp lo)
+  unfolding deliver_page_answer with_page taken_with page_with require
+  deliver_short s e a t ea et = rw (s, e, ea, et)
 
   module _ (x : PageReady f ls lp lo) (a : Answer) (f' : List ℕ)
       (is : ◌≡◌ {A = Result} (record { answer = a; buffer = f' }) (deliver width f op)) where
-    plain : a ≡ deliverAnswer width f op
+    plain : a ≡ deliver_answer width f op
     plain = ap (λ (y : Result). y.answer) is
 
-    answer-is : deliverPageAnswer width f op (page ls lp lo) ≡ a
-    unfolding deliverPageAnswer withPage require
-    answer-is = rw (x.is-sound, x.long) (sym plain)
+    answer_is : deliver_page_answer width f op (page ls lp lo) ≡ a
+    unfolding deliver_page_answer with_page require
+    answer_is = rw (x.is_sound_so, x.long) (sym plain)
 
-    buffer-is : f' ≡ ifAccepted a (appended width f op) f
-    unfolding deliverBuffer
-    buffer-is = ap (λ (y : Result). y.buffer) is ∙ rw plain
+    buffer_is : f' ≡ if_accepted a (appended width f op) f
+    unfolding deliver_buffer
+    buffer_is = ap (λ (y : Result). y.buffer) is ∙ rw plain
 
-    pub deliver-kept : isAccepted a ≡ false → handed a 0 f' (page ls lp lo) ≡ deliverPage width f op (page ls lp lo)
-    deliver-kept e = rw (answer-is, ← none-taken f ls lp lo op a e, ← same-page f ls lp lo op a e, ← buffer-is)
+    pub deliver_kept : is_accepted a ≡ false → handed a 0 f' (page ls lp lo) ≡ deliver_page width f op (page ls lp lo)
+    deliver_kept e = rw (answer_is, ← none_taken f ls lp lo op a e, ← same_page f ls lp lo op a e, ← buffer_is)
 
-    module _ (e : isAccepted a ≡ true) (u : Vector) (hu : u ≡ headerCounts f) where
+    module _ (e : is_accepted a ≡ true) (u : Vector) (hu : u ≡ header_counts f) where
       end : ℕ
-      end = (accepted-with a e).0
+      end = (accepted_with a e).0
 
       taken_in : Admitted width f op end
       unfolding end
-      taken_in = admitted width f op end (sym plain ∙ (accepted-with a e).1)
+      taken_in = admitted width f op end (sym plain ∙ (accepted_with a e).1)
 
       added : f' ≡ appended width f op
-      added = buffer-is ∙ if-accepted (appended width f op) f a e
+      added = buffer_is ∙ if_accepted_law (appended width f op) f a e
 
-      pub deliver-renews : OneMoreLent f' u ls lp lo
-      deliver-renews = record { grown = rw (added, hu) (grown f op end taken_in); lent = lent f ls lp lo x }
+      pub deliver_renews : OneMoreLent f' u ls lp lo
+      deliver_renews = record { grown = rw (added, hu) (grown f op end taken_in); lent = lent f ls lp lo x }
 
-      pub deliver-renewed : (q : Page) → q ≡ pageFilled (page ls lp lo) (page_of (logOf width f')) → (t : ℕ)
-          → Took (logOf width f') u (page ls lp lo) t → handed a t f' q ≡ deliverPage width f op (page ls lp lo)
-      deliver-renewed q hq t ht = rw (
-        answer-is,
-        ← added-taken f ls lp lo op a end taken_in e t (rw (added, hu) at ht),
-        ← added-page f ls lp lo op a end taken_in e q (rw added at hq),
-        ← buffer-is,
+      pub deliver_renewed : (q : Page) → q ≡ page_filled (page ls lp lo) (page_of (log_of width f')) → (t : ℕ)
+          → Took (log_of width f') u (page ls lp lo) t → handed a t f' q ≡ deliver_page width f op (page ls lp lo)
+      deliver_renewed q hq t ht = rw (
+        answer_is,
+        ← added_taken f ls lp lo op a end taken_in e t (rw (added, hu) at ht),
+        ← added_page f ls lp lo op a end taken_in e q (rw added at hq),
+        ← buffer_is,
       )
 
 ---- issuing
 
-abbrev handedOut : Answer → ℕ → (buffer out : List ℕ) → Page → PageIssued
-handedOut a t f o p = record { answer = a; taken = t; buffer = f; out = o; page = p }
+abbrev handed_out : Answer → ℕ → (buffer out : List ℕ) → Page → PageIssued
+handed_out a t f o p = record { answer = a; taken = t; buffer = f; out = o; page = p }
 
 module _ (f out : List ℕ) (s : ℕ) (q : Request) (ls lp lo : List ℕ) where
   abbrev op : Op
-  op = issued (logOf width f) s q
+  op = issued (log_of width f) s q
 
-  pub issue-unsound : sound width f ≡ false → (a : Answer) (t : ℕ) → a ≡ refused 1 → t ≡ 0
-      → handedOut a t f out (page ls lp lo) ≡ issuePage width f out s q (page ls lp lo)
-  unfolding issuePageAnswer withPage takenWith pageWith require
-  issue-unsound e a t ea et = rw (e, ea, et)
+  pub issue_unsound : sound width f ≡ false → (a : Answer) (t : ℕ) → a ≡ refused 1 → t ≡ 0
+      → handed_out a t f out (page ls lp lo) ≡ issue_page width f out s q (page ls lp lo)
+  unfolding issue_page_answer with_page taken_with page_with require
+  issue_unsound e a t ea et = rw (e, ea, et)
 
-  pub issue-short : sound width f ≡ true → longEnough (page ls lp lo) ≡ false → (a : Answer) (t : ℕ) → a ≡ refused 2 → t ≡ 0
-      → handedOut a t f out (page ls lp lo) ≡ issuePage width f out s q (page ls lp lo)
-  unfolding issuePageAnswer withPage takenWith pageWith require
-  issue-short h e a t ea et = rw (h, e, ea, et)
+  pub issue_short : sound width f ≡ true → long_enough (page ls lp lo) ≡ false → (a : Answer) (t : ℕ) → a ≡ refused 2 → t ≡ 0
+      → handed_out a t f out (page ls lp lo) ≡ issue_page width f out s q (page ls lp lo)
+  unfolding issue_page_answer with_page taken_with page_with require
+  issue_short h e a t ea et = rw (h, e, ea, et)
 
   module _ (x : PageReady f ls lp lo) (a : Answer) (f' out' : List ℕ)
       (is : ◌≡◌ {A = Issued} (record { answer = a; buffer = f'; out = out' }) (issue width f out s q)) where
-    plainly : a ≡ issueAnswer width f (length out) s q
+    plainly : a ≡ issue_answer width f (length out) s q
     plainly = ap (λ (y : Issued). y.answer) is
 
-    issue-is : issuePageAnswer width f (length out) s q (page ls lp lo) ≡ a
-    unfolding issuePageAnswer withPage require
-    issue-is = rw (x.is-sound, x.long) (sym plainly)
+    issue_is : issue_page_answer width f (length out) s q (page ls lp lo) ≡ a
+    unfolding issue_page_answer with_page require
+    issue_is = rw (x.is_sound_so, x.long) (sym plainly)
 
-    issue-buffer : f' ≡ ifAccepted a (appended width f op) f
-    unfolding issueBuffer
-    issue-buffer = ap (λ (y : Issued). y.buffer) is ∙ rw plainly
+    issue_buffer_law : f' ≡ if_accepted a (appended width f op) f
+    unfolding issue_buffer
+    issue_buffer_law = ap (λ (y : Issued). y.buffer) is ∙ rw plainly
 
-    issue-out : out' ≡ ifAccepted a (op ++ drop width out) out
-    unfolding issueOut
-    issue-out = ap (λ (y : Issued). y.out) is ∙ rw plainly
+    issue_out_law : out' ≡ if_accepted a (op ++ drop width out) out
+    unfolding issue_out
+    issue_out_law = ap (λ (y : Issued). y.out) is ∙ rw plainly
 
-    pub issue-kept : isAccepted a ≡ false → handedOut a 0 f' out' (page ls lp lo) ≡ issuePage width f out s q (page ls lp lo)
-    issue-kept e = rw (issue-is, ← none-taken f ls lp lo op a e, ← same-page f ls lp lo op a e, ← issue-buffer, ← issue-out)
+    pub issue_kept : is_accepted a ≡ false → handed_out a 0 f' out' (page ls lp lo) ≡ issue_page width f out s q (page ls lp lo)
+    issue_kept e = rw (issue_is, ← none_taken f ls lp lo op a e, ← same_page f ls lp lo op a e, ← issue_buffer_law, ← issue_out_law)
 
-    module _ (e : isAccepted a ≡ true) (u : Vector) (hu : u ≡ headerCounts f) where
-      issue-end : ℕ
-      issue-end = (accepted-with a e).0
+    module _ (e : is_accepted a ≡ true) (u : Vector) (hu : u ≡ header_counts f) where
+      issue_end : ℕ
+      issue_end = (accepted_with a e).0
 
-      issue-in : Admitted width f op issue-end
-      unfolding issue-end
-      issue-in = issue-admitted f (length out) s q issue-end (sym plainly ∙ (accepted-with a e).1)
+      issue_in : Admitted width f op issue_end
+      unfolding issue_end
+      issue_in = issue_admitted f (length out) s q issue_end (sym plainly ∙ (accepted_with a e).1)
 
-      issue-added : f' ≡ appended width f op
-      issue-added = issue-buffer ∙ if-accepted (appended width f op) f a e
+      issue_added : f' ≡ appended width f op
+      issue_added = issue_buffer_law ∙ if_accepted_law (appended width f op) f a e
 
-      pub issue-renews : OneMoreLent f' u ls lp lo
-      issue-renews = record { grown = rw (issue-added, hu) (grown f op issue-end issue-in); lent = lent f ls lp lo x }
+      pub issue_renews : OneMoreLent f' u ls lp lo
+      issue_renews = record { grown = rw (issue_added, hu) (grown f op issue_end issue_in); lent = lent f ls lp lo x }
 
-      pub issue-renewed : (z : Page) → z ≡ pageFilled (page ls lp lo) (page_of (logOf width f')) → (t : ℕ)
-          → Took (logOf width f') u (page ls lp lo) t → handedOut a t f' out' z ≡ issuePage width f out s q (page ls lp lo)
-      issue-renewed z hz t ht = rw (
-        issue-is,
-        ← added-taken f ls lp lo op a issue-end issue-in e t (rw (issue-added, hu) at ht),
-        ← added-page f ls lp lo op a issue-end issue-in e z (rw issue-added at hz),
-        ← issue-buffer,
-        ← issue-out,
+      pub issue_renewed : (z : Page) → z ≡ page_filled (page ls lp lo) (page_of (log_of width f')) → (t : ℕ)
+          → Took (log_of width f') u (page ls lp lo) t → handed_out a t f' out' z ≡ issue_page width f out s q (page ls lp lo)
+      issue_renewed z hz t ht = rw (
+        issue_is,
+        ← added_taken f ls lp lo op a issue_end issue_in e t (rw (issue_added, hu) at ht),
+        ← added_page f ls lp lo op a issue_end issue_in e z (rw issue_added at hz),
+        ← issue_buffer_law,
+        ← issue_out_law,
       )
 
 ---- what the code of the calls needs: search delivering, search issuing
 
-pub ruleset readying = (rules, tested, ready, ready-header, ready-sound)
+pub ruleset readying = (rules, tested, ready, ready_header, ready_sound)
 
-pub ruleset delivering = (readying, deliver-unsound, deliver-short, deliver-kept, deliver-renews, deliver-renewed)
+pub ruleset delivering = (readying, deliver_unsound, deliver_short, deliver_kept, deliver_renews, deliver_renewed)
 
-pub ruleset issuing = (readying, issue-unsound, issue-short, issue-kept, issue-renews, issue-renewed)
+pub ruleset issuing = (readying, issue_unsound, issue_short, issue_kept, issue_renews, issue_renewed)

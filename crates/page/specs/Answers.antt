@@ -9,8 +9,8 @@ use Rattle.page.specs.declared.answer.Paged.{Paged}
 abbrev pub result_of : Paged → (buffer : List ℕ) → Page → PageResult
 result_of r f p = record { answer = answer_of r.answer; taken = r.taken; buffer = f; page = p }
 
-abbrev pub issuedOf : Paged → (buffer out : List ℕ) → Page → PageIssued
-issuedOf r f out p = record { answer = answer_of r.answer; taken = r.taken; buffer = f; out = out; page = p }
+abbrev pub issued_of : Paged → (buffer out : List ℕ) → Page → PageIssued
+issued_of r f out p = record { answer = answer_of r.answer; taken = r.taken; buffer = f; out = out; page = p }
 
 -- a refusal takes no op back
 pub record Refuses (r : Paged) (n : ℕ) : Type 0 where

@@ -2,12 +2,12 @@
 use Rattle.std.specs.Prelude.{ℕ, suc, ◌≡◌, true, cond, List, drop, length, replicate}
 use Rattle.lists.specs.Lists.{sum}
 use Rattle.rules.specs.Op.{Vector}
-use Rattle.rules.specs.File.{Log, countsOf, headerCounts, logOf, width, within}
+use Rattle.rules.specs.File.{Log, counts_of, header_counts, log_of, width, within}
 use Rattle.rules.specs.Log.{closed, structural}
-use Rattle.page_rules.specs.Page.{Page, longEnough, page, pageAt, shows}
+use Rattle.page_rules.specs.Page.{Page, long_enough, page, page_at, shows}
 use Rattle.rules.specs.Sound.{sound}
 use Rattle.rules.specs.Replay.{order_of}
-use Rattle.rules.specs.Tree.{mostOps}
+use Rattle.rules.specs.Tree.{most_ops}
 use Rattle.order.specs.Undo.{FirstNew}
 use Rattle.schedule.specs.Schedule.{schedule, scheduled}
 use Rattle.page_tables.specs.Tables.{LongPage}
@@ -17,23 +17,23 @@ use Rattle.page_tables.specs.Tables.{LongPage}
 pub record Took (log : Log) (old : Vector) (lent : Page) (taken : ℕ) : Type 0 where
   pub place : ℕ
   pub first : FirstNew log old place
-  pub number : taken ≡ cond (shows lent (pageAt log old)) (length (drop (suc place) (order_of log (countsOf log)))) (sum old)
+  pub number : taken ≡ cond (shows lent (page_at log old)) (length (drop (suc place) (order_of log (counts_of log)))) (sum old)
 
 ---- what the steps ask
 
 -- a structurally sound file has one op more than a closed cut
 pub record OneMore (f : List ℕ) (old : Vector) : Type 0 where
-  pub is-structural : structural width f ≡ true
+  pub is_structural : structural width f ≡ true
   pub eight : length old ≡ 8
-  pub inside : within old (headerCounts f) ≡ true
-  pub is-closed : closed (logOf width f) old ≡ true
-  pub one : sum (headerCounts f) ≡ suc (sum old)
+  pub inside : within old (header_counts f) ≡ true
+  pub is_closed : closed (log_of width f) old ≡ true
+  pub one : sum (header_counts f) ≡ suc (sum old)
 
 -- the order of all ops, and lent tables
 pub record Renewable (f : List ℕ) (old all : Vector) (slots times : List ℕ) (n : ℕ) (ls lp lo : List ℕ) : Type 0 where
   pub grown : OneMore f old
-  pub counts : all ≡ headerCounts f
-  pub is-scheduled : schedule slots times n ≡ scheduled (logOf width f) all (replicate mostOps 0) (replicate mostOps 0)
+  pub counts : all ≡ header_counts f
+  pub is_scheduled : schedule slots times n ≡ scheduled (log_of width f) all (replicate most_ops 0) (replicate most_ops 0)
   pub lent : LongPage ls lp lo
 
 pub record OneMoreLent (f : List ℕ) (old : Vector) (ls lp lo : List ℕ) : Type 0 where
@@ -42,5 +42,5 @@ pub record OneMoreLent (f : List ℕ) (old : Vector) (ls lp lo : List ℕ) : Typ
 
 -- the tests 1 and 2 of the page passed
 pub record PageReady (f ls lp lo : List ℕ) : Type 0 where
-  pub is-sound : sound width f ≡ true
-  pub long : longEnough (page ls lp lo) ≡ true
+  pub is_sound_so : sound width f ≡ true
+  pub long : long_enough (page ls lp lo) ≡ true

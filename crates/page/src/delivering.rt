@@ -1,6 +1,6 @@
 ghost use Rattle.std.specs.Prelude.{◌≡◌};
 ghost use Rattle.rules.specs.File.{width};
-ghost use Rattle.page_rules.specs.Page.{deliverPage, page};
+ghost use Rattle.page_rules.specs.Page.{deliver_page, page};
 ghost use Rattle.page.specs.Answers.{result_of};
 ghost use Rattle.page.specs.Renewing.{PageReady};
 
@@ -22,7 +22,7 @@ fn deliver_ready(
 ) -> Paged
     requires { PageReady buf.old order.old parents.old outcomes.old }
     ensures { result_of result buf.new (page order.new parents.new outcomes.new)
-        ≡ deliverPage width buf.old op.now
+        ≡ deliver_page width buf.old op.now
         (page order.old parents.old outcomes.old) }
 {
     let old = counts_of(buf, WIDTH);
@@ -43,7 +43,7 @@ pub fn deliver(
     outcomes: &mut [u8],
 ) -> Paged
     ensures { result_of result buf.new (page order.new parents.new outcomes.new)
-        ≡ deliverPage width buf.old op.now
+        ≡ deliver_page width buf.old op.now
         (page order.old parents.old outcomes.old) }
 {
     if !is_sound(buf) {

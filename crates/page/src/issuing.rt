@@ -1,9 +1,9 @@
 ghost use Rattle.std.specs.Prelude.{◌≡◌};
 ghost use Rattle.rules.specs.File.{width};
 ghost use Rattle.rules.specs.Issue.{add, move, remove};
-ghost use Rattle.page_rules.specs.Page.{issuePage, page};
-ghost use Rattle.request.specs.Requests.{requestOf};
-ghost use Rattle.page.specs.Answers.{issuedOf};
+ghost use Rattle.page_rules.specs.Page.{issue_page, page};
+ghost use Rattle.request.specs.Requests.{request_of};
+ghost use Rattle.page.specs.Answers.{issued_of};
 ghost use Rattle.page.specs.Renewing.{PageReady};
 
 use crate::answer::{Paged, refused};
@@ -26,8 +26,8 @@ fn issue_ready(
     outcomes: &mut [u8],
 ) -> Paged
     requires { PageReady buf.old order.old parents.old outcomes.old }
-    ensures { issuedOf result buf.new out.new (page order.new parents.new outcomes.new)
-        ≡ issuePage width buf.old out.old replica (requestOf request)
+    ensures { issued_of result buf.new out.new (page order.new parents.new outcomes.new)
+        ≡ issue_page width buf.old out.old replica (request_of request)
         (page order.old parents.old outcomes.old) }
 {
     let old = counts_of(buf, WIDTH);
@@ -49,8 +49,8 @@ fn issue(
     parents: &mut [u16],
     outcomes: &mut [u8],
 ) -> Paged
-    ensures { issuedOf result buf.new out.new (page order.new parents.new outcomes.new)
-        ≡ issuePage width buf.old out.old replica (requestOf request)
+    ensures { issued_of result buf.new out.new (page order.new parents.new outcomes.new)
+        ≡ issue_page width buf.old out.old replica (request_of request)
         (page order.old parents.old outcomes.old) }
 {
     if !is_sound(buf) {
@@ -72,8 +72,8 @@ pub fn issue_add(
     parents: &mut [u16],
     outcomes: &mut [u8],
 ) -> Paged
-    ensures { issuedOf result buf.new out.new (page order.new parents.new outcomes.new)
-        ≡ issuePage width buf.old out.old replica (add parent)
+    ensures { issued_of result buf.new out.new (page order.new parents.new outcomes.new)
+        ≡ issue_page width buf.old out.old replica (add parent)
         (page order.old parents.old outcomes.old) }
 {
     issue(
@@ -97,8 +97,8 @@ pub fn issue_remove(
     parents: &mut [u16],
     outcomes: &mut [u8],
 ) -> Paged
-    ensures { issuedOf result buf.new out.new (page order.new parents.new outcomes.new)
-        ≡ issuePage width buf.old out.old replica (remove node)
+    ensures { issued_of result buf.new out.new (page order.new parents.new outcomes.new)
+        ≡ issue_page width buf.old out.old replica (remove node)
         (page order.old parents.old outcomes.old) }
 {
     issue(
@@ -123,8 +123,8 @@ pub fn issue_move(
     parents: &mut [u16],
     outcomes: &mut [u8],
 ) -> Paged
-    ensures { issuedOf result buf.new out.new (page order.new parents.new outcomes.new)
-        ≡ issuePage width buf.old out.old replica (move node parent)
+    ensures { issued_of result buf.new out.new (page order.new parents.new outcomes.new)
+        ≡ issue_page width buf.old out.old replica (move node parent)
         (page order.old parents.old outcomes.old) }
 {
     issue(

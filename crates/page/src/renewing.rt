@@ -1,6 +1,6 @@
 ghost use Rattle.std.specs.Prelude.{◌≡◌};
-ghost use Rattle.rules.specs.File.{logOf, width};
-ghost use Rattle.page_rules.specs.Page.{pageFilled, page, page_of};
+ghost use Rattle.rules.specs.File.{log_of, width};
+ghost use Rattle.page_rules.specs.Page.{page_filled, page, page_of};
 ghost use Rattle.page.specs.Renewing.{OneMoreLent, Renewable, Took};
 
 use oplog::counts_of;
@@ -25,8 +25,8 @@ fn rejudge(
 ) -> usize
     requires { Renewable file.now old all slots.now times.now n order.old parents.old outcomes.old }
     ensures { (page order.new parents.new outcomes.new
-        ≡ pageFilled (page order.old parents.old outcomes.old) (page_of (logOf width file.now)))
-        × Took (logOf width file.now) old
+        ≡ page_filled (page order.old parents.old outcomes.old) (page_of (log_of width file.now)))
+        × Took (log_of width file.now) old
         (page order.old parents.old outcomes.old) result }
 {
     let mut tree = [NO_PARENT; SLOTS];
@@ -84,8 +84,8 @@ pub(crate) fn renew(
 ) -> usize
     requires { OneMoreLent file.now old order.old parents.old outcomes.old }
     ensures { (page order.new parents.new outcomes.new
-        ≡ pageFilled (page order.old parents.old outcomes.old) (page_of (logOf width file.now)))
-        × Took (logOf width file.now) old
+        ≡ page_filled (page order.old parents.old outcomes.old) (page_of (log_of width file.now)))
+        × Took (log_of width file.now) old
         (page order.old parents.old outcomes.old) result }
 {
     let all = counts_of(file, WIDTH);

@@ -2,14 +2,14 @@
 -- delivery or the issue of one op that is lent a page: what is answered, what it leaves, and how many ops it takes back.
 use Rattle.std.specs.Prelude.{ℕ, suc, ◌-◌, Bool, cond, ◌&&◌, List, ◌++◌, length, take, drop, replicate, leb}
 use Rattle.lists.specs.Lists.{sum, same, index_of}
-use Rattle.rules.specs.Answer.{Answer, require, ifAccepted}
+use Rattle.rules.specs.Answer.{Answer, require, if_accepted}
 use Rattle.rules.specs.Op.{Op, Vector}
-use Rattle.rules.specs.File.{Log, countsOf, append, logOf, appended}
+use Rattle.rules.specs.File.{Log, counts_of, append, log_of, appended}
 use Rattle.rules.specs.Sound.{sound}
-use Rattle.rules.specs.Deliver.{deliverAnswer}
-use Rattle.rules.specs.Issue.{Request, issued, issueAnswer}
-use Rattle.rules.specs.Tree.{slots, mostOps}
-use Rattle.rules.specs.Replay.{order_of, outcomeSlot, replay}
+use Rattle.rules.specs.Deliver.{deliver_answer}
+use Rattle.rules.specs.Issue.{Request, issued, issue_answer}
+use Rattle.rules.specs.Tree.{slots, most_ops}
+use Rattle.rules.specs.Replay.{order_of, outcome_slot, replay}
 
 pub record Page : Type 0 where
   pub order : List ℕ
@@ -21,46 +21,46 @@ page s p o = record { order = s; parents = p; outcomes = o }
 
 -- "the order has 2,040 two-byte entries, the slots of the held records in judging order and then 0"
 unfoldable pub padded : List ℕ → List ℕ
-padded xs = xs ++ replicate (mostOps - length xs) 0
+padded xs = xs ++ replicate (most_ops - length xs) 0
 
 -- the page of a cut: "the others are as judging fills them"
-unfoldable pub pageAt : Log → Vector → Page
-pageAt log cut = page (padded (order_of log cut)) (replay log cut).parents (replay log cut).outcomes
+unfoldable pub page_at : Log → Vector → Page
+page_at log cut = page (padded (order_of log cut)) (replay log cut).parents (replay log cut).outcomes
 
 -- "a fresh judgement" of the log
 unfoldable pub page_of : Log → Page
-page_of log = pageAt log (countsOf log)
+page_of log = page_at log (counts_of log)
 
 ---- lent tables
 
 -- "one too short for 2,040 records is answered 2"
-unfoldable pub longEnough : Page → Bool
-longEnough lent = leb mostOps (length lent.order) && leb slots (length lent.parents) && leb slots (length lent.outcomes)
+unfoldable pub long_enough : Page → Bool
+long_enough lent = leb most_ops (length lent.order) && leb slots (length lent.parents) && leb slots (length lent.outcomes)
 
 -- the first entries of lent tables equal a page
 unfoldable pub shows : (lent page : Page) → Bool
 shows lent x =
-    same (take mostOps lent.order) x.order
+    same (take most_ops lent.order) x.order
     && same (take slots lent.parents) x.parents
     && same (take slots lent.outcomes) x.outcomes
 
 -- lent tables with a page in their first entries; what is lent beyond stays
-unfoldable pub pageFilled : (lent page : Page) → Page
-pageFilled lent x =
-    page (x.order ++ drop mostOps lent.order) (x.parents ++ drop slots lent.parents) (x.outcomes ++ drop slots lent.outcomes)
+unfoldable pub page_filled : (lent page : Page) → Page
+page_filled lent x =
+    page (x.order ++ drop most_ops lent.order) (x.parents ++ drop slots lent.parents) (x.outcomes ++ drop slots lent.outcomes)
 
 ---- the report
 
 -- "the number of held records sorting after the new one": what stands behind it in the order of the log that has it
-unfoldable pub sortAfter : Log → Op → ℕ
-sortAfter log r =
+unfoldable pub sort_after : Log → Op → ℕ
+sort_after log r =
     let more = append log r in
-    let xs = order_of more (countsOf more) in
-    length (drop (suc (index_of (outcomeSlot r) xs)) xs)
+    let xs = order_of more (counts_of more) in
+    length (drop (suc (index_of (outcome_slot r) xs)) xs)
 
 -- "how many it took back"; where the page "didn't equal the judgement of the collection before", "all records held before"
-unfoldable pub tookBack : Log → (lent : Page) → Op → ℕ
-tookBack log lent r = cond (shows lent (page_of log)) (sortAfter log r) (sum (countsOf log))
+unfoldable pub took_back : Log → (lent : Page) → Op → ℕ
+took_back log lent r = cond (shows lent (page_of log)) (sort_after log r) (sum (counts_of log))
 
 ---- the calls
 
@@ -79,40 +79,40 @@ pub record PageIssued : Type 0 where
   pub page : Page
 
 -- a page that is too short is one more case of 2: tests 1, 2, then those of the plain call
-unfoldable pub withPage : ℕ → (buffer : List ℕ) → (lent : Page) → Answer → Answer
-withPage w f lent a = require (sound w f) 1 (require (longEnough lent) 2 a)
+unfoldable pub with_page : ℕ → (buffer : List ℕ) → (lent : Page) → Answer → Answer
+with_page w f lent a = require (sound w f) 1 (require (long_enough lent) 2 a)
 
 -- how many ops a call that adds r takes back, and the page after it. "A refusal or had it leaves the page unchanged", and takes none back
-unfoldable pub takenWith : ℕ → (buffer : List ℕ) → (lent : Page) → Op → Answer → ℕ
-takenWith w f lent r a = ifAccepted a (tookBack (logOf w f) lent r) 0
+unfoldable pub taken_with : ℕ → (buffer : List ℕ) → (lent : Page) → Op → Answer → ℕ
+taken_with w f lent r a = if_accepted a (took_back (log_of w f) lent r) 0
 
-unfoldable pub pageWith : ℕ → (buffer : List ℕ) → (lent : Page) → Op → Answer → Page
-pageWith w f lent r a = ifAccepted a (pageFilled lent (page_of (append (logOf w f) r))) lent
+unfoldable pub page_with : ℕ → (buffer : List ℕ) → (lent : Page) → Op → Answer → Page
+page_with w f lent r a = if_accepted a (page_filled lent (page_of (append (log_of w f) r))) lent
 
-unfoldable pub deliverPageAnswer : ℕ → (buffer op : List ℕ) → (lent : Page) → Answer
-deliverPageAnswer w f r lent = withPage w f lent (deliverAnswer w f r)
+unfoldable pub deliver_page_answer : ℕ → (buffer op : List ℕ) → (lent : Page) → Answer
+deliver_page_answer w f r lent = with_page w f lent (deliver_answer w f r)
 
-abbrev pub deliverPage : ℕ → (buffer op : List ℕ) → (lent : Page) → PageResult
-deliverPage w f r lent =
-    let a = deliverPageAnswer w f r lent in
+abbrev pub deliver_page : ℕ → (buffer op : List ℕ) → (lent : Page) → PageResult
+deliver_page w f r lent =
+    let a = deliver_page_answer w f r lent in
     record {
       answer = a;
-      taken = takenWith w f lent r a;
-      buffer = ifAccepted a (appended w f r) f;
-      page = pageWith w f lent r a;
+      taken = taken_with w f lent r a;
+      buffer = if_accepted a (appended w f r) f;
+      page = page_with w f lent r a;
     }
 
-unfoldable pub issuePageAnswer : ℕ → (buffer : List ℕ) (room replica : ℕ) → Request → (lent : Page) → Answer
-issuePageAnswer w f room s q lent = withPage w f lent (issueAnswer w f room s q)
+unfoldable pub issue_page_answer : ℕ → (buffer : List ℕ) (room replica : ℕ) → Request → (lent : Page) → Answer
+issue_page_answer w f room s q lent = with_page w f lent (issue_answer w f room s q)
 
-abbrev pub issuePage : ℕ → (buffer out : List ℕ) (replica : ℕ) → Request → (lent : Page) → PageIssued
-issuePage w f out s q lent =
-    let a = issuePageAnswer w f (length out) s q lent in
-    let r = issued (logOf w f) s q in
+abbrev pub issue_page : ℕ → (buffer out : List ℕ) (replica : ℕ) → Request → (lent : Page) → PageIssued
+issue_page w f out s q lent =
+    let a = issue_page_answer w f (length out) s q lent in
+    let r = issued (log_of w f) s q in
     record {
       answer = a;
-      taken = takenWith w f lent r a;
-      buffer = ifAccepted a (appended w f r) f;
-      out = ifAccepted a (r ++ drop w out) out;
-      page = pageWith w f lent r a;
+      taken = taken_with w f lent r a;
+      buffer = if_accepted a (appended w f r) f;
+      out = if_accepted a (r ++ drop w out) out;
+      page = page_with w f lent r a;
     }

@@ -10,34 +10,34 @@ use lib.Seq.{get_or-append-add, get_or-drop, get_or-take, length-take-le}
 use borrow.Author.Rules.{rules}
 use borrow.Author.Tests.{le-leb, lt-leb}
 use Rattle.lists.specs.Lists.{same}
-use Rattle.lists.proofs.BoolLaws.{not-so-by-not, so-by-not}
-use Rattle.lists.proofs.ListLaws.{Matched, match-ends, match-fails, match-on, match-starts, match-there, same-all, same-sym}
-use Rattle.page_rules.specs.Page.{pageFilled, longEnough, page, shows}
-use Rattle.rules.specs.Tree.{mostOps, slots}
-use Rattle.oplog.proofs.InsertLaws.{front-first, front-last, front-next}
-use Rattle.page_tables.specs.Tables.{Comparable, OrderEntry, FillablePage, OrderLent, orderWithout}
+use Rattle.lists.proofs.BoolLaws.{not_so_by_not, so_by_not}
+use Rattle.lists.proofs.ListLaws.{Matched, match_ends, match_fails, match_on, match_starts, match_there, same_all, same_sym}
+use Rattle.page_rules.specs.Page.{page_filled, long_enough, page, shows}
+use Rattle.rules.specs.Tree.{most_ops, slots}
+use Rattle.oplog.proofs.InsertLaws.{front_first, front_last, front_next}
+use Rattle.page_tables.specs.Tables.{Comparable, OrderEntry, FillablePage, OrderLent, order_without}
 
 ---- room
 
 module _ (s p o : List ℕ) where
-  pub short-order : length s < mostOps → false ≡ longEnough (page s p o)
-  unfolding longEnough
-  short-order h = rw (lt-leb mostOps (length s) h)
+  pub short_order : length s < most_ops → false ≡ long_enough (page s p o)
+  unfolding long_enough
+  short_order h = rw (lt-leb most_ops (length s) h)
 
-  module _ (a : mostOps ≤ length s) where
-    pub short-parents : length p < slots → false ≡ longEnough (page s p o)
-    unfolding longEnough
-    short-parents h = rw (le-leb mostOps (length s) a, lt-leb slots (length p) h)
+  module _ (a : most_ops ≤ length s) where
+    pub short_parents : length p < slots → false ≡ long_enough (page s p o)
+    unfolding long_enough
+    short_parents h = rw (le-leb most_ops (length s) a, lt-leb slots (length p) h)
 
-    pub all-long : slots ≤ length p → leb slots (length o) ≡ longEnough (page s p o)
-    unfolding longEnough
-    all-long b = rw (le-leb mostOps (length s) a, le-leb slots (length p) b)
+    pub all_long : slots ≤ length p → leb slots (length o) ≡ long_enough (page s p o)
+    unfolding long_enough
+    all_long b = rw (le-leb most_ops (length s) a, le-leb slots (length p) b)
 
 ---- an order without an entry
 
-without-long : (i : ℕ) (xs : List ℕ) → i < length xs → length (orderWithout i xs) ≡ length xs
-unfolding orderWithout
-without-long i xs h =
+without_long : (i : ℕ) (xs : List ℕ) → i < length xs → length (order_without i xs) ≡ length xs
+unfolding order_without
+without_long i xs h =
     omega (
       arith,
       length-append (take i xs) (drop (suc i) xs ++ (0 ∷ [])),
@@ -47,35 +47,35 @@ without-long i xs h =
     )
 
 module _ (xs : List ℕ) (i j : ℕ) (x : OrderEntry xs i j) where
-  front-size : length (take i xs) ≡ i
-  front-size = length-take-le i xs (omega (arith, x.whole, x.inside))
+  front_size : length (take i xs) ≡ i
+  front_size = length-take-le i xs (omega (arith, x.whole, x.inside))
 
-  pub entry-fits : j < length xs
-  entry-fits = omega (arith, x.whole, x.entry)
+  pub entry_fits : j < length xs
+  entry_fits = omega (arith, x.whole, x.entry)
 
-  pub entry-front : j < i → get_or xs j 0 ≡ get_or (orderWithout i xs) j 0
-  unfolding orderWithout
-  entry-front h = sym (get_or-append (take i xs) _ 0 j (omega (arith, front-size)) ∙ get_or-take i xs j 0 h)
+  pub entry_front : j < i → get_or xs j 0 ≡ get_or (order_without i xs) j 0
+  unfolding order_without
+  entry_front h = sym (get_or-append (take i xs) _ 0 j (omega (arith, front_size)) ∙ get_or-take i xs j 0 h)
 
   module _ (h : i ≤ j) where
-    past : get_or (orderWithout i xs) j 0 ≡ get_or (drop (suc i) xs ++ (0 ∷ [])) (j - i) 0
-    unfolding orderWithout
+    past : get_or (order_without i xs) j 0 ≡ get_or (drop (suc i) xs ++ (0 ∷ [])) (j - i) 0
+    unfolding order_without
     past =
-        let e : j ≡ length (take i xs) + (j - i) = omega (arith, front-size) in
+        let e : j ≡ length (take i xs) + (j - i) = omega (arith, front_size) in
         ap (λ (k : ℕ). get_or (take i xs ++ (drop (suc i) xs ++ (0 ∷ []))) k 0) e ∙ get_or-append-add (take i xs) _ (j - i) 0
 
-    pub entry_next : j < mostOps - 1 → get_or xs (j + 1) 0 ≡ get_or (orderWithout i xs) j 0
+    pub entry_next : j < most_ops - 1 → get_or xs (j + 1) 0 ≡ get_or (order_without i xs) j 0
     entry_next u =
         let e : suc i + (j - i) ≡ j + 1 = omega arith in
         let b : j - i < length (drop (suc i) xs) = omega (arith, length-drop (suc i) xs, x.whole) in
         sym (past ∙ get_or-append (drop (suc i) xs) (0 ∷ []) 0 (j - i) b ∙ get_or-drop (suc i) xs (j - i) 0
         ∙ ap (λ (k : ℕ). get_or xs k 0) e)
 
-    pub entry-next-fits : j < mostOps - 1 → j + 1 < length xs
-    entry-next-fits u = omega (arith, x.whole)
+    pub entry_next_fits : j < most_ops - 1 → j + 1 < length xs
+    entry_next_fits u = omega (arith, x.whole)
 
-    pub entry-last : mostOps - 1 ≤ j → 0 ≡ get_or (orderWithout i xs) j 0
-    entry-last u =
+    pub entry_last : most_ops - 1 ≤ j → 0 ≡ get_or (order_without i xs) j 0
+    entry_last u =
         let e : j - i ≡ length (drop (suc i) xs) + 0 = omega (arith, length-drop (suc i) xs, x.whole, x.entry) in
         sym (past ∙ ap (λ (k : ℕ). get_or (drop (suc i) xs ++ (0 ∷ [])) k 0) e ∙ get_or-append-add (drop (suc i) xs) (0 ∷ []) 0 0)
 
@@ -83,85 +83,85 @@ module _ (xs : List ℕ) (i j : ℕ) (x : OrderEntry xs i j) where
 
 module _ (lent xs : List ℕ) (i : ℕ) (x : OrderLent lent xs i) where
   abbrev shown : List ℕ
-  shown = take mostOps lent
+  shown = take most_ops lent
 
-  pub order-starts : Matched (take mostOps lent) (orderWithout i xs) mostOps 0
-  order-starts =
-      let n : length shown ≡ mostOps = length-take-le mostOps lent x.room in
+  pub order_starts : Matched (take most_ops lent) (order_without i xs) most_ops 0
+  order_starts =
+      let n : length shown ≡ most_ops = length-take-le most_ops lent x.room in
       record {
         whole = sym n;
-        long = n ∙ sym (without-long i xs (omega (arith, x.whole, x.inside)) ∙ x.whole);
+        long = n ∙ sym (without_long i xs (omega (arith, x.whole, x.inside)) ∙ x.whole);
         few = omega arith;
-        left = same-all shown (orderWithout i xs);
+        left = same_all shown (order_without i xs);
       }
 
-  module _ (j : ℕ) (h : j < mostOps) where
-    pub order-fits : j < length lent
-    order-fits = omega (arith, x.room)
+  module _ (j : ℕ) (h : j < most_ops) where
+    pub order_fits : j < length lent
+    order_fits = omega (arith, x.room)
 
-    pub order-entry : OrderEntry xs i j
-    order-entry = record { whole = x.whole; inside = x.inside; entry = h }
+    pub order_entry : OrderEntry xs i j
+    order_entry = record { whole = x.whole; inside = x.inside; entry = h }
 
-    module _ (t : Matched (take mostOps lent) (orderWithout i xs) mostOps j) (e : ℕ) (is : e ≡ get_or (orderWithout i xs) j 0) where
-      pub order-fails : (get_or lent j 0 ≡ e → ⊥) → false ≡ same (take mostOps lent) (orderWithout i xs)
-      order-fails ne = match-fails shown (orderWithout i xs) mostOps j t h (λ z. ne (sym (get_or-take mostOps lent j 0 h) ∙ z ∙ sym is))
+    module _ (t : Matched (take most_ops lent) (order_without i xs) most_ops j) (e : ℕ) (is : e ≡ get_or (order_without i xs) j 0) where
+      pub order_fails : (get_or lent j 0 ≡ e → ⊥) → false ≡ same (take most_ops lent) (order_without i xs)
+      order_fails ne = match_fails shown (order_without i xs) most_ops j t h (λ z. ne (sym (get_or-take most_ops lent j 0 h) ∙ z ∙ sym is))
 
-      pub order-on : get_or lent j 0 ≡ e → Matched (take mostOps lent) (orderWithout i xs) mostOps (j + 1)
-      order-on z = match-on shown (orderWithout i xs) mostOps j t h (get_or-take mostOps lent j 0 h ∙ z ∙ is)
+      pub order_on : get_or lent j 0 ≡ e → Matched (take most_ops lent) (order_without i xs) most_ops (j + 1)
+      order_on z = match_on shown (order_without i xs) most_ops j t h (get_or-take most_ops lent j 0 h ∙ z ∙ is)
 
 ---- all three
 
 module _ (ls lp lo s : List ℕ) (i : ℕ) (p o : List ℕ) (x : Comparable ls lp lo s i p o) where
   abbrev it : Bool
-  it = shows (page ls lp lo) (page (orderWithout i s) p o)
+  it = shows (page ls lp lo) (page (order_without i s) p o)
 
-  pub order-asks : OrderLent ls s i
-  order-asks = record { room = x.fillable.lent.order; whole = x.fillable.judged.order; inside = x.inside }
+  pub order_asks : OrderLent ls s i
+  order_asks = record { room = x.fillable.lent.order; whole = x.fillable.judged.order; inside = x.inside }
 
-  pub outcomes-fit : 0 + length o ≤ length lo
-  outcomes-fit = omega (arith, x.fillable.lent.outcomes, x.fillable.judged.outcomes)
+  pub outcomes_fit : 0 + length o ≤ length lo
+  outcomes_fit = omega (arith, x.fillable.lent.outcomes, x.fillable.judged.outcomes)
 
-  module _ (b : Bool) (is : b ≡ same (take mostOps ls) (orderWithout i s)) where
-    pub shows-order : not b ≡ true → false ≡ shows (page ls lp lo) (page (orderWithout i s) p o)
+  module _ (b : Bool) (is : b ≡ same (take most_ops ls) (order_without i s)) where
+    pub shows_order : not b ≡ true → false ≡ shows (page ls lp lo) (page (order_without i s) p o)
     unfolding shows
-    shows-order e = rw (not-so-by-not is e)
+    shows_order e = rw (not_so_by_not is e)
 
     module _ (e : not b ≡ false) (c : Bool) (is' : c ≡ same (take slots lp) p) where
-      pub shows-parents : not c ≡ true → false ≡ shows (page ls lp lo) (page (orderWithout i s) p o)
+      pub shows_parents : not c ≡ true → false ≡ shows (page ls lp lo) (page (order_without i s) p o)
       unfolding shows
-      shows-parents e' = rw (so-by-not is e, not-so-by-not is' e')
+      shows_parents e' = rw (so_by_not is e, not_so_by_not is' e')
 
-      pub shows-outcomes : not c ≡ false → (d : Bool) → d ≡ same o (take (length o) (drop 0 lo))
-          → d ≡ shows (page ls lp lo) (page (orderWithout i s) p o)
+      pub shows_outcomes : not c ≡ false → (d : Bool) → d ≡ same o (take (length o) (drop 0 lo))
+          → d ≡ shows (page ls lp lo) (page (order_without i s) p o)
       unfolding shows
-      shows-outcomes e' d is'' =
-          is'' ∙ rw (so-by-not is e, so-by-not is' e', x.fillable.judged.outcomes) (same-sym o (take slots lo))
+      shows_outcomes e' d is'' =
+          is'' ∙ rw (so_by_not is e, so_by_not is' e', x.fillable.judged.outcomes) (same_sym o (take slots lo))
 
 module _ (ls lp lo s p o : List ℕ) (x : FillablePage ls lp lo s p o) where
-  pub fill-order : length s ≤ length ls
-  fill-order = omega (arith, x.lent.order, x.judged.order)
+  pub fill_order : length s ≤ length ls
+  fill_order = omega (arith, x.lent.order, x.judged.order)
 
-  pub fill-parents : length p ≤ length lp
-  fill-parents = omega (arith, x.lent.parents, x.judged.parents)
+  pub fill_parents : length p ≤ length lp
+  fill_parents = omega (arith, x.lent.parents, x.judged.parents)
 
-  pub fill-outcomes : length o ≤ length lo
-  fill-outcomes = omega (arith, x.lent.outcomes, x.judged.outcomes)
+  pub fill_outcomes : length o ≤ length lo
+  fill_outcomes = omega (arith, x.lent.outcomes, x.judged.outcomes)
 
-  pub all-filled : (ls' lp' lo' : List ℕ) → ls' ≡ s ++ drop (length s) ls → lp' ≡ p ++ drop (length p) lp
-      → lo' ≡ o ++ drop (length o) lo → page ls' lp' lo' ≡ pageFilled (page ls lp lo) (page s p o)
-  unfolding pageFilled
-  all-filled ls' lp' lo' a b c = rw (a, b, c, x.judged.order, x.judged.parents, x.judged.outcomes)
+  pub all_filled : (ls' lp' lo' : List ℕ) → ls' ≡ s ++ drop (length s) ls → lp' ≡ p ++ drop (length p) lp
+      → lo' ≡ o ++ drop (length o) lo → page ls' lp' lo' ≡ page_filled (page ls lp lo) (page s p o)
+  unfolding page_filled
+  all_filled ls' lp' lo' a b c = rw (a, b, c, x.judged.order, x.judged.parents, x.judged.outcomes)
 
 ---- what the code of the tables needs: search tabling
 
-pub ruleset matching = (match-starts, match-there, match-fails, match-on, match-ends)
+pub ruleset matching = (match_starts, match_there, match_fails, match_on, match_ends)
 
-pub ruleset entries = (entry-fits, entry-front, entry_next, entry-next-fits, entry-last)
+pub ruleset entries = (entry_fits, entry_front, entry_next, entry_next_fits, entry_last)
 
-pub ruleset ordering = (order-starts, order-fits, order-entry, order-fails, order-on)
+pub ruleset ordering = (order_starts, order_fits, order_entry, order_fails, order_on)
 
-pub ruleset showing = (order-asks, outcomes-fit, shows-order, shows-parents, shows-outcomes)
+pub ruleset showing = (order_asks, outcomes_fit, shows_order, shows_parents, shows_outcomes)
 
-pub ruleset filling = (front-first, front-next, front-last, fill-order, fill-parents, fill-outcomes, all-filled)
+pub ruleset filling = (front_first, front_next, front_last, fill_order, fill_parents, fill_outcomes, all_filled)
 
-pub ruleset tabling = (rules, short-order, short-parents, all-long, matching, entries, ordering, showing, filling)
+pub ruleset tabling = (rules, short_order, short_parents, all_long, matching, entries, ordering, showing, filling)

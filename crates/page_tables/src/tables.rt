@@ -1,9 +1,9 @@
 ghost use Rattle.std.specs.Prelude.{◌≡◌, ◌++◌, ◌≤◌, drop, get_or, length, take};
 ghost use Rattle.lists.specs.Lists.{same};
-ghost use Rattle.page_rules.specs.Page.{pageFilled, page};
-ghost use Rattle.rules.specs.Tree.{mostOps};
+ghost use Rattle.page_rules.specs.Page.{page_filled, page};
+ghost use Rattle.rules.specs.Tree.{most_ops};
 ghost use Rattle.page_rules.specs.Page as rules;
-ghost use Rattle.page_tables.specs.Tables.{Comparable, OrderEntry, FillablePage, OrderLent, orderWithout};
+ghost use Rattle.page_tables.specs.Tables.{Comparable, OrderEntry, FillablePage, OrderLent, order_without};
 
 use oplog::{put_front, same_op};
 use schedule::OPS;
@@ -11,7 +11,7 @@ use tree::SLOTS;
 
 // Whether lent tables have room for every page.
 pub fn long_enough(order: &[u16], parents: &[u16], outcomes: &[u8]) -> bool
-    ensures { result ≡ rules.longEnough (page order.now parents.now outcomes.now) }
+    ensures { result ≡ rules.long_enough (page order.now parents.now outcomes.now) }
 {
     if order.len() < OPS {
         return false;
@@ -48,7 +48,7 @@ fn put_words(table: &mut [u16], words: &[u16])
 // Entry j of an order without the one at a place: those behind it move up, and 0 is the last.
 fn entry_without(order: &[u16], place: usize, j: usize) -> u16
     requires { OrderEntry order.now place j }
-    ensures { result ≡ get_or (orderWithout place order.now) j 0 }
+    ensures { result ≡ get_or (order_without place order.now) j 0 }
 {
     if j < place {
         return order[j];
@@ -62,7 +62,7 @@ fn entry_without(order: &[u16], place: usize, j: usize) -> u16
 // Whether a lent order is this one without the entry at a place.
 fn order_shows(lent: &[u16], order: &[u16], place: usize) -> bool
     requires { OrderLent lent.now order.now place }
-    ensures { result ≡ same (take mostOps lent.now) (orderWithout place order.now) }
+    ensures { result ≡ same (take most_ops lent.now) (order_without place order.now) }
 {
     for j in 0..OPS {
         if lent[j] != entry_without(order, place, j) {
@@ -84,7 +84,7 @@ pub fn shows(
 ) -> bool
     requires { Comparable order.now parents.now outcomes.now slots.now place tree.now results.now }
     ensures { result ≡ rules.shows (page order.now parents.now outcomes.now)
-        (page (orderWithout place slots.now) tree.now results.now) }
+        (page (order_without place slots.now) tree.now results.now) }
 {
     if !order_shows(order, slots, place) {
         return false;
@@ -107,7 +107,7 @@ pub fn fill(
 )
     requires { FillablePage order.old parents.old outcomes.old slots.now tree.now results.now }
     ensures { page order.new parents.new outcomes.new
-        ≡ pageFilled (page order.old parents.old outcomes.old)
+        ≡ page_filled (page order.old parents.old outcomes.old)
         (page slots.now tree.now results.now) }
 {
     put_words(order, slots);

@@ -1,7 +1,7 @@
 // What the program `outline` prints for an input.
 ghost use Rattle.std.specs.Prelude.{◌≡◌};
-ghost use Rattle.rules.specs.File.{emptyLog, width};
-ghost use Rattle.rules.specs.Listing.{listingOf, refusedLine};
+ghost use Rattle.rules.specs.File.{empty_log, width};
+ghost use Rattle.rules.specs.Listing.{listing_of, refused_line};
 ghost use Rattle.rules.specs.Views.{keeping};
 ghost use Rattle.codec.specs.Answers.{answer_of};
 ghost use Rattle.view.specs.Answers.{put_in};
@@ -19,7 +19,7 @@ pub const LONGEST: usize = 12 * SLOTS;
 
 // Writes the line of a refused input.
 fn refuse(out: &mut [u8]) -> Answer
-    ensures { record { answer = answer_of result; out = out.new } ≡ put_in refusedLine out.old }
+    ensures { record { answer = answer_of result; out = out.new } ≡ put_in refused_line out.old }
 {
     if out.len() < 10 {
         return Answer::Refused(Refusal::NoRoom);
@@ -39,7 +39,7 @@ fn refuse(out: &mut [u8]) -> Answer
 
 // Writes the listing of the log without ops.
 fn list_empty(out: &mut [u8]) -> Answer
-    ensures { record { answer = answer_of result; out = out.new } ≡ put_in (listingOf keeping emptyLog) out.old }
+    ensures { record { answer = answer_of result; out = out.new } ≡ put_in (listing_of keeping empty_log) out.old }
 {
     let mut empty = [0u8; 32];
     make(&mut empty);

@@ -1,7 +1,7 @@
 ghost use Rattle.std.specs.Prelude.{◌≡◌};
-ghost use Rattle.rules.specs.File.{logOf};
+ghost use Rattle.rules.specs.File.{log_of};
 ghost use Rattle.effect.specs.Effects.{tables};
-ghost use Rattle.replay.specs.Tables.{Along, appliedAlong};
+ghost use Rattle.replay.specs.Tables.{Along, applied_along};
 
 use codec::widen16;
 use effect::apply_op;
@@ -21,7 +21,7 @@ pub(crate) fn apply_along(
 )
     requires { Along width file.now order.now times.now from to parents.old outcomes.old placed.old }
     ensures { tables parents.new outcomes.new placed.new
-        ≡ appliedAlong (logOf width file.now) order.now times.now from to
+        ≡ applied_along (log_of width file.now) order.now times.now from to
         (tables parents.old outcomes.old placed.old) }
 {
     for i in from..to {

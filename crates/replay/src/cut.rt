@@ -1,8 +1,8 @@
 ghost use Rattle.std.specs.Prelude.{◌≡◌, true, ◌≤◌, length};
-ghost use Rattle.rules.specs.File.{logOf};
+ghost use Rattle.rules.specs.File.{log_of};
 ghost use Rattle.rules.specs.Log.{structural};
 ghost use Rattle.rules.specs.Tree.{slots};
-ghost use Rattle.rules.specs.Replay.{start, replay, parentsOf, outcomesOf};
+ghost use Rattle.rules.specs.Replay.{start, replay, parents_of, outcomes_of};
 ghost use Rattle.replay.specs.Tables.{ReplayableCut};
 
 use crate::along::apply_along;
@@ -32,8 +32,8 @@ fn clear_outcomes(outcomes: &mut [u8])
 // Replays the ops within a closed cut.
 pub fn replay_cut(file: &[u8], cut: [u8; 8], parents: &mut [u16], outcomes: &mut [u8], width: usize)
     requires { ReplayableCut width file.now cut parents.old outcomes.old }
-    ensures { (parents.new ≡ (replay (logOf width file.now) cut).parents)
-        × (outcomes.new ≡ (replay (logOf width file.now) cut).outcomes) }
+    ensures { (parents.new ≡ (replay (log_of width file.now) cut).parents)
+        × (outcomes.new ≡ (replay (log_of width file.now) cut).outcomes) }
 {
     let mut order = [0u16; OPS];
     let mut times = [0u16; OPS];
@@ -58,8 +58,8 @@ pub fn replay_cut(file: &[u8], cut: [u8; 8], parents: &mut [u16], outcomes: &mut
 pub fn replay_all(file: &[u8], parents: &mut [u16], outcomes: &mut [u8], width: usize)
     requires { (14 ≤ width) × (structural width file.now ≡ true)
         × (length parents.old ≡ slots) × (length outcomes.old ≡ slots) }
-    ensures { (parents.new ≡ parentsOf (logOf width file.now))
-        × (outcomes.new ≡ outcomesOf (logOf width file.now)) }
+    ensures { (parents.new ≡ parents_of (log_of width file.now))
+        × (outcomes.new ≡ outcomes_of (log_of width file.now)) }
 {
     let cut = counts_of(file, width);
     replay_cut(file, cut, parents, outcomes, width);

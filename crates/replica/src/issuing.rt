@@ -2,7 +2,7 @@ ghost use Rattle.std.specs.Prelude.{◌≡◌};
 ghost use Rattle.rules.specs.Issue.{add, remove, move};
 ghost use Rattle.rules.specs.File.{width};
 ghost use Rattle.codec.specs.Answers.{answer_of};
-ghost use Rattle.request.specs.Requests.{requestOf};
+ghost use Rattle.request.specs.Requests.{request_of};
 ghost use Rattle.rules.specs.Issue as rules;
 
 use codec::{Answer, Refusal};
@@ -13,7 +13,7 @@ use soundness::is_sound;
 // Issues what is asked for.
 fn issue(buf: &mut [u8], replica: u8, request: Request, out: &mut [u8]) -> Answer
     ensures { record { answer = answer_of result; buffer = buf.new; out = out.new }
-        ≡ rules.issue width buf.old out.old replica (requestOf request) }
+        ≡ rules.issue width buf.old out.old replica (request_of request) }
 {
     if !is_sound(buf) {
         return Answer::Refused(Refusal::Unsound);

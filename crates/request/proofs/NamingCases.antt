@@ -5,17 +5,17 @@ use Prim.Native.Nat.{ℕ}
 use lib.Dec.{eqb}
 use borrow.Author.Rules.{rules}
 use Rattle.lists.proofs.BoolLaws.{tested}
-use Rattle.rules.specs.File.{Log, countsOf}
-use Rattle.rules.specs.Issue.{add, move, requestKnown, requestUnmarked}
-use Rattle.rules.specs.Log.{knownParent}
-use Rattle.rules.specs.Marks.{isKnown, isMarked, knowledge}
+use Rattle.rules.specs.File.{Log, counts_of}
+use Rattle.rules.specs.Issue.{add, move, request_known, request_unmarked}
+use Rattle.rules.specs.Log.{known_parent}
+use Rattle.rules.specs.Marks.{is_known, is_marked, knowledge}
 use Rattle.rules.specs.Op.{Vector}
 use Rattle.rules.proofs.KnownLaws.{Known}
-use Rattle.soundness.proofs.SoundCases.{tallied-held}
-use Rattle.marks.specs.Knowing.{knowledgeOf}
+use Rattle.soundness.proofs.SoundCases.{tallied_held}
+use Rattle.marks.specs.Knowing.{knowledge_of}
 use Rattle.marks.specs.declared.knowing.Knowledge.{Knowledge}
-use Rattle.marks.proofs.MarkingCases.{fresh-marks}
-use Rattle.request.specs.Requests.{requestOf}
+use Rattle.marks.proofs.MarkingCases.{fresh_marks}
+use Rattle.request.specs.Requests.{request_of}
 use Rattle.request.specs.declared.request.Request.TheVariants.{Add, Remove, Move}
 use Rattle.request.specs.declared.request.Request as code
 use Rattle.marks.specs.declared.knowing.Knowledge.TheVariants as marks
@@ -23,79 +23,79 @@ use Rattle.marks.specs.declared.knowing.Knowledge.TheVariants as marks
 ---- number 7; v are the held counts
 
 module _ (log : Log) (q : code.Request) (r : Bool) where
-  module _ (v : Vector) (is : v ≡ countsOf log) where
-    pub add-known : (p : ℕ) → q ≡ Add p → r ≡ knownParent log v p → r ≡ requestKnown log (requestOf q)
-    unfolding requestKnown
-    add-known p e h = rw (e, ← is) h
+  module _ (v : Vector) (is : v ≡ counts_of log) where
+    pub add_known : (p : ℕ) → q ≡ Add p → r ≡ known_parent log v p → r ≡ request_known log (request_of q)
+    unfolding request_known
+    add_known p e h = rw (e, ← is) h
 
-    pub remove-known : (n : ℕ) → q ≡ Remove n → r ≡ isKnown (knowledge log v n) → r ≡ requestKnown log (requestOf q)
-    unfolding requestKnown
-    remove-known n e h = rw (e, ← is) h
+    pub remove_known : (n : ℕ) → q ≡ Remove n → r ≡ is_known (knowledge log v n) → r ≡ request_known log (request_of q)
+    unfolding request_known
+    remove_known n e h = rw (e, ← is) h
 
-  pub move-known : (n p : ℕ) → q ≡ Move n p → r ≡ requestKnown log (move n p) → r ≡ requestKnown log (requestOf q)
-  move-known n p e h = rw e h
+  pub move_known : (n p : ℕ) → q ≡ Move n p → r ≡ request_known log (move n p) → r ≡ request_known log (request_of q)
+  move_known n p e h = rw e h
 
-module _ (log : Log) (v : Vector) (is : v ≡ countsOf log) (n p : ℕ) where
-  pub node-unknown : isKnown (knowledge log v n) ≡ false → false ≡ requestKnown log (move n p)
-  unfolding requestKnown
-  node-unknown e = rw (← is, e)
+module _ (log : Log) (v : Vector) (is : v ≡ counts_of log) (n p : ℕ) where
+  pub node_unknown : is_known (knowledge log v n) ≡ false → false ≡ request_known log (move n p)
+  unfolding request_known
+  node_unknown e = rw (← is, e)
 
   module _ (a : Known log v n) where
-    pub parent-unknown : knownParent log v p ≡ false → false ≡ requestKnown log (move n p)
-    unfolding requestKnown
-    parent-unknown e = rw (← is, a, e)
+    pub parent_unknown : known_parent log v p ≡ false → false ≡ request_known log (move n p)
+    unfolding request_known
+    parent_unknown e = rw (← is, a, e)
 
-    pub both-known : knownParent log v p ≡ true → not (eqb p n) ≡ requestKnown log (move n p)
-    unfolding requestKnown
-    both-known e = rw (← is, a, e)
+    pub both_known : known_parent log v p ≡ true → not (eqb p n) ≡ request_known log (move n p)
+    unfolding request_known
+    both_known e = rw (← is, a, e)
 
 ---- number 11
 
 -- k is what the held counts know of a node
-module _ (log : Log) (v : Vector) (n : ℕ) (k : Knowledge) (is : knowledgeOf k ≡ knowledge log v n) where
-  pub work-unknown : k ≡ marks.Unknown → true ≡ not (isMarked (knowledge log v n))
-  unfolding isMarked
-  work-unknown e = rw (← is, e)
+module _ (log : Log) (v : Vector) (n : ℕ) (k : Knowledge) (is : knowledge_of k ≡ knowledge log v n) where
+  pub work_unknown : k ≡ marks.Unknown → true ≡ not (is_marked (knowledge log v n))
+  unfolding is_marked
+  work_unknown e = rw (← is, e)
 
-  pub work-unmarked : k ≡ marks.KnownUnmarked → true ≡ not (isMarked (knowledge log v n))
-  unfolding isMarked
-  work-unmarked e = rw (← is, e)
+  pub work_unmarked : k ≡ marks.KnownUnmarked → true ≡ not (is_marked (knowledge log v n))
+  unfolding is_marked
+  work_unmarked e = rw (← is, e)
 
-  pub work-marked : k ≡ marks.KnownMarked → false ≡ not (isMarked (knowledge log v n))
-  unfolding isMarked
-  work-marked e = rw (← is, e)
+  pub work_marked : k ≡ marks.KnownMarked → false ≡ not (is_marked (knowledge log v n))
+  unfolding is_marked
+  work_marked e = rw (← is, e)
 
-module _ (log : Log) (v : Vector) (is : v ≡ countsOf log) (n p : ℕ) where
-  pub add-works : (r : Bool) → r ≡ not (isMarked (knowledge log v p)) → r ≡ requestUnmarked log (add p)
-  unfolding requestUnmarked
-  add-works r e = rw (← is) e
+module _ (log : Log) (v : Vector) (is : v ≡ counts_of log) (n p : ℕ) where
+  pub add_works : (r : Bool) → r ≡ not (is_marked (knowledge log v p)) → r ≡ request_unmarked log (add p)
+  unfolding request_unmarked
+  add_works r e = rw (← is) e
 
-  pub node-marked : not (isMarked (knowledge log v n)) ≡ false → false ≡ requestUnmarked log (move n p)
-  unfolding requestUnmarked
-  node-marked e = rw (← is, e)
+  pub node_marked : not (is_marked (knowledge log v n)) ≡ false → false ≡ request_unmarked log (move n p)
+  unfolding request_unmarked
+  node_marked e = rw (← is, e)
 
-  pub move-works : not (isMarked (knowledge log v n)) ≡ true → (r : Bool) → r ≡ not (isMarked (knowledge log v p))
-      → r ≡ requestUnmarked log (move n p)
-  unfolding requestUnmarked
-  move-works e r h = rw (← is, e) h
+  pub move_works : not (is_marked (knowledge log v n)) ≡ true → (r : Bool) → r ≡ not (is_marked (knowledge log v p))
+      → r ≡ request_unmarked log (move n p)
+  unfolding request_unmarked
+  move_works e r h = rw (← is, e) h
 
 module _ (log : Log) (q : code.Request) where
-  pub remove-unmarked : (n : ℕ) → q ≡ Remove n → true ≡ requestUnmarked log (requestOf q)
-  unfolding requestUnmarked
-  remove-unmarked n e = rw e
+  pub remove_unmarked : (n : ℕ) → q ≡ Remove n → true ≡ request_unmarked log (request_of q)
+  unfolding request_unmarked
+  remove_unmarked n e = rw e
 
   module _ (r : Bool) where
-    pub add-unmarked : (p : ℕ) → q ≡ Add p → r ≡ requestUnmarked log (add p) → r ≡ requestUnmarked log (requestOf q)
-    add-unmarked p e h = rw e h
+    pub add_unmarked : (p : ℕ) → q ≡ Add p → r ≡ request_unmarked log (add p) → r ≡ request_unmarked log (request_of q)
+    add_unmarked p e h = rw e h
 
-    pub move-unmarked : (n p : ℕ) → q ≡ Move n p → r ≡ requestUnmarked log (move n p) → r ≡ requestUnmarked log (requestOf q)
-    move-unmarked n p e h = rw e h
+    pub move_unmarked : (n p : ℕ) → q ≡ Move n p → r ≡ request_unmarked log (move n p) → r ≡ request_unmarked log (request_of q)
+    move_unmarked n p e h = rw e h
 
 ---- what the code of naming needs: search naming
-pub ruleset knowing = (add-known, remove-known, move-known, node-unknown, parent-unknown, both-known)
+pub ruleset knowing = (add_known, remove_known, move_known, node_unknown, parent_unknown, both_known)
 
-pub ruleset works = (work-unknown, work-unmarked, work-marked, add-works, node-marked, move-works)
+pub ruleset works = (work_unknown, work_unmarked, work_marked, add_works, node_marked, move_works)
 
-pub ruleset unmarking = (fresh-marks, works, add-unmarked, remove-unmarked, move-unmarked)
+pub ruleset unmarking = (fresh_marks, works, add_unmarked, remove_unmarked, move_unmarked)
 
-pub ruleset naming = (rules, tested, tallied-held, knowing, unmarking)
+pub ruleset naming = (rules, tested, tallied_held, knowing, unmarking)

@@ -4,7 +4,7 @@ use Rattle.request.specs.declared.request.Request.TheVariants.{Add, Remove, Move
 use Rattle.request.specs.declared.request.Request as code
 
 -- in the rules' terms
-abbrev pub requestOf : code.Request → Request
-requestOf (Add p) = add p
-requestOf (Remove n) = remove n
-requestOf (Move n p) = move n p
+abbrev pub request_of : code.Request → Request
+request_of (Add p) = add p
+request_of (Remove n) = remove n
+request_of (Move n p) = move n p

@@ -1,11 +1,11 @@
 // The tests of what a request names: it is known (7), and what takes new work is not marked (11).
 ghost use Rattle.std.specs.Prelude.{◌≡◌, not};
-ghost use Rattle.rules.specs.Issue.{add, move, requestKnown, requestUnmarked};
-ghost use Rattle.rules.specs.Marks.{isMarked, knowledge};
-ghost use Rattle.rules.specs.File.{width, logOf};
+ghost use Rattle.rules.specs.Issue.{add, move, request_known, request_unmarked};
+ghost use Rattle.rules.specs.Marks.{is_marked, knowledge};
+ghost use Rattle.rules.specs.File.{width, log_of};
 ghost use Rattle.soundness.specs.Asked.{Tallied};
 ghost use Rattle.marks.specs.Knowing.{MarkedLog};
-ghost use Rattle.request.specs.Requests.{requestOf};
+ghost use Rattle.request.specs.Requests.{request_of};
 
 use crate::request::Request;
 use marks::{Knowledge, knowledge_of, mark_ops};
@@ -16,7 +16,7 @@ use tree::SLOTS;
 // Number 7 of a move: node and parent are known, and are not the same.
 pub fn knows_move(file: &[u8], counts: [u8; 8], node: u16, parent: u16) -> bool
     requires { Tallied file.now counts }
-    ensures { result ≡ requestKnown (logOf width file.now) (move node parent) }
+    ensures { result ≡ request_known (log_of width file.now) (move node parent) }
 {
     if !known_in(file, counts, node, WIDTH) {
         return false;
@@ -30,7 +30,7 @@ pub fn knows_move(file: &[u8], counts: [u8; 8], node: u16, parent: u16) -> bool
 // Number 7: whether what a request names is known.
 pub fn knows(file: &[u8], counts: [u8; 8], request: Request) -> bool
     requires { Tallied file.now counts }
-    ensures { result ≡ requestKnown (logOf width file.now) (requestOf request) }
+    ensures { result ≡ request_known (log_of width file.now) (request_of request) }
 {
     match request {
         Request::Add(parent) => known_parent(file, counts, parent, WIDTH),
@@ -42,7 +42,7 @@ pub fn knows(file: &[u8], counts: [u8; 8], request: Request) -> bool
 // Number 11 of a node, by the table of marks. The root is unknown as a node, and never marked.
 fn takes_work(file: &[u8], counts: [u8; 8], marks: &[u8], node: u16) -> bool
     requires { MarkedLog file.now counts marks.now }
-    ensures { result ≡ not (isMarked (knowledge (logOf width file.now) counts node)) }
+    ensures { result ≡ not (is_marked (knowledge (log_of width file.now) counts node)) }
 {
     match knowledge_of(file, counts, marks, node) {
         Knowledge::Unknown => true,
@@ -54,7 +54,7 @@ fn takes_work(file: &[u8], counts: [u8; 8], marks: &[u8], node: u16) -> bool
 // Number 11 of an add: the parent.
 fn add_unmarked(file: &[u8], counts: [u8; 8], parent: u16) -> bool
     requires { Tallied file.now counts }
-    ensures { result ≡ requestUnmarked (logOf width file.now) (add parent) }
+    ensures { result ≡ request_unmarked (log_of width file.now) (add parent) }
 {
     let mut marks = [0u8; SLOTS];
     mark_ops(file, &mut marks);
@@ -64,7 +64,7 @@ fn add_unmarked(file: &[u8], counts: [u8; 8], parent: u16) -> bool
 // Number 11 of a move by the table of marks: node and parent.
 pub fn move_takes_work(file: &[u8], counts: [u8; 8], marks: &[u8], node: u16, parent: u16) -> bool
     requires { MarkedLog file.now counts marks.now }
-    ensures { result ≡ requestUnmarked (logOf width file.now) (move node parent) }
+    ensures { result ≡ request_unmarked (log_of width file.now) (move node parent) }
 {
     if !takes_work(file, counts, marks, node) {
         return false;
@@ -75,7 +75,7 @@ pub fn move_takes_work(file: &[u8], counts: [u8; 8], marks: &[u8], node: u16, pa
 // Number 11 of a move.
 fn move_unmarked(file: &[u8], counts: [u8; 8], node: u16, parent: u16) -> bool
     requires { Tallied file.now counts }
-    ensures { result ≡ requestUnmarked (logOf width file.now) (move node parent) }
+    ensures { result ≡ request_unmarked (log_of width file.now) (move node parent) }
 {
     let mut marks = [0u8; SLOTS];
     mark_ops(file, &mut marks);
@@ -85,7 +85,7 @@ fn move_unmarked(file: &[u8], counts: [u8; 8], node: u16, parent: u16) -> bool
 // Number 11: whether what takes the work of a request is unmarked. A remove is no work.
 pub fn unmarked(file: &[u8], counts: [u8; 8], request: Request) -> bool
     requires { Tallied file.now counts }
-    ensures { result ≡ requestUnmarked (logOf width file.now) (requestOf request) }
+    ensures { result ≡ request_unmarked (log_of width file.now) (request_of request) }
 {
     match request {
         Request::Add(parent) => add_unmarked(file, counts, parent),

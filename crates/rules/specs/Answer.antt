@@ -5,7 +5,7 @@ use Rattle.std.specs.Prelude.{ℕ, Bool, true, false}
 -- number handed back: the new file end, the entries of a path, the bytes of a listing or of a bundle
 pub data Answer : Type 0 where
   refused : ℕ → Answer
-  hadIt : Answer
+  had_it : Answer
   waiting : Answer
   done : Answer
   accepted : ℕ → Answer
@@ -16,33 +16,33 @@ require true n next = next
 require false n next = refused n
 
 -- the answer to a step of a call, and what follows it: a refusal ends the call
-unfoldable pub unlessRefused : Answer → Answer → Answer
-unlessRefused (refused n) next = refused n
-unlessRefused hadIt next = next
-unlessRefused waiting next = next
-unlessRefused done next = next
-unlessRefused (accepted n) next = next
+unfoldable pub unless_refused : Answer → Answer → Answer
+unless_refused (refused n) next = refused n
+unless_refused had_it next = next
+unless_refused waiting next = next
+unless_refused done next = next
+unless_refused (accepted n) next = next
 
 -- what a call leaves behind: the new content if it was accepted, else the old
-abbrev pub ifAccepted {ℓ} : {A : Type ℓ} → Answer → A → A → A
-ifAccepted (refused n) new old = old
-ifAccepted hadIt new old = old
-ifAccepted waiting new old = old
-ifAccepted done new old = old
-ifAccepted (accepted n) new old = new
+abbrev pub if_accepted {ℓ} : {A : Type ℓ} → Answer → A → A → A
+if_accepted (refused n) new old = old
+if_accepted had_it new old = old
+if_accepted waiting new old = old
+if_accepted done new old = old
+if_accepted (accepted n) new old = new
 
 -- what judging leaves behind
-abbrev pub ifDone {ℓ} : {A : Type ℓ} → Answer → A → A → A
-ifDone (refused n) new old = old
-ifDone hadIt new old = old
-ifDone waiting new old = old
-ifDone done new old = new
-ifDone (accepted n) new old = old
+abbrev pub if_done {ℓ} : {A : Type ℓ} → Answer → A → A → A
+if_done (refused n) new old = old
+if_done had_it new old = old
+if_done waiting new old = old
+if_done done new old = new
+if_done (accepted n) new old = old
 
 -- what an op that waits leaves behind
-abbrev pub ifWaiting {ℓ} : {A : Type ℓ} → Answer → A → A → A
-ifWaiting (refused n) new old = old
-ifWaiting hadIt new old = old
-ifWaiting waiting new old = new
-ifWaiting done new old = old
-ifWaiting (accepted n) new old = old
+abbrev pub if_waiting {ℓ} : {A : Type ℓ} → Answer → A → A → A
+if_waiting (refused n) new old = old
+if_waiting had_it new old = old
+if_waiting waiting new old = new
+if_waiting done new old = old
+if_waiting (accepted n) new old = old

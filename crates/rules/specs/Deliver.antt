@@ -1,10 +1,10 @@
 -- Making an empty log, and delivering an op: what is answered, and what the buffer holds afterwards.
 use Rattle.std.specs.Prelude.{ℕ, ◌+◌, Bool, cond, List, ◌++◌, length, drop, leb, eqb}
-use Rattle.rules.specs.Answer.{Answer, hadIt, accepted, require, ifAccepted}
+use Rattle.rules.specs.Answer.{Answer, had_it, accepted, require, if_accepted}
 use Rattle.lists.specs.Lists.{same}
-use Rattle.rules.specs.Op.{Op, replicaOf, vectorOf, seqOf, counted, wellFormed}
-use Rattle.rules.specs.File.{Log, emptyLog, opAt, countsOf, fileEnd, logOf, fileOf, appended}
-use Rattle.rules.specs.Log.{covered, closed, namesKnown}
+use Rattle.rules.specs.Op.{Op, replica_of, vector_of, seq_of, counted, well_formed}
+use Rattle.rules.specs.File.{Log, empty_log, op_at, counts_of, file_end, log_of, file_of, appended}
+use Rattle.rules.specs.Log.{covered, closed, names_known}
 use Rattle.rules.specs.Sound.{sound}
 
 -- a call's answer, and the lent buffer after it
@@ -14,41 +14,41 @@ pub record Result : Type 0 where
 
 ---- making: test 8 alone; eight zero counts and eight starts of 32 in the first 32 bytes
 
-unfoldable pub makeAnswer : List ℕ → Answer
-makeAnswer f = require (leb 32 (length f)) 8 (accepted 32)
+unfoldable pub make_answer : List ℕ → Answer
+make_answer f = require (leb 32 (length f)) 8 (accepted 32)
 
-unfoldable pub makeBuffer : ℕ → List ℕ → List ℕ
-makeBuffer w f = ifAccepted (makeAnswer f) (fileOf w emptyLog ++ drop 32 f) f
+unfoldable pub make_buffer : ℕ → List ℕ → List ℕ
+make_buffer w f = if_accepted (make_answer f) (file_of w empty_log ++ drop 32 f) f
 
 abbrev pub make : ℕ → List ℕ → Result
-make w f = record { answer = makeAnswer f; buffer = makeBuffer w f }
+make w f = record { answer = make_answer f; buffer = make_buffer w f }
 
 ---- delivering: tests 1, 2, 3, then whether the sequence is held already, then 5, 6, 7, 8
 
 -- the log has an op of this replica and sequence
 unfoldable pub is_held : Log → Op → Bool
-is_held log r = counted (countsOf log) r
+is_held log r = counted (counts_of log) r
 
 -- "same bytes: answer had it; else 4"
-unfoldable pub heldAnswer : Log → Op → Answer
-heldAnswer log r = require (same r (opAt log (replicaOf r) (seqOf r))) 4 hadIt
+unfoldable pub held_answer : Log → Op → Answer
+held_answer log r = require (same r (op_at log (replica_of r) (seq_of r))) 4 had_it
 
 -- the tests of an op that is not held
-unfoldable pub admitAnswer : ℕ → List ℕ → Op → Answer
-admitAnswer w f r =
-    require (covered (logOf w f) (vectorOf r)) 5
-    (require (closed (logOf w f) (vectorOf r)) 6
-    (require (namesKnown (logOf w f) r) 7
-    (require (leb (fileEnd w f + w) (length f)) 8 (accepted (fileEnd w f + w)))))
+unfoldable pub admit_answer : ℕ → List ℕ → Op → Answer
+admit_answer w f r =
+    require (covered (log_of w f) (vector_of r)) 5
+    (require (closed (log_of w f) (vector_of r)) 6
+    (require (names_known (log_of w f) r) 7
+    (require (leb (file_end w f + w) (length f)) 8 (accepted (file_end w f + w)))))
 
-unfoldable pub deliverAnswer : ℕ → List ℕ → List ℕ → Answer
-deliverAnswer w f r =
+unfoldable pub deliver_answer : ℕ → List ℕ → List ℕ → Answer
+deliver_answer w f r =
     require (sound w f) 1
     (require (eqb (length r) w) 2
-    (require (wellFormed r) 3 (cond (is_held (logOf w f) r) (heldAnswer (logOf w f) r) (admitAnswer w f r))))
+    (require (well_formed r) 3 (cond (is_held (log_of w f) r) (held_answer (log_of w f) r) (admit_answer w f r))))
 
-unfoldable pub deliverBuffer : ℕ → List ℕ → List ℕ → List ℕ
-deliverBuffer w f r = ifAccepted (deliverAnswer w f r) (appended w f r) f
+unfoldable pub deliver_buffer : ℕ → List ℕ → List ℕ → List ℕ
+deliver_buffer w f r = if_accepted (deliver_answer w f r) (appended w f r) f
 
 abbrev pub deliver : ℕ → List ℕ → List ℕ → Result
-deliver w f r = record { answer = deliverAnswer w f r; buffer = deliverBuffer w f r }
+deliver w f r = record { answer = deliver_answer w f r; buffer = deliver_buffer w f r }

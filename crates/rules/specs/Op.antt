@@ -15,19 +15,19 @@ Vector = List ℕ
 unfoldable pub replicas : List ℕ
 replicas = up_from 1 8
 
-unfoldable pub isReplica : ℕ → Bool
-isReplica s = leb 1 s && leb s 8
+unfoldable pub is_replica : ℕ → Bool
+is_replica s = leb 1 s && leb s 8
 
 -- the count of replica s in a vector
-unfoldable pub countIn : Vector → ℕ → ℕ
-countIn v s = get_or v (s - 1) 0
+unfoldable pub count_in : Vector → ℕ → ℕ
+count_in v s = get_or v (s - 1) 0
 
 -- the fields; kind 1 is an add, 2 a remove, 3 an upward move, 4 a downward move
 unfoldable pub kind_of : Op → ℕ
 kind_of r = byte r 0
 
-unfoldable pub replicaOf : Op → ℕ
-replicaOf r = byte r 1
+unfoldable pub replica_of : Op → ℕ
+replica_of r = byte r 1
 
 unfoldable pub node_of : Op → ℕ
 node_of r = word_at r 2
@@ -35,38 +35,38 @@ node_of r = word_at r 2
 unfoldable pub parent_of : Op → ℕ
 parent_of r = word_at r 4
 
-unfoldable pub vectorOf : Op → Vector
-vectorOf r = take 8 (drop 6 r)
+unfoldable pub vector_of : Op → Vector
+vector_of r = take 8 (drop 6 r)
 
 -- the origin's own count in its vector; the sequence, which is not written, is one more
-unfoldable pub ownCount : Op → ℕ
-ownCount r = countIn (vectorOf r) (replicaOf r)
+unfoldable pub own_count : Op → ℕ
+own_count r = count_in (vector_of r) (replica_of r)
 
-unfoldable pub seqOf : Op → ℕ
-seqOf r = ownCount r + 1
+unfoldable pub seq_of : Op → ℕ
+seq_of r = own_count r + 1
 
 -- a vector counts an op
 abbrev pub counted : Vector → Op → Bool
-counted v r = leb (seqOf r) (countIn v (replicaOf r))
+counted v r = leb (seq_of r) (count_in v (replica_of r))
 
 -- the node that replica s's op q makes, if it is an add: 256 x seat + sequence
-unfoldable pub nodeNumber : ℕ → ℕ → ℕ
-nodeNumber s q = 256 * s + q
+unfoldable pub node_number : ℕ → ℕ → ℕ
+node_number s q = 256 * s + q
 
-unfoldable pub isAdd : Op → Bool
-isAdd r = eqb (kind_of r) 1
+unfoldable pub is_add : Op → Bool
+is_add r = eqb (kind_of r) 1
 
-unfoldable pub isRemove : Op → Bool
-isRemove r = eqb (kind_of r) 2
+unfoldable pub is_remove : Op → Bool
+is_remove r = eqb (kind_of r) 2
 
 -- a move, upward or downward
 unfoldable pub is_move : Op → Bool
 is_move r = eqb (kind_of r) 3 || eqb (kind_of r) 4
 
 -- number 3: replica 1 to 8, kind 1 to 4, own count below 255, and a remove has parent 0
-unfoldable pub wellFormed : Op → Bool
-wellFormed r =
-    isReplica (replicaOf r)
+unfoldable pub well_formed : Op → Bool
+well_formed r =
+    is_replica (replica_of r)
     && (leb 1 (kind_of r) && leb (kind_of r) 4)
-    && ltb (ownCount r) 255
-    && (not (isRemove r) || eqb (parent_of r) 0)
+    && ltb (own_count r) 255
+    && (not (is_remove r) || eqb (parent_of r) 0)

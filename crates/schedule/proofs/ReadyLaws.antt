@@ -10,51 +10,51 @@ use borrow.Author.Tests.{lt-ltb, le-ltb, eq-eqb, ne_eqb}
 use borrow.Author.Rules.{rules, Fits-under}
 use mir.Syntax.{w8}
 use mir.Val.{Fits}
-use Rattle.rules.specs.Op.{countIn, vectorOf, Vector}
-use Rattle.rules.specs.File.{opAt, Log, logOf, within}
+use Rattle.rules.specs.Op.{count_in, vector_of, Vector}
+use Rattle.rules.specs.File.{op_at, Log, log_of, within}
 use Rattle.rules.proofs.FileLaws.{count_map}
-use Rattle.vector.proofs.VectorLaws.{count_of, Built, build-none, build-more, build-all}
+use Rattle.vector.proofs.VectorLaws.{count_of, Built, build_none, build_more, build_all}
 use Rattle.oplog.specs.Places.{Held, InFile, place_of}
-use Rattle.oplog.proofs.FieldLaws.{in-file-of, fields_at}
-use Rattle.order.specs.Levels.{advanced, advancedAt, next_at, readyOps, ready}
+use Rattle.oplog.proofs.FieldLaws.{in_file_of, fields_at}
+use Rattle.order.specs.Levels.{advanced, advanced_at, next_at, ready_ops, ready}
 use Rattle.schedule.specs.Level.{HeldAt, later}
 use Rattle.oplog.proofs.HeldLaws.{count_small}
 
 ---- the next op of a replica
 
 module _ (log : Log) (cut done : Vector) (s : ℕ) where
-  pub next-none : get_or cut (s - 1) 0 ≤ get_or done (s - 1) 0 → 0 ≡ next_at log cut done s
-  unfolding next_at ready countIn
-  next-none h = rw (le-ltb (get_or done (s - 1) 0) (get_or cut (s - 1) 0) h)
+  pub next_none : get_or cut (s - 1) 0 ≤ get_or done (s - 1) 0 → 0 ≡ next_at log cut done s
+  unfolding next_at ready count_in
+  next_none h = rw (le-ltb (get_or done (s - 1) 0) (get_or cut (s - 1) 0) h)
 
-  next-some : get_or done (s - 1) 0 < get_or cut (s - 1) 0
-      → next_at log cut done s ≡ cond (within (vectorOf (opAt log s (get_or done (s - 1) 0 + 1))) done) (get_or done (s - 1) 0 + 1) 0
-  unfolding next_at ready countIn
-  next-some h = rw (lt-ltb (get_or done (s - 1) 0) (get_or cut (s - 1) 0) h)
+  next_some : get_or done (s - 1) 0 < get_or cut (s - 1) 0
+      → next_at log cut done s ≡ cond (within (vector_of (op_at log s (get_or done (s - 1) 0 + 1))) done) (get_or done (s - 1) 0 + 1) 0
+  unfolding next_at ready count_in
+  next_some h = rw (lt-ltb (get_or done (s - 1) 0) (get_or cut (s - 1) 0) h)
 
 -- n ops of the replica are done, and the cut has more
 module _ (w : ℕ) (f : List ℕ) (cut : Vector) (s : ℕ) (x : HeldAt w f cut s) (n : ℕ) (h : n < get_or cut (s - 1) 0) where
   pub next_fits : Fits w8 (n + 1)
-  unfolding countIn
+  unfolding count_in
   next_fits =
       let b : get_or cut (s - 1) 0 ≤ 255 = count_small w f cut x.held s x.replica.low x.replica.high in
       Fits-under w8 (n + 1) 256 (omega arith) tt
 
   module _ (q : ℕ) (is : q ≡ n + 1) where
-    pub next-in-file : InFile w f s q
-    unfolding countIn
-    next-in-file = in-file-of w f cut x.held s q x.replica.low x.replica.high (omega arith) (omega arith)
+    pub next_in_file : InFile w f s q
+    unfolding count_in
+    next_in_file = in_file_of w f cut x.held s q x.replica.low x.replica.high (omega arith) (omega arith)
 
-    module _ (at : ℕ) (e : at ≡ place_of w f s q) (v : Vector) (hv : v ≡ vectorOf (drop at f)) where
-      vector-so : v ≡ vectorOf (opAt (logOf w f) s (n + 1))
-      vector-so = hv ∙ sym (fields_at w f s q next-in-file at e).vector ∙ ap (λ (k : ℕ). vectorOf (opAt (logOf w f) s k)) is
+    module _ (at : ℕ) (e : at ≡ place_of w f s q) (v : Vector) (hv : v ≡ vector_of (drop at f)) where
+      vector_so : v ≡ vector_of (op_at (log_of w f) s (n + 1))
+      vector_so = hv ∙ sym (fields_at w f s q next_in_file at e).vector ∙ ap (λ (k : ℕ). vector_of (op_at (log_of w f) s k)) is
 
       module _ (done : Vector) (b : Bool) (hb : b ≡ within v done) (hn : n ≡ get_or done (s - 1) 0) where
-        pub next-ready : b ≡ true → n + 1 ≡ next_at (logOf w f) cut done s
-        next-ready t = sym (next-some (logOf w f) cut done s (omega arith) ∙ rw (← hn, ← vector-so, ← hb, t))
+        pub next_ready : b ≡ true → n + 1 ≡ next_at (log_of w f) cut done s
+        next_ready t = sym (next_some (log_of w f) cut done s (omega arith) ∙ rw (← hn, ← vector_so, ← hb, t))
 
-        pub next-waits : b ≡ false → 0 ≡ next_at (logOf w f) cut done s
-        next-waits t = sym (next-some (logOf w f) cut done s (omega arith) ∙ rw (← hn, ← vector-so, ← hb, t))
+        pub next_waits : b ≡ false → 0 ≡ next_at (log_of w f) cut done s
+        next_waits t = sym (next_some (log_of w f) cut done s (omega arith) ∙ rw (← hn, ← vector_so, ← hb, t))
 
 -- a replica of the loop
 pub held_at : (w : ℕ) (f : List ℕ) (v : Vector) (i : ℕ) → Held w f v → i < 8 → HeldAt w f v (i + 1)
@@ -63,39 +63,39 @@ held_at w f v i c h = record { held = c; replica = record { low = omega arith; h
 ---- the numbers of all replicas
 
 module _ (log : Log) (cut done v : Vector) where
-  pub nexts-all : (i : ℕ) → Built (next_at log cut done) v i → 8 ≤ i → v ≡ readyOps log cut done
-  unfolding readyOps
-  nexts-all i b h = build-all (next_at log cut done) v i b h
+  pub nexts_all : (i : ℕ) → Built (next_at log cut done) v i → 8 ≤ i → v ≡ ready_ops log cut done
+  unfolding ready_ops
+  nexts_all i b h = build_all (next_at log cut done) v i b h
 
 module _ (done next v : Vector) where
-  pub advance-more : (i x : ℕ) → Built (advancedAt done next) v i → i < 8 → x ≡ later (get_or done i 0) (get_or next i 0)
-      → Built (advancedAt done next) (set v i x) (i + 1)
-  unfolding later advancedAt
-  advance-more i x b h e = build-more (advancedAt done next) v i x b h (e ∙ rw (count_of done, count_of next))
+  pub advance_more : (i x : ℕ) → Built (advanced_at done next) v i → i < 8 → x ≡ later (get_or done i 0) (get_or next i 0)
+      → Built (advanced_at done next) (set v i x) (i + 1)
+  unfolding later advanced_at
+  advance_more i x b h e = build_more (advanced_at done next) v i x b h (e ∙ rw (count_of done, count_of next))
 
-  pub advance-all : (i : ℕ) → Built (advancedAt done next) v i → 8 ≤ i → v ≡ advanced done next
+  pub advance_all : (i : ℕ) → Built (advanced_at done next) v i → 8 ≤ i → v ≡ advanced done next
   unfolding advanced
-  advance-all i b h = build-all (advancedAt done next) v i b h
+  advance_all i b h = build_all (advanced_at done next) v i b h
 
 module _ (old new : ℕ) where
-  pub later-old : new ≡ 0 → old ≡ later old new
+  pub later_old : new ≡ 0 → old ≡ later old new
   unfolding later
-  later-old e = rw (eq-eqb new 0 e)
+  later_old e = rw (eq-eqb new 0 e)
 
-  pub later-new : (new ≡ 0 → ⊥) → new ≡ later old new
+  pub later_new : (new ≡ 0 → ⊥) → new ≡ later old new
   unfolding later
-  later-new e = rw (ne_eqb new 0 e)
+  later_new e = rw (ne_eqb new 0 e)
 
 -- a file that holds a cut holds what is ready
-pub next-held : (w : ℕ) (f : List ℕ) (cut done : Vector) → Held w f cut → Held w f (readyOps (logOf w f) cut done)
-unfolding readyOps countIn
-next-held w f cut done h = record {
+pub next_held : (w : ℕ) (f : List ℕ) (cut done : Vector) → Held w f cut → Held w f (ready_ops (log_of w f) cut done)
+unfolding ready_ops count_in
+next_held w f cut done h = record {
   wide = h.wide;
-  is-laid = h.is-laid;
-  each = λ s l u. rw (count_map (next_at (logOf w f) cut done) s l u) (elim (dec_lt (countIn done s) (countIn cut s)) [
-    | yes y ↦ rw (next-some (logOf w f) cut done s y) (go (within (vectorOf (opAt (logOf w f) s (countIn done s + 1))) done)
+  is_laid = h.is_laid;
+  each = λ s l u. rw (count_map (next_at (log_of w f) cut done) s l u) (elim (dec_lt (count_in done s) (count_in cut s)) [
+    | yes y ↦ rw (next_some (log_of w f) cut done s y) (go (within (vector_of (op_at (log_of w f) s (count_in done s + 1))) done)
         (omega (arith, h.each s l u)))
-    | no n ↦ rw (← next-none (logOf w f) cut done s (omega arith)) (omega arith)
+    | no n ↦ rw (← next_none (log_of w f) cut done s (omega arith)) (omega arith)
   ]);
 }
   where
@@ -105,8 +105,8 @@ next-held w f cut done h = record {
 
 ---- what the code of the ops that are ready needs: search readies
 
-pub ruleset nexts = (next-none, next_fits, next-in-file, next-ready, next-waits, held_at, nexts-all)
+pub ruleset nexts = (next_none, next_fits, next_in_file, next_ready, next_waits, held_at, nexts_all)
 
-pub ruleset advances = (advance-more, advance-all, later-old, later-new)
+pub ruleset advances = (advance_more, advance_all, later_old, later_new)
 
-pub ruleset readies = (rules, build-none, build-more, nexts, advances)
+pub ruleset readies = (rules, build_none, build_more, nexts, advances)

@@ -1,10 +1,10 @@
 -- The ops of a level, as the code has them, and what its functions ask.
 use Rattle.std.specs.Prelude.{ℕ, ◌+◌, ◌≤◌, ◌<◌, ◌≡◌, true, cond, ◌&&◌, List, [], ◌∷◌, map, length, leb, eqb}
-use Rattle.lists.specs.Lists.{concat, up_from, downFrom}
-use Rattle.rules.specs.Op.{Vector, replicas, countIn, kind_of}
-use Rattle.rules.specs.File.{Log, logOf, opAt}
+use Rattle.lists.specs.Lists.{concat, up_from, down_from}
+use Rattle.rules.specs.Op.{Vector, replicas, count_in, kind_of}
+use Rattle.rules.specs.File.{Log, log_of, op_at}
 use Rattle.rules.specs.Log.{structural, closed}
-use Rattle.rules.specs.Tree.{slot, mostOps}
+use Rattle.rules.specs.Tree.{slot, most_ops}
 use Rattle.oplog.specs.Places.{Held}
 use Rattle.schedule.specs.Schedule.{Entry}
 
@@ -20,20 +20,20 @@ class_of k = cond (leb 1 k && leb k 4) k 0
 
 -- the class of the op of replica s that is ready; 0 if none is
 unfoldable pub class_at : Log → Vector → ℕ → ℕ
-class_at log next s = cond (eqb (countIn next s) 0) 0 (class_of (kind_of (opAt log s (countIn next s))))
+class_at log next s = cond (eqb (count_in next s) 0) 0 (class_of (kind_of (op_at log s (count_in next s))))
 
-unfoldable pub classesOf : Log → Vector → Vector
-classesOf log next = map (class_at log next) replicas
+unfoldable pub classes_of : Log → Vector → Vector
+classes_of log next = map (class_at log next) replicas
 
 -- the entries of a level: of a class and a replica; of a class; all
-unfoldable pub dueEntry : (classes next : Vector) (time class s : ℕ) → List Entry
-dueEntry classes next t k s = cond (eqb (countIn classes s) k) (record { slot = slot s (countIn next s); time = t } ∷ []) []
+unfoldable pub due_entry : (classes next : Vector) (time class s : ℕ) → List Entry
+due_entry classes next t k s = cond (eqb (count_in classes s) k) (record { slot = slot s (count_in next s); time = t } ∷ []) []
 
-unfoldable pub classEntries : (classes next : Vector) (time class : ℕ) → List Entry
-classEntries classes next t k = concat (map (dueEntry classes next t k) (downFrom 8))
+unfoldable pub class_entries : (classes next : Vector) (time class : ℕ) → List Entry
+class_entries classes next t k = concat (map (due_entry classes next t k) (down_from 8))
 
-unfoldable pub levelEntries : (classes next : Vector) (time : ℕ) → List Entry
-levelEntries classes next t = concat (map (classEntries classes next t) (up_from 1 4))
+unfoldable pub level_entries : (classes next : Vector) (time : ℕ) → List Entry
+level_entries classes next t = concat (map (class_entries classes next t) (up_from 1 4))
 
 ---- what the functions ask
 
@@ -49,21 +49,21 @@ pub record HeldAt (w : ℕ) (f : List ℕ) (v : Vector) (s : ℕ) : Type 0 where
 -- no replica above a number has an op of a class; none below it
 pub record Top (classes : Vector) (high : ℕ) : Type 0 where
   pub most : high ≤ 8
-  pub above : (s : ℕ) → high < s → s ≤ 8 → countIn classes s ≡ 0
+  pub above : (s : ℕ) → high < s → s ≤ 8 → count_in classes s ≡ 0
 
 pub record Bottom (classes : Vector) (low : ℕ) : Type 0 where
   pub least : 1 ≤ low
   pub most : low ≤ 9
-  pub below : (s : ℕ) → 1 ≤ s → s < low → countIn classes s ≡ 0
+  pub below : (s : ℕ) → 1 ≤ s → s < low → count_in classes s ≡ 0
 
 -- and that replica itself has one, if it is a replica
 pub record Highest (classes : Vector) (high : ℕ) : Type 0 where
   pub top : Top classes high
-  pub some : 1 ≤ high → 1 ≤ countIn classes high
+  pub some : 1 ≤ high → 1 ≤ count_in classes high
 
 pub record Lowest (classes : Vector) (low : ℕ) : Type 0 where
   pub bottom : Bottom classes low
-  pub some : low ≤ 8 → 1 ≤ countIn classes low
+  pub some : low ≤ 8 → 1 ≤ count_in classes low
 
 -- both tables have room for more entries behind the first n
 pub record Room (o t : List ℕ) (n : ℕ) (es : List Entry) : Type 0 where
@@ -72,18 +72,18 @@ pub record Room (o t : List ℕ) (n : ℕ) (es : List Entry) : Type 0 where
 
 pub record RoomAt (classes next : Vector) (time class s : ℕ) (o t : List ℕ) (n : ℕ) : Type 0 where
   pub replica : IsReplica s
-  pub room : Room o t n (dueEntry classes next time class s)
+  pub room : Room o t n (due_entry classes next time class s)
 
 pub record RoomIn (classes next : Vector) (high low time class : ℕ) (o t : List ℕ) (n : ℕ) : Type 0 where
   pub top : Top classes high
   pub bottom : Bottom classes low
   pub some : 1 ≤ class
-  pub room : Room o t n (classEntries classes next time class)
+  pub room : Room o t n (class_entries classes next time class)
 
 -- a closed cut of a structurally sound file, and tables for all ops that a log can have
 pub record SchedulableCut (w : ℕ) (f : List ℕ) (cut : Vector) (o t : List ℕ) : Type 0 where
-  pub is-structural : structural w f ≡ true
+  pub is_structural : structural w f ≡ true
   pub held : Held w f cut
-  pub is-closed : closed (logOf w f) cut ≡ true
-  pub order : length o ≡ mostOps
-  pub times : length t ≡ mostOps
+  pub is_closed : closed (log_of w f) cut ≡ true
+  pub order : length o ≡ most_ops
+  pub times : length t ≡ most_ops

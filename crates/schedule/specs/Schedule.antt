@@ -2,7 +2,7 @@
 use Rattle.std.specs.Prelude.{ℕ, ◌+◌, List, ◌++◌, map, length, drop, set}
 use Rattle.rules.specs.Op.{Vector}
 use Rattle.rules.specs.File.{Log}
-use Rattle.rules.specs.Replay.{Stamped, outcomeSlot, ordered, order_of}
+use Rattle.rules.specs.Replay.{Stamped, outcome_slot, ordered, order_of}
 
 -- an op, by its slot and its timestamp
 pub record Entry : Type 0 where
@@ -10,7 +10,7 @@ pub record Entry : Type 0 where
   pub time : ℕ
 
 unfoldable pub entry_of : Stamped → Entry
-entry_of x = record { slot = outcomeSlot x.op; time = x.time }
+entry_of x = record { slot = outcome_slot x.op; time = x.time }
 
 -- both tables, and how many of their entries are written
 pub record Schedule : Type 0 where

@@ -1,7 +1,7 @@
 ghost use Rattle.std.specs.Prelude.{◌≡◌};
-ghost use Rattle.rules.specs.File.{logOf};
+ghost use Rattle.rules.specs.File.{log_of};
 ghost use Rattle.oplog.specs.Places.{Held};
-ghost use Rattle.schedule.specs.Level.{HeldAt, Highest, Lowest, class_of, class_at, classesOf};
+ghost use Rattle.schedule.specs.Level.{HeldAt, Highest, Lowest, class_of, class_at, classes_of};
 
 use codec::{kind_at, widen};
 use oplog::place;
@@ -33,7 +33,7 @@ fn class_of(kind: u8) -> u8
 // The class of the op of a replica that is ready, or 0.
 fn class_at(file: &[u8], next: [u8; 8], s: usize, width: usize) -> u8
     requires { HeldAt width file.now next s }
-    ensures { result ≡ class_at (logOf width file.now) next s }
+    ensures { result ≡ class_at (log_of width file.now) next s }
 {
     let q = widen(next[s - 1]);
     if q == 0 {
@@ -46,7 +46,7 @@ fn class_at(file: &[u8], next: [u8; 8], s: usize, width: usize) -> u8
 // The class of each replica's op that is ready, or 0.
 pub fn classes_of(file: &[u8], next: [u8; 8], width: usize) -> [u8; 8]
     requires { Held width file.now next }
-    ensures { result ≡ classesOf (logOf width file.now) next }
+    ensures { result ≡ classes_of (log_of width file.now) next }
 {
     let mut classes = [0u8; 8];
     for i in 0..8 {

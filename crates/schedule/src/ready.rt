@@ -1,7 +1,7 @@
 ghost use Rattle.std.specs.Prelude.{◌≡◌};
-ghost use Rattle.rules.specs.File.{logOf};
+ghost use Rattle.rules.specs.File.{log_of};
 ghost use Rattle.oplog.specs.Places.{Held};
-ghost use Rattle.order.specs.Levels.{next_at, readyOps, advanced};
+ghost use Rattle.order.specs.Levels.{next_at, ready_ops, advanced};
 ghost use Rattle.schedule.specs.Level.{HeldAt, later};
 
 use codec::{vector_at, widen};
@@ -12,7 +12,7 @@ use vector::within;
 // else 0.
 fn next_op(file: &[u8], cut: [u8; 8], done: [u8; 8], s: usize, width: usize) -> u8
     requires { HeldAt width file.now cut s }
-    ensures { result ≡ next_at (logOf width file.now) cut done s }
+    ensures { result ≡ next_at (log_of width file.now) cut done s }
 {
     let held = done[s - 1];
     if cut[s - 1] <= held {
@@ -29,7 +29,7 @@ fn next_op(file: &[u8], cut: [u8; 8], done: [u8; 8], s: usize, width: usize) -> 
 // The number of each replica's op that is ready, or 0.
 pub fn next_ops(file: &[u8], cut: [u8; 8], done: [u8; 8], width: usize) -> [u8; 8]
     requires { Held width file.now cut }
-    ensures { result ≡ readyOps (logOf width file.now) cut done }
+    ensures { result ≡ ready_ops (log_of width file.now) cut done }
 {
     let mut next = [0u8; 8];
     for i in 0..8 {

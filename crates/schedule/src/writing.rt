@@ -1,9 +1,9 @@
 ghost use Rattle.std.specs.Prelude.{◌≡◌};
 ghost use mathlib.Core.List.{foldl};
-ghost use Rattle.rules.specs.File.{logOf};
+ghost use Rattle.rules.specs.File.{log_of};
 ghost use Rattle.rules.specs.Tree.{slot};
 ghost use Rattle.schedule.specs.Schedule.{schedule, put, scheduled};
-ghost use Rattle.schedule.specs.Level.{IsReplica, Room, RoomAt, RoomIn, dueEntry, classEntries, levelEntries, SchedulableCut};
+ghost use Rattle.schedule.specs.Level.{IsReplica, Room, RoomAt, RoomIn, due_entry, class_entries, level_entries, SchedulableCut};
 
 use crate::level::{classes_of, highest, lowest};
 use crate::ready::{advance, next_ops};
@@ -35,7 +35,7 @@ fn write_due(
 ) -> usize
     requires { RoomAt classes next time class s order.old times.old n }
     ensures { schedule order.new times.new result
-        ≡ foldl put (schedule order.old times.old n) (dueEntry classes next time class s) }
+        ≡ foldl put (schedule order.old times.old n) (due_entry classes next time class s) }
 {
     if classes[s - 1] != class {
         return n;
@@ -59,7 +59,7 @@ fn write_class(
 ) -> usize
     requires { RoomIn classes next high low time class order.old times.old n }
     ensures { schedule order.new times.new result
-        ≡ foldl put (schedule order.old times.old n) (classEntries classes next time class) }
+        ≡ foldl put (schedule order.old times.old n) (class_entries classes next time class) }
 {
     let from = 8 - high;
     let to = 9 - low;
@@ -80,9 +80,9 @@ fn write_level(
     times: &mut [u16],
     n: usize,
 ) -> usize
-    requires { Room order.old times.old n (levelEntries classes next time) }
+    requires { Room order.old times.old n (level_entries classes next time) }
     ensures { schedule order.new times.new result
-        ≡ foldl put (schedule order.old times.old n) (levelEntries classes next time) }
+        ≡ foldl put (schedule order.old times.old n) (level_entries classes next time) }
 {
     let high = highest(classes);
     let low = lowest(classes);
@@ -107,7 +107,7 @@ pub fn write_order(
 ) -> usize
     requires { SchedulableCut width file.now cut order.old times.old }
     ensures { schedule order.new times.new result
-        ≡ scheduled (logOf width file.now) cut order.old times.old }
+        ≡ scheduled (log_of width file.now) cut order.old times.old }
 {
     let mut done = [0u8; 8];
     let mut count = 0;

@@ -1,6 +1,6 @@
 ghost use Rattle.std.specs.Prelude.{◌≡◌};
 ghost use Rattle.rules.specs.File.{width};
-ghost use Rattle.rules.specs.Measure.{endAnswer, countsCall};
+ghost use Rattle.rules.specs.Measure.{end_answer, counts_call};
 ghost use Rattle.codec.specs.Answers.{answer_of};
 
 use crate::check::{WIDTH, is_sound};
@@ -9,7 +9,7 @@ use oplog::{counts_of, end_of, put_front};
 
 // Where the file of the log in a buffer ends.
 pub fn file_end(file: &[u8]) -> Answer
-    ensures { answer_of result ≡ endAnswer width file.now }
+    ensures { answer_of result ≡ end_answer width file.now }
 {
     if !is_sound(file) {
         return Answer::Refused(Refusal::Unsound);
@@ -19,7 +19,7 @@ pub fn file_end(file: &[u8]) -> Answer
 
 // Puts the held counts, one for each replica, into lent bytes.
 pub fn held_counts(file: &[u8], out: &mut [u8]) -> Answer
-    ensures { record { answer = answer_of result; out = out.new } ≡ countsCall width file.now out.old }
+    ensures { record { answer = answer_of result; out = out.new } ≡ counts_call width file.now out.old }
 {
     if !is_sound(file) {
         return Answer::Refused(Refusal::Unsound);

@@ -1,11 +1,11 @@
 // Tests 5 and 6: whether a vector is within the held counts, and closed. Along a replica vectors
 // rise, so only counts that have changed since the vector of its op before are looked up.
 ghost use Rattle.std.specs.Prelude.{◌≡◌, ◌≤◌, ◌<◌};
-ghost use Rattle.rules.specs.File.{logOf};
-ghost use Rattle.rules.specs.Log.{closedAt, closed};
-ghost use Rattle.rules.specs.Op.{countIn};
+ghost use Rattle.rules.specs.File.{log_of};
+ghost use Rattle.rules.specs.Log.{closed_at, closed};
+ghost use Rattle.rules.specs.Op.{count_in};
 ghost use Rattle.oplog.specs.Places.{Held};
-ghost use Rattle.structure.specs.Tests.{OpHere, vectorBy, ownAlone, changeClosed, changesClosed, risen};
+ghost use Rattle.structure.specs.Tests.{OpHere, vector_by, own_alone, change_closed, changes_closed, risen};
 
 use codec::{vector_at, widen};
 use oplog::place;
@@ -14,7 +14,7 @@ use vector::{is_step, within};
 // Whether a vector counts all that the last op that it counts of a replica has seen.
 fn closed_at(file: &[u8], v: [u8; 8], s: usize, width: usize) -> bool
     requires { Held width file.now v × (1 ≤ s) × (s ≤ 8) }
-    ensures { result ≡ closedAt (logOf width file.now) v s }
+    ensures { result ≡ closed_at (log_of width file.now) v s }
 {
     let k = widen(v[s - 1]);
     if k == 0 {
@@ -27,8 +27,8 @@ fn closed_at(file: &[u8], v: [u8; 8], s: usize, width: usize) -> bool
 // Whether only the own count has changed since the vector before, by one. Then the vector is closed
 // and within the held counts, as the one before was.
 fn own_alone(before: [u8; 8], v: [u8; 8], s: usize, q: usize) -> bool
-    requires { (1 ≤ s) × (s ≤ 8) × (countIn before s < 255) }
-    ensures { result ≡ ownAlone before v s q }
+    requires { (1 ≤ s) × (s ≤ 8) × (count_in before s < 255) }
+    ensures { result ≡ own_alone before v s q }
 {
     if q < 2 {
         return false;
@@ -47,7 +47,7 @@ fn change_closed(
     width: usize,
 ) -> bool
     requires { Held width file.now v × (1 ≤ s) × (s ≤ 8) }
-    ensures { result ≡ changeClosed (logOf width file.now) before v own s }
+    ensures { result ≡ change_closed (log_of width file.now) before v own s }
 {
     if s == own {
         return true;
@@ -61,7 +61,7 @@ fn change_closed(
 // Whether a vector is closed at every other replica's count that has changed.
 fn changes_closed(file: &[u8], before: [u8; 8], v: [u8; 8], own: usize, width: usize) -> bool
     requires { Held width file.now v }
-    ensures { result ≡ changesClosed (logOf width file.now) before v own }
+    ensures { result ≡ changes_closed (log_of width file.now) before v own }
 {
     for i in 0..8usize {
         if !change_closed(file, before, v, own, i + 1, width) {
@@ -75,7 +75,7 @@ fn changes_closed(file: &[u8], before: [u8; 8], v: [u8; 8], own: usize, width: u
 // changed, and no replica is the own one.
 pub fn closed_in(file: &[u8], v: [u8; 8], width: usize) -> bool
     requires { Held width file.now v }
-    ensures { result ≡ closed (logOf width file.now) v }
+    ensures { result ≡ closed (log_of width file.now) v }
 {
     changes_closed(file, [0u8; 8], v, 0, width)
 }
@@ -85,7 +85,7 @@ pub fn closed_in(file: &[u8], v: [u8; 8], width: usize) -> bool
 // before, which was closed.
 fn is_risen(file: &[u8], before: [u8; 8], v: [u8; 8], own: usize, width: usize) -> bool
     requires { Held width file.now v }
-    ensures { result ≡ risen (logOf width file.now) before v own }
+    ensures { result ≡ risen (log_of width file.now) before v own }
 {
     if !within(before, v) {
         return false;
@@ -104,7 +104,7 @@ fn vector_passes(
     width: usize,
 ) -> bool
     requires { OpHere width file.now counts before s q }
-    ensures { result ≡ vectorBy (logOf width file.now) v s q }
+    ensures { result ≡ vector_by (log_of width file.now) v s q }
 {
     if widen(v[s - 1]) != q - 1 {
         return false;
@@ -126,7 +126,7 @@ pub(crate) fn vector_sound(
     width: usize,
 ) -> bool
     requires { OpHere width file.now counts before s q }
-    ensures { result ≡ vectorBy (logOf width file.now) v s q }
+    ensures { result ≡ vector_by (log_of width file.now) v s q }
 {
     if own_alone(before, v, s, q) {
         return true;

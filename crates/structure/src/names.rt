@@ -1,17 +1,17 @@
 // Test 7: whether what an op or a caller names is known.
 ghost use Rattle.std.specs.Prelude.{◌≡◌};
-ghost use Rattle.rules.specs.File.{logOf};
-ghost use Rattle.rules.specs.Log.{knownParent};
-ghost use Rattle.rules.specs.Marks.{isKnown, nodeWithin, knowledge};
+ghost use Rattle.rules.specs.File.{log_of};
+ghost use Rattle.rules.specs.Log.{known_parent};
+ghost use Rattle.rules.specs.Marks.{is_known, node_within, knowledge};
 ghost use Rattle.oplog.specs.Places.{Held};
-ghost use Rattle.structure.specs.Tests.{moveNames, namesBy};
+ghost use Rattle.structure.specs.Tests.{move_names, names_by};
 
 use codec::{kind_at, widen, widen16};
 use oplog::place;
 
 // Whether a vector counts the op of a node's replica and sequence.
 fn node_within(v: [u8; 8], n: u16) -> bool
-    ensures { result ≡ nodeWithin v n }
+    ensures { result ≡ node_within v n }
 {
     let s = widen16(n / 256);
     let q = widen16(n % 256);
@@ -30,7 +30,7 @@ fn node_within(v: [u8; 8], n: u16) -> bool
 // Whether an add within the vector made the node: marked or not, so one look-up tells.
 pub fn known_in(file: &[u8], v: [u8; 8], n: u16, width: usize) -> bool
     requires { Held width file.now v }
-    ensures { result ≡ isKnown (knowledge (logOf width file.now) v n) }
+    ensures { result ≡ is_known (knowledge (log_of width file.now) v n) }
 {
     if !node_within(v, n) {
         return false;
@@ -42,7 +42,7 @@ pub fn known_in(file: &[u8], v: [u8; 8], n: u16, width: usize) -> bool
 // The same, or the root.
 pub fn known_parent(file: &[u8], v: [u8; 8], n: u16, width: usize) -> bool
     requires { Held width file.now v }
-    ensures { result ≡ knownParent (logOf width file.now) v n }
+    ensures { result ≡ known_parent (log_of width file.now) v n }
 {
     if n == 0 {
         return true;
@@ -53,7 +53,7 @@ pub fn known_parent(file: &[u8], v: [u8; 8], n: u16, width: usize) -> bool
 // Whether what a move names is known, and is not one node.
 fn move_known(file: &[u8], v: [u8; 8], node: u16, parent: u16, width: usize) -> bool
     requires { Held width file.now v }
-    ensures { result ≡ moveNames (logOf width file.now) v node parent }
+    ensures { result ≡ move_names (log_of width file.now) v node parent }
 {
     if !known_in(file, v, node, width) {
         return false;
@@ -76,7 +76,7 @@ pub fn names_known(
     width: usize,
 ) -> bool
     requires { Held width file.now v }
-    ensures { result ≡ namesBy (logOf width file.now) v kind node parent own }
+    ensures { result ≡ names_by (log_of width file.now) v kind node parent own }
 {
     match kind {
         1 => {

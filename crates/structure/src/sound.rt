@@ -1,8 +1,8 @@
 ghost use Rattle.std.specs.Prelude.{◌≡◌, ◌≤◌};
-ghost use Rattle.rules.specs.File.{logOf, headerCounts};
-ghost use Rattle.rules.specs.Log.{soundLog, laid};
-ghost use Rattle.oplog.specs.Places.{Held, Stands, place_of, nextPlace};
-ghost use Rattle.structure.specs.Tests.{LaidOut, OpHere, Before, passesBy, soundAt, soundHere, Turned};
+ghost use Rattle.rules.specs.File.{log_of, header_counts};
+ghost use Rattle.rules.specs.Log.{sound_log, laid};
+ghost use Rattle.oplog.specs.Places.{Held, Stands, place_of, next_place};
+ghost use Rattle.structure.specs.Tests.{LaidOut, OpHere, Before, passes_by, sound_at, sound_here, Turned};
 ghost use Rattle.rules.specs.Log as log;
 
 use crate::closed::vector_sound;
@@ -13,7 +13,7 @@ use oplog::{Marker, count_at, counts_of, end_of, header_right};
 // Whether an op passes tests 3 and 7, by its fields.
 fn passes(file: &[u8], v: [u8; 8], kind: u8, node: u16, parent: u16, own: u16, width: usize) -> bool
     requires { Held width file.now v }
-    ensures { result ≡ passesBy (logOf width file.now) v kind node parent own }
+    ensures { result ≡ passes_by (log_of width file.now) v kind node parent own }
 {
     if !kind_fits(kind, parent) {
         return false;
@@ -33,7 +33,7 @@ fn op_sound(
     width: usize,
 ) -> bool
     requires { OpHere width file.now counts before s q × (at ≡ place_of width file.now s q) }
-    ensures { result ≡ soundAt (logOf width file.now) s q }
+    ensures { result ≡ sound_at (log_of width file.now) s q }
 {
     if widen(replica_at(file, at)) != s {
         return false;
@@ -57,9 +57,9 @@ fn here_sound(
     at: usize,
     width: usize,
 ) -> bool
-    requires { Stands width file.now m at × (counts ≡ headerCounts file.now)
-        × Before (logOf width file.now) m.replica m.sequence before }
-    ensures { result ≡ soundHere width file.now m }
+    requires { Stands width file.now m at × (counts ≡ header_counts file.now)
+        × Before (log_of width file.now) m.replica m.sequence before }
+    ensures { result ≡ sound_here width file.now m }
 {
     if !m.in_file(file) {
         return true;
@@ -70,7 +70,7 @@ fn here_sound(
 // Where the op at the next marker starts: behind the one at this one, if there is one.
 fn next_place(file: &[u8], m: Marker, at: usize, width: usize) -> usize
     requires { Stands width file.now m at }
-    ensures { result ≡ nextPlace width file.now m at }
+    ensures { result ≡ next_place width file.now m at }
 {
     if !m.in_file(file) {
         return at;
@@ -113,7 +113,7 @@ fn next_turn(file: &[u8], m: Marker, at: usize, width: usize) -> Turn
 // Whether every body is a sound op, by a marker through the file.
 fn ops_sound(file: &[u8], counts: [u8; 8], width: usize) -> bool
     requires { LaidOut width file.now counts }
-    ensures { result ≡ soundLog (logOf width file.now) }
+    ensures { result ≡ sound_log (log_of width file.now) }
 {
     let mut m = Marker::first();
     let mut at: usize = 32;

@@ -1,23 +1,23 @@
 -- The returns and turns of the tour, as the code meets them.
 use Rattle.std.proofs.Common.{◌≡◌, ℕ, zero, suc, ◌+◌, ◌-◌, ◌*◌, ◌/◌, ◌%◌, ◌<◌, ◌≤◌, List, [], ◌∷◌, ◌++◌, length, get_or, take, drop, set, replicate, sym, refl, ap, ◌∙◌, append-nil, add-one, arith, length-set, take-append-drop, drop_of_length-le, length-take-le, drop-cons, get_or-set_same, take-suc-set, drop-set-lt, rules, eq-eqb, ne_eqb}
 use lib.Seq.{append_snoc}
-use Rattle.lists.proofs.ListLaws.{drop_more, drop-replicate}
+use Rattle.lists.proofs.ListLaws.{drop_more, drop_replicate}
 use Rattle.rules.specs.Tree.{slots}
 use Rattle.tour.specs.Asked.{Pushable, Tourable, Visitable}
-use Rattle.tour.specs.Tables.{Links, links, push, tour, tourOf, visited}
-use Rattle.tree.specs.Slots.{slotIn}
+use Rattle.tour.specs.Tables.{Links, links, push, tour, tour_of, visited}
+use Rattle.tree.specs.Slots.{slot_in}
 
 ---- a node on the stack
 
 module _ (stack : List ℕ) (top n d : ℕ) where
-  pub push-none : n ≡ 0 → drop top stack ≡ push n d (drop top stack)
+  pub push_none : n ≡ 0 → drop top stack ≡ push n d (drop top stack)
   unfolding push
-  push-none e = rw (eq-eqb n 0 e)
+  push_none e = rw (eq-eqb n 0 e)
 
-  pub push-one : (n ≡ 0 → ⊥) → Pushable stack top → (x : ℕ) → x ≡ n * 65536 + d
+  pub push_one : (n ≡ 0 → ⊥) → Pushable stack top → (x : ℕ) → x ≡ n * 65536 + d
       → drop (top - 1) (set stack (top - 1) x) ≡ push n d (drop top stack)
   unfolding push
-  push-one nz a x is =
+  push_one nz a x is =
       let e : top ≡ suc (top - 1) = omega (arith, a.room) in
       let h : top - 1 < length stack = omega (arith, a.room, a.within) in
       let b : drop (top - 1) (set stack (top - 1) x) ≡ x ∷ drop (suc (top - 1)) stack =
@@ -28,99 +28,99 @@ module _ (stack : List ℕ) (top n d : ℕ) where
 ---- a visit: k is the slot of the entry's node
 
 module _ (f n stack : List ℕ) (e top : ℕ) (a : Visitable f n stack top) where
-  pub sibling-asks : Pushable stack (top + 1)
-  sibling-asks = record { room = omega arith; within = omega (arith, a.within) }
+  pub sibling_asks : Pushable stack (top + 1)
+  sibling_asks = record { room = omega arith; within = omega (arith, a.within) }
 
   module _ (mid : List ℕ) (same : length mid ≡ length stack) (rest : ℕ) (lo : rest ≤ top + 1) (hi : top + 1 ≤ rest + 1) where
-    pub child-asks : Pushable mid rest
-    child-asks = record { room = omega (arith, a.room); within = omega (arith, a.within) }
+    pub child_asks : Pushable mid rest
+    child_asks = record { room = omega (arith, a.room); within = omega (arith, a.within) }
 
-    module _ (node d k : ℕ) (en : node ≡ e / 65536) (ed : d ≡ e % 65536) (ek : k ≡ slotIn node)
+    module _ (node d k : ℕ) (en : node ≡ e / 65536) (ed : d ≡ e % 65536) (ek : k ≡ slot_in node)
         (first : drop rest mid ≡ push (get_or n k 0) d (drop (top + 1) stack)) where
-      pub visit-made : (below : ℕ) → below ≡ (d + 1) % 65536
+      pub visit_made : (below : ℕ) → below ≡ (d + 1) % 65536
           → (after : List ℕ) (r : ℕ) → drop r after ≡ push (get_or f k 0) below (drop rest mid)
           → drop r after ≡ visited (links f n) e (drop (top + 1) stack)
       unfolding visited
-      visit-made below eb after r s = s ∙ rw (first, eb, ek, en, ed)
+      visit_made below eb after r s = s ∙ rw (first, eb, ek, en, ed)
 
 ---- the tour; i nodes are out, and the stack has what is left
 
 pub record Touring (f n o₀ o stack : List ℕ) (top i : ℕ) : Type 0 where
   pub asked : Tourable f n o₀
-  pub order-size : length o ≡ slots
-  pub stack-size : length stack ≡ slots + 1
+  pub order_size : length o ≡ slots
+  pub stack_size : length stack ≡ slots + 1
   pub few : i ≤ slots
   pub low : slots ≤ top + i
   pub high : top ≤ slots + 1
-  pub left : tourOf (links f n) ≡ take i o ++ tour (slots - i) (links f n) (drop top stack)
+  pub left : tour_of (links f n) ≡ take i o ++ tour (slots - i) (links f n) (drop top stack)
   pub kept : drop i o ≡ drop i o₀
 
-pub tour-starts : (f n o : List ℕ) → Tourable f n o → Touring f n o o (replicate (slots + 1) 0) slots 0
-unfolding tourOf
-tour-starts f n o a = record {
+pub tour_starts : (f n o : List ℕ) → Tourable f n o → Touring f n o o (replicate (slots + 1) 0) slots 0
+unfolding tour_of
+tour_starts f n o a = record {
   asked = a;
-  order-size = a.order-size;
-  stack-size = refl;
+  order_size = a.order_size;
+  stack_size = refl;
   few = omega arith;
   low = omega arith;
   high = omega arith;
-  left = rw (drop-replicate 0 slots (suc slots));
+  left = rw (drop_replicate 0 slots (suc slots));
   kept = refl;
 }
 
-tour-none : (k : ℕ) (l : Links) → tour k l [] ≡ []
+tour_none : (k : ℕ) (l : Links) → tour k l [] ≡ []
 unfolding tour
-tour-none zero l = refl
-tour-none (suc k) l = refl
+tour_none zero l = refl
+tour_none (suc k) l = refl
 
 module _ (f n o₀ o stack : List ℕ) (top i : ℕ) (t : Touring f n o₀ o stack top i) where
   -- all nodes are out
-  whole : tourOf (links f n) ≡ take i o → (i ≡ length (tourOf (links f n))) × (o ≡ tourOf (links f n) ++ drop i o₀)
+  whole : tour_of (links f n) ≡ take i o → (i ≡ length (tour_of (links f n))) × (o ≡ tour_of (links f n) ++ drop i o₀)
   whole e =
-      let l : i ≤ length o = omega (arith, t.few, t.order-size) in
+      let l : i ≤ length o = omega (arith, t.few, t.order_size) in
       (sym (ap length e ∙ length-take-le i o l), rw (e, ← t.kept) (sym (take-append-drop i o)))
 
-  stopped : top ≡ slots + 1 → tourOf (links f n) ≡ take i o
+  stopped : top ≡ slots + 1 → tour_of (links f n) ≡ take i o
   stopped e =
-      let h : length stack ≤ top = omega (arith, t.stack-size) in
-      t.left ∙ rw (drop_of_length-le stack h, tour-none (slots - i) (links f n)) (append-nil (take i o))
+      let h : length stack ≤ top = omega (arith, t.stack_size) in
+      t.left ∙ rw (drop_of_length-le stack h, tour_none (slots - i) (links f n)) (append-nil (take i o))
 
-  ended : slots ≤ i → tourOf (links f n) ≡ take i o
+  ended : slots ≤ i → tour_of (links f n) ≡ take i o
   unfolding tour
   ended h = let z : slots - i ≡ 0 = omega arith in t.left ∙ rw z (append-nil (take i o))
 
-  pub tour-stops-count : top ≡ slots + 1 → i ≡ length (tourOf (links f n))
-  tour-stops-count e = (whole (stopped e)).0
+  pub tour_stops_count : top ≡ slots + 1 → i ≡ length (tour_of (links f n))
+  tour_stops_count e = (whole (stopped e)).0
 
-  pub tour-stops : top ≡ slots + 1 → o ≡ tourOf (links f n) ++ drop i o₀
-  tour-stops e = (whole (stopped e)).1
+  pub tour_stops : top ≡ slots + 1 → o ≡ tour_of (links f n) ++ drop i o₀
+  tour_stops e = (whole (stopped e)).1
 
-  pub tour-ends-count : slots ≤ i → slots ≡ length (tourOf (links f n))
-  tour-ends-count h = let e : slots ≡ i = omega (arith, t.few) in e ∙ (whole (ended h)).0
+  pub tour_ends_count : slots ≤ i → slots ≡ length (tour_of (links f n))
+  tour_ends_count h = let e : slots ≡ i = omega (arith, t.few) in e ∙ (whole (ended h)).0
 
-  pub tour-ends : slots ≤ i → o ≡ tourOf (links f n) ++ drop slots o₀
-  tour-ends h = let e : slots ≡ i = omega (arith, t.few) in (whole (ended h)).1 ∙ rw (← e)
+  pub tour_ends : slots ≤ i → o ≡ tour_of (links f n) ++ drop slots o₀
+  tour_ends h = let e : slots ≡ i = omega (arith, t.few) in (whole (ended h)).1 ∙ rw (← e)
 
   module _ (h : i < slots) (ne : top ≡ slots + 1 → ⊥) where
-    pub visit-asks : Visitable f n stack top
-    visit-asks = record {
-      links-size = t.asked.links-size;
+    pub visit_asks : Visitable f n stack top
+    visit_asks = record {
+      links_size = t.asked.links_size;
       room = omega (arith, t.low);
-      within = omega (arith, t.high, t.stack-size);
+      within = omega (arith, t.high, t.stack_size);
     }
 
-    pub tour-on : (stack' : List ℕ) → length stack' ≡ length stack
+    pub tour_on : (stack' : List ℕ) → length stack' ≡ length stack
         → (top' : ℕ) → drop top' stack' ≡ visited (links f n) (get_or stack top 0) (drop (top + 1) stack) → top' ≤ top + 1 → top ≤ top' + 1
         → Touring f n o₀ (set o i (get_or stack top 0)) stack' top' (i + 1)
     unfolding tour
-    tour-on stack' same top' v lo hi =
+    tour_on stack' same top' v lo hi =
         let k : slots - i ≡ suc (slots - (i + 1)) = omega arith in
-        let b : top < length stack = omega (arith, t.high, t.stack-size) in
-        let u : i < length o = omega (arith, t.order-size) in
+        let b : top < length stack = omega (arith, t.high, t.stack_size) in
+        let u : i < length o = omega (arith, t.order_size) in
         record {
           asked = t.asked;
-          order-size = length-set o i _ ∙ t.order-size;
-          stack-size = same ∙ t.stack-size;
+          order_size = length-set o i _ ∙ t.order_size;
+          stack_size = same ∙ t.stack_size;
           few = omega arith;
           low = omega (arith, t.low);
           high = omega (arith, t.high);
@@ -130,6 +130,6 @@ module _ (f n o₀ o stack : List ℕ) (top i : ℕ) (t : Touring f n o₀ o sta
         }
 
 ---- what the code of the tour needs: search touring
-pub ruleset visits = (push-none, push-one, sibling-asks, child-asks, visit-made, visit-asks)
+pub ruleset visits = (push_none, push_one, sibling_asks, child_asks, visit_made, visit_asks)
 
-pub ruleset touring = (rules, visits, tour-starts, tour-stops-count, tour-stops, tour-ends-count, tour-ends, tour-on)
+pub ruleset touring = (rules, visits, tour_starts, tour_stops_count, tour_stops, tour_ends_count, tour_ends, tour_on)

@@ -5,11 +5,11 @@ use Rattle.rules.specs.Tree.{slots}
 ---- what is hidden
 
 pub record RevealSized (parents hidden : List ℕ) : Type 0 where
-  pub parents-size : length parents ≡ slots
-  pub hidden-size : length hidden ≡ slots
+  pub parents_size : length parents ≡ slots
+  pub hidden_size : length hidden ≡ slots
 
 pub record HidingSized (parents marks hidden : List ℕ) : Type 0 where
-  pub marks-size : length marks ≡ slots
+  pub marks_size : length marks ≡ slots
   pub others : RevealSized parents hidden
 
 pub record HidingAt (parents marks hidden : List ℕ) (k : ℕ) : Type 0 where
@@ -19,10 +19,10 @@ pub record HidingAt (parents marks hidden : List ℕ) (k : ℕ) : Type 0 where
 ---- links and the tour
 
 pub record TourSized (parents marks first next : List ℕ) : Type 0 where
-  pub parents-size : length parents ≡ slots
-  pub marks-size : length marks ≡ slots
-  pub first-size : length first ≡ slots
-  pub next-size : length next ≡ slots
+  pub parents_size : length parents ≡ slots
+  pub marks_size : length marks ≡ slots
+  pub first_size : length first ≡ slots
+  pub next_size : length next ≡ slots
 
 pub record LinkableAt (parents marks first next : List ℕ) (k : ℕ) : Type 0 where
   pub sized : TourSized parents marks first next
@@ -34,15 +34,15 @@ pub record Pushable (stack : List ℕ) (top : ℕ) : Type 0 where
   pub within : top ≤ length stack
 
 pub record LinksSized (first next : List ℕ) : Type 0 where
-  pub first-size : length first ≡ slots
-  pub next-size : length next ≡ slots
+  pub first_size : length first ≡ slots
+  pub next_size : length next ≡ slots
 
 -- a stack with an entry, and room for one more than that
 pub record Visitable (first next stack : List ℕ) (top : ℕ) : Type 0 where
-  pub links-size : LinksSized first next
+  pub links_size : LinksSized first next
   pub room : 0 < top
   pub within : top < length stack
 
 pub record Tourable (first next order : List ℕ) : Type 0 where
-  pub links-size : LinksSized first next
-  pub order-size : length order ≡ slots
+  pub links_size : LinksSized first next
+  pub order_size : length order ≡ slots

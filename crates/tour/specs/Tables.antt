@@ -1,10 +1,10 @@
 -- The tables from which a tour of a tree is made, as the code fills them.
 use Rattle.std.specs.Prelude.{ℕ, zero, suc, ◌+◌, ◌-◌, ◌*◌, ◌/◌, ◌%◌, cond, List, [], ◌∷◌, replicate, ◌==◌, slice_index, slice_set}
 use mathlib.Core.List.{foldl}
-use Rattle.lists.specs.Lists.{up_from, downFrom}
-use Rattle.rules.specs.Tree.{slots, noParent}
+use Rattle.lists.specs.Lists.{up_from, down_from}
+use Rattle.rules.specs.Tree.{slots, no_parent}
 use Rattle.rules.specs.Views.{View, keeping, skipping}
-use Rattle.tree.specs.Slots.{slotIn, slotNode, atNode}
+use Rattle.tree.specs.Slots.{slot_in, slot_node, at_node}
 
 ---- what is hidden from the keeping view: not 0
 
@@ -12,21 +12,21 @@ use Rattle.tree.specs.Slots.{slotIn, slotNode, atNode}
 unfoldable pub reveal : ℕ → (parents hidden : List ℕ) → ℕ → List ℕ
 reveal zero parents hidden n = hidden
 reveal (suc k) parents hidden n =
-    let above = reveal k parents (slice_set hidden (slotIn n) 0) (atNode parents n) in
-    cond (atNode hidden n == 0) hidden above
+    let above = reveal k parents (slice_set hidden (slot_in n) 0) (at_node parents n) in
+    cond (at_node hidden n == 0) hidden above
 
-unfoldable pub revealSlot : (parents marks hidden : List ℕ) → ℕ → List ℕ
-revealSlot parents marks hidden k =
-    let shown = reveal slots parents hidden (slotNode k) in
-    cond (slice_index parents k == noParent) hidden (cond (slice_index marks k == 0) shown hidden)
+unfoldable pub reveal_slot : (parents marks hidden : List ℕ) → ℕ → List ℕ
+reveal_slot parents marks hidden k =
+    let shown = reveal slots parents hidden (slot_node k) in
+    cond (slice_index parents k == no_parent) hidden (cond (slice_index marks k == 0) shown hidden)
 
 -- all but the root
-unfoldable pub allHidden : List ℕ
-allHidden = slice_set (replicate slots 1) 0 0
+unfoldable pub all_hidden : List ℕ
+all_hidden = slice_set (replicate slots 1) 0 0
 
-unfoldable pub hiddenOf : (parents marks : List ℕ) → View → List ℕ
-hiddenOf parents marks keeping = foldl (revealSlot parents marks) allHidden (up_from 1 (slots - 1))
-hiddenOf parents marks skipping = marks
+unfoldable pub hidden_of : (parents marks : List ℕ) → View → List ℕ
+hidden_of parents marks keeping = foldl (reveal_slot parents marks) all_hidden (up_from 1 (slots - 1))
+hidden_of parents marks skipping = marks
 
 ---- the first child and the next sibling of each node, 0 where there is none
 
@@ -38,28 +38,28 @@ abbrev pub links : List ℕ → List ℕ → Links
 links f n = record { first = f; next = n }
 
 -- a node before its siblings
-unfoldable pub linkSlot : (parents hidden : List ℕ) → Links → ℕ → Links
-linkSlot parents hidden l k =
-    let p = slotIn (slice_index parents k) in
-    let linked = links (slice_set l.first p (slotNode k)) (slice_set l.next k (slice_index l.first p)) in
-    cond (slice_index parents k == noParent) l (cond (slice_index hidden k == 0) linked l)
+unfoldable pub link_slot : (parents hidden : List ℕ) → Links → ℕ → Links
+link_slot parents hidden l k =
+    let p = slot_in (slice_index parents k) in
+    let linked = links (slice_set l.first p (slot_node k)) (slice_set l.next k (slice_index l.first p)) in
+    cond (slice_index parents k == no_parent) l (cond (slice_index hidden k == 0) linked l)
 
-unfoldable pub noLinks : Links
-noLinks = links (replicate slots 0) (replicate slots 0)
+unfoldable pub no_links : Links
+no_links = links (replicate slots 0) (replicate slots 0)
 
-unfoldable pub linksOf : (parents hidden : List ℕ) → Links
-linksOf parents hidden = foldl (linkSlot parents hidden) noLinks (downFrom (slots - 1))
+unfoldable pub links_of : (parents hidden : List ℕ) → Links
+links_of parents hidden = foldl (link_slot parents hidden) no_links (down_from (slots - 1))
 
 ---- the tour: nodes with their depths
 
 abbrev pub entry_of : ℕ → ℕ → ℕ
 entry_of n d = n * 65536 + d
 
-abbrev pub nodeIn : ℕ → ℕ
-nodeIn e = e / 65536
+abbrev pub node_in : ℕ → ℕ
+node_in e = e / 65536
 
-abbrev pub depthIn : ℕ → ℕ
-depthIn e = e % 65536
+abbrev pub depth_in : ℕ → ℕ
+depth_in e = e % 65536
 
 unfoldable pub push : ℕ → ℕ → List ℕ → List ℕ
 push n d stack = cond (n == 0) stack (entry_of n d ∷ stack)
@@ -67,7 +67,7 @@ push n d stack = cond (n == 0) stack (entry_of n d ∷ stack)
 -- after a node come its first child and what is below it, then its next sibling
 unfoldable pub visited : Links → ℕ → List ℕ → List ℕ
 visited l e stack =
-    push (atNode l.first (nodeIn e)) ((depthIn e + 1) % 65536) (push (atNode l.next (nodeIn e)) (depthIn e) stack)
+    push (at_node l.first (node_in e)) ((depth_in e + 1) % 65536) (push (at_node l.next (node_in e)) (depth_in e) stack)
 
 -- each entry of the stack is the first of some siblings that are left
 unfoldable pub tour : ℕ → Links → List ℕ → List ℕ
@@ -76,9 +76,9 @@ tour (suc k) l [] = []
 tour (suc k) l (e ∷ stack) =
     e ∷ tour k l (visited l e stack)
 
-unfoldable pub tourOf : Links → List ℕ
-tourOf l = tour slots l (0 ∷ [])
+unfoldable pub tour_of : Links → List ℕ
+tour_of l = tour slots l (0 ∷ [])
 
 -- what a view shows of a tree with marks, in preorder
 unfoldable pub order_by : (parents marks : List ℕ) → View → List ℕ
-order_by parents marks view = tourOf (linksOf parents (hiddenOf parents marks view))
+order_by parents marks view = tour_of (links_of parents (hidden_of parents marks view))

@@ -28,7 +28,7 @@ fn reveal(parents: &[u16], hidden: &mut [u8], node: u16)
 fn reveal_slot(parents: &[u16], marks: &[u8], hidden: &mut [u8], slot: usize)
     requires { HidingAt parents.now marks.now hidden.old slot }
     ensures { hidden.new
-        ≡ tables.revealSlot parents.now marks.now hidden.old slot }
+        ≡ tables.reveal_slot parents.now marks.now hidden.old slot }
 {
     if parents[slot] == NO_PARENT {
         return;
@@ -44,7 +44,7 @@ fn reveal_slot(parents: &[u16], marks: &[u8], hidden: &mut [u8], slot: usize)
 pub fn reveal_all(parents: &[u16], marks: &[u8], hidden: &mut [u8])
     requires { HidingSized parents.now marks.now hidden.old }
     ensures { hidden.new
-        ≡ foldl (tables.revealSlot parents.now marks.now) hidden.old (up_from 1 (slots - 1)) }
+        ≡ foldl (tables.reveal_slot parents.now marks.now) hidden.old (up_from 1 (slots - 1)) }
 {
     for slot in 1..SLOTS {
         reveal_slot(parents, marks, hidden, slot);

@@ -1,9 +1,9 @@
 ghost use Rattle.std.specs.Prelude.{◌≡◌, ◌-◌};
 ghost use mathlib.Core.List.{foldl};
-ghost use Rattle.lists.specs.Lists.{downFrom};
+ghost use Rattle.lists.specs.Lists.{down_from};
 ghost use Rattle.rules.specs.Tree.{slots};
 ghost use Rattle.tour.specs.Asked.{TourSized, LinkableAt};
-ghost use Rattle.tour.specs.Tables.{links, linkSlot};
+ghost use Rattle.tour.specs.Tables.{links, link_slot};
 
 use tree::{NO_PARENT, SLOTS, slot_in, slot_node};
 
@@ -14,7 +14,7 @@ const LAST: usize = SLOTS - 1;
 fn link_slot(parents: &[u16], hidden: &[u8], slot: usize, first: &mut [u16], next: &mut [u16])
     requires { LinkableAt parents.now hidden.now first.old next.old slot }
     ensures { links first.new next.new
-        ≡ linkSlot parents.now hidden.now (links first.old next.old) slot }
+        ≡ link_slot parents.now hidden.now (links first.old next.old) slot }
 {
     let parent = parents[slot];
     if parent == NO_PARENT {
@@ -33,8 +33,8 @@ fn link_slot(parents: &[u16], hidden: &[u8], slot: usize, first: &mut [u16], nex
 pub fn link(parents: &[u16], hidden: &[u8], first: &mut [u16], next: &mut [u16])
     requires { TourSized parents.now hidden.now first.old next.old }
     ensures { links first.new next.new
-        ≡ foldl (linkSlot parents.now hidden.now)
-        (links first.old next.old) (downFrom (slots - 1)) }
+        ≡ foldl (link_slot parents.now hidden.now)
+        (links first.old next.old) (down_from (slots - 1)) }
 {
     for i in 0..LAST {
         link_slot(parents, hidden, LAST - i, first, next);

@@ -1,6 +1,6 @@
 ghost use Rattle.std.specs.Prelude.{◌≡◌, ◌+◌, ◌*◌, ◌/◌, ◌%◌, ◌≤◌, ◌++◌, length, drop};
 ghost use Rattle.tour.specs.Asked.{Pushable, Visitable, Tourable};
-ghost use Rattle.tour.specs.Tables.{links, tourOf, visited};
+ghost use Rattle.tour.specs.Tables.{links, tour_of, visited};
 ghost use Rattle.tour.specs.Tables as tables;
 
 use std::num::wrapping_add_u16;
@@ -59,8 +59,8 @@ fn visit(first: &[u16], next: &[u16], entry: u32, stack: &mut [u32], top: usize)
 // stack has the first of the siblings that are left, for each level that the tour is in.
 pub fn tour(first: &[u16], next: &[u16], order: &mut [u32]) -> usize
     requires { Tourable first.now next.now order.old }
-    ensures { (result ≡ length (tourOf (links first.now next.now)))
-        × (order.new ≡ tourOf (links first.now next.now) ++ drop result order.old) }
+    ensures { (result ≡ length (tour_of (links first.now next.now)))
+        × (order.new ≡ tour_of (links first.now next.now) ++ drop result order.old) }
 {
     let mut stack = [0u32; STACK];
     let mut top: usize = SLOTS;

@@ -1,6 +1,6 @@
 ghost use Rattle.std.specs.Prelude.{◌≡◌, ◌+◌, ◌<◌, ◌≤◌, length};
 ghost use Rattle.rules.specs.Tree.{slots, slot_of};
-ghost use Rattle.tree.specs.Slots.{slotIn, slotNode, replicaIn, sequenceIn, InSlot, slotPlace};
+ghost use Rattle.tree.specs.Slots.{slot_in, slot_node, replica_in, sequence_in, InSlot, slot_place};
 
 use codec::widen16;
 use oplog::place;
@@ -22,7 +22,7 @@ pub fn slot_of(node: u16) -> usize
 
 // The slot of a node, and 0 for a number without one: a slot that a table always has.
 pub fn slot_in(node: u16) -> usize
-    ensures { (result ≡ slotIn node) × (result < slots) }
+    ensures { (result ≡ slot_in node) × (result < slots) }
 {
     let slot = slot_of(node);
     if slot < SLOTS {
@@ -34,14 +34,14 @@ pub fn slot_in(node: u16) -> usize
 // The replica and the sequence of the op that has a slot.
 pub fn slot_replica(slot: usize) -> usize
     requires { 1 ≤ slot }
-    ensures { result ≡ replicaIn slot }
+    ensures { result ≡ replica_in slot }
 {
     (slot - 1) / 255 + 1
 }
 
 pub fn slot_sequence(slot: usize) -> usize
     requires { 1 ≤ slot }
-    ensures { result ≡ sequenceIn slot }
+    ensures { result ≡ sequence_in slot }
 {
     (slot - 1) % 255 + 1
 }
@@ -49,7 +49,7 @@ pub fn slot_sequence(slot: usize) -> usize
 // Where the op of a slot starts.
 pub fn slot_place(file: &[u8], slot: usize, width: usize) -> usize
     requires { InSlot width file.now slot }
-    ensures { (result ≡ slotPlace width file.now slot) × (result + width ≤ length file.now) }
+    ensures { (result ≡ slot_place width file.now slot) × (result + width ≤ length file.now) }
 {
     place(file, slot_replica(slot), slot_sequence(slot), width)
 }
@@ -57,7 +57,7 @@ pub fn slot_place(file: &[u8], slot: usize, width: usize) -> usize
 // The node of a slot.
 pub fn slot_node(slot: usize) -> u16
     requires { slot < slots }
-    ensures { result ≡ slotNode slot }
+    ensures { result ≡ slot_node slot }
 {
     if slot == 0 {
         return 0;

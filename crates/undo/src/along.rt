@@ -1,11 +1,11 @@
 ghost use Rattle.std.specs.Prelude.{◌≡◌, cond, length};
 ghost use mathlib.Core.List.{foldl};
-ghost use Rattle.rules.specs.File.{logOf};
+ghost use Rattle.rules.specs.File.{log_of};
 ghost use Rattle.rules.specs.Op.{counted};
-ghost use Rattle.order.specs.Undo.{stepKeeping, takeBack, undo};
-ghost use Rattle.tree.specs.Slots.{opIn};
-ghost use Rattle.effect.specs.Effects.{stampedAt};
-ghost use Rattle.undo.specs.Tables.{Keepable, TimedSlotWalk, SlotWalk, opsAlong, slotCounted, timedAlong, undoable};
+ghost use Rattle.order.specs.Undo.{step_keeping, take_back, undo};
+ghost use Rattle.tree.specs.Slots.{op_in};
+ghost use Rattle.effect.specs.Effects.{stamped_at};
+ghost use Rattle.undo.specs.Tables.{Keepable, TimedSlotWalk, SlotWalk, ops_along, slot_counted, timed_along, undoable};
 ghost use Rattle.order.specs.Undo.{IsSlot};
 
 use crate::keeping::{keep_op, undo_op};
@@ -15,7 +15,7 @@ use tree::{slot_replica, slot_sequence};
 // Whether a cut counts the op of a slot.
 pub(crate) fn counts_slot(cut: [u8; 8], slot: usize) -> bool
     requires { IsSlot slot }
-    ensures { result ≡ slotCounted cut slot }
+    ensures { result ≡ slot_counted cut slot }
 {
     let index = slot_replica(slot) - 1;
     slot_sequence(slot) <= widen(cut[index])
@@ -36,10 +36,10 @@ fn keep_counted(
 )
     requires { Keepable width file.now slot parents.old outcomes.old placed.old took.old was.old }
     ensures { undoable parents.new outcomes.new placed.new took.new was.new
-        ≡ cond (counted cut (opIn (logOf width file.now) slot))
-        (stepKeeping
+        ≡ cond (counted cut (op_in (log_of width file.now) slot))
+        (step_keeping
         (undoable parents.old outcomes.old placed.old took.old was.old)
-        (stampedAt time (opIn (logOf width file.now) slot)))
+        (stamped_at time (op_in (log_of width file.now) slot)))
         (undoable parents.old outcomes.old placed.old took.old was.old) }
 {
     if !counts_slot(cut, slot) {
@@ -69,9 +69,9 @@ pub fn judge_along(
     requires { TimedSlotWalk width file.now order.now times.now to
         parents.old outcomes.old placed.old took.old was.old }
     ensures { undoable parents.new outcomes.new placed.new took.new was.new
-        ≡ foldl stepKeeping
+        ≡ foldl step_keeping
         (undoable parents.old outcomes.old placed.old took.old was.old)
-        (timedAlong (logOf width file.now) cut order.now times.now from to) }
+        (timed_along (log_of width file.now) cut order.now times.now from to) }
 {
     for i in from..to {
         let slot = widen16(order[i]);
@@ -95,11 +95,11 @@ fn undo_counted(
 ) -> usize
     requires { Keepable width file.now slot parents.old outcomes.old placed.old took.old was.old }
     ensures { (undoable parents.new outcomes.new placed.new took.new was.new
-        ≡ cond (counted cut (opIn (logOf width file.now) slot))
+        ≡ cond (counted cut (op_in (log_of width file.now) slot))
         (undo (undoable parents.old outcomes.old placed.old took.old was.old)
-        (opIn (logOf width file.now) slot))
+        (op_in (log_of width file.now) slot))
         (undoable parents.old outcomes.old placed.old took.old was.old))
-        × (result ≡ cond (counted cut (opIn (logOf width file.now) slot)) 1 0) }
+        × (result ≡ cond (counted cut (op_in (log_of width file.now) slot)) 1 0) }
 {
     if !counts_slot(cut, slot) {
         return 0;
@@ -125,10 +125,10 @@ pub(crate) fn take_back(
 ) -> usize
     requires { SlotWalk width file.now order.now to parents.old outcomes.old placed.old took.old was.old }
     ensures { (undoable parents.new outcomes.new placed.new took.new was.new
-        ≡ takeBack
+        ≡ take_back
         (undoable parents.old outcomes.old placed.old took.old was.old)
-        (opsAlong (logOf width file.now) cut order.now from to))
-        × (result ≡ length (opsAlong (logOf width file.now) cut order.now from to)) }
+        (ops_along (log_of width file.now) cut order.now from to))
+        × (result ≡ length (ops_along (log_of width file.now) cut order.now from to)) }
 {
     let mut taken: usize = 0;
     let mut j = to;

@@ -1,7 +1,7 @@
 ghost use Rattle.std.specs.Prelude.{◌≡◌, length};
-ghost use Rattle.rules.specs.File.{logOf};
-ghost use Rattle.order.specs.Undo.{replayKeeping};
-ghost use Rattle.undo.specs.Tables.{opsAlong, undoable};
+ghost use Rattle.rules.specs.File.{log_of};
+ghost use Rattle.order.specs.Undo.{replay_keeping};
+ghost use Rattle.undo.specs.Tables.{ops_along, undoable};
 ghost use Rattle.undo.specs.Carried.{Carriable, FirstBeyond, Slots};
 
 use crate::along::{counts_slot, judge_along, take_back};
@@ -41,8 +41,8 @@ pub fn carry(
     requires { Carriable width file.now before after order.now times.now from to
         parents.old outcomes.old placed.old took.old was.old }
     ensures { (undoable parents.new outcomes.new placed.new took.new was.new
-        ≡ replayKeeping (logOf width file.now) after)
-        × (result ≡ length (opsAlong (logOf width file.now) before order.now from to)) }
+        ≡ replay_keeping (log_of width file.now) after)
+        × (result ≡ length (ops_along (log_of width file.now) before order.now from to)) }
 {
     let taken = take_back(
         file, before, order, from, to, parents, outcomes, placed, took, was, width,

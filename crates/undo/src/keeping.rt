@@ -1,10 +1,10 @@
 ghost use Rattle.std.specs.Prelude.{◌≡◌, ◌<◌};
-ghost use Rattle.rules.specs.File.{logOf};
+ghost use Rattle.rules.specs.File.{log_of};
 ghost use Rattle.rules.specs.Op.{node_of};
 ghost use Rattle.rules.specs.Tree.{slot_of, slots};
-ghost use Rattle.order.specs.Undo.{stepKeeping, undo};
-ghost use Rattle.tree.specs.Slots.{opIn};
-ghost use Rattle.effect.specs.Effects.{stampedAt};
+ghost use Rattle.order.specs.Undo.{step_keeping, undo};
+ghost use Rattle.tree.specs.Slots.{op_in};
+ghost use Rattle.effect.specs.Effects.{stamped_at};
 ghost use Rattle.undo.specs.Tables.{OpThere, Keepable, undoable};
 
 use codec::node_at;
@@ -14,7 +14,7 @@ use tree::{slot_of, slot_place};
 // The slot of the node that the op of a slot names.
 fn named_slot(file: &[u8], slot: usize, width: usize) -> usize
     requires { OpThere width file.now slot }
-    ensures { (result ≡ slot_of (node_of (opIn (logOf width file.now) slot))) × (result < slots) }
+    ensures { (result ≡ slot_of (node_of (op_in (log_of width file.now) slot))) × (result < slots) }
 {
     let at = slot_place(file, slot, width);
     slot_of(node_at(file, at))
@@ -34,9 +34,9 @@ pub fn keep_op(
 )
     requires { Keepable width file.now slot parents.old outcomes.old placed.old took.old was.old }
     ensures { undoable parents.new outcomes.new placed.new took.new was.new
-        ≡ stepKeeping
+        ≡ step_keeping
         (undoable parents.old outcomes.old placed.old took.old was.old)
-        (stampedAt time (opIn (logOf width file.now) slot)) }
+        (stamped_at time (op_in (log_of width file.now) slot)) }
 {
     let named = named_slot(file, slot, width);
     took[slot] = parents[named];
@@ -58,7 +58,7 @@ pub fn undo_op(
     requires { Keepable width file.now slot parents.old outcomes.old placed.old took.old was.old }
     ensures { undoable parents.new outcomes.new placed.new took.new was.new
         ≡ undo (undoable parents.old outcomes.old placed.old took.old was.old)
-        (opIn (logOf width file.now) slot) }
+        (op_in (log_of width file.now) slot) }
 {
     let named = named_slot(file, slot, width);
     parents[named] = took[slot];

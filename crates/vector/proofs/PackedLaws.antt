@@ -8,24 +8,24 @@ use mathlib.Core.Bool.{cond, ◌&&◌}
 use mathlib.Core.Path.{◌≡◌, refl}
 use native.Mathlib.Decide.{ℕ_discrete}
 use native.Mathlib.Omega.{arith}
-use Rattle.lists.proofs.BoolLaws.{both_ways, and_both, and_left, and_right, and-true}
+use Rattle.lists.proofs.BoolLaws.{both_ways, and_both, and_left, and_right, and_true}
 use Rattle.lists.specs.Lists.{all, up_from}
-use Rattle.rules.specs.Op.{Vector, countIn, replicas}
-use Rattle.rules.proofs.ReplicaLaws.{replica-cases}
-use Rattle.vector.specs.Packed.{packedOf, unit_of, EightCounts, isStep}
+use Rattle.rules.specs.Op.{Vector, count_in, replicas}
+use Rattle.rules.proofs.ReplicaLaws.{replica_cases}
+use Rattle.vector.specs.Packed.{packed_of, unit_of, EightCounts, is_step}
 use Rattle.vector.specs.Spread.{spread_of, Counts}
 
 -- eight digits as a number
 abbrev number : (ℕ → ℕ) → ℕ
 number a = a 0 + 256 * (a 1 + 256 * (a 2 + 256 * (a 3 + 256 * (a 4 + 256 * (a 5 + 256 * (a 6 + 256 * a 7))))))
 
-packed-number : (v : Vector) → packedOf v ≡ number (λ i. get_or v i 0)
-unfolding packedOf spread_of
-packed-number v = omega arith
+packed_number : (v : Vector) → packed_of v ≡ number (λ i. get_or v i 0)
+unfolding packed_of spread_of
+packed_number v = omega arith
 
 -- two numbers are the same when their digits are
-digit-same : (x y m n : ℕ) → x < 256 → y < 256 → eqb (x + 256 * m) (y + 256 * n) ≡ (eqb x y && eqb m n)
-digit-same x y m n h k =
+digit_same : (x y m n : ℕ) → x < 256 → y < 256 → eqb (x + 256 * m) (y + 256 * n) ≡ (eqb x y && eqb m n)
+digit_same x y m n h k =
     both_ways _ _
     (λ e. let z : x + 256 * m ≡ y + 256 * n = eqb-true _ _ e in and_both (eq-eqb x y (omega arith)) (eq-eqb m n (omega arith)))
     (λ e. eq-eqb (x + 256 * m) (y + 256 * n)
@@ -36,13 +36,13 @@ module _ (a b : ℕ → ℕ) (small : (i : ℕ) → i < 8 → a i < 256) (small'
       && (eqb (a 4) (b 4) && (eqb (a 5) (b 5) && (eqb (a 6) (b 6) && eqb (a 7) (b 7))))))))
   digits_same =
       rw (
-        digit-same (a 0) (b 0) _ _ (small 0 (lit< tt)) (small' 0 (lit< tt)),
-        digit-same (a 1) (b 1) _ _ (small 1 (lit< tt)) (small' 1 (lit< tt)),
-        digit-same (a 2) (b 2) _ _ (small 2 (lit< tt)) (small' 2 (lit< tt)),
-        digit-same (a 3) (b 3) _ _ (small 3 (lit< tt)) (small' 3 (lit< tt)),
-        digit-same (a 4) (b 4) _ _ (small 4 (lit< tt)) (small' 4 (lit< tt)),
-        digit-same (a 5) (b 5) _ _ (small 5 (lit< tt)) (small' 5 (lit< tt)),
-        digit-same (a 6) (b 6) (a 7) (b 7) (small 6 (lit< tt)) (small' 6 (lit< tt)),
+        digit_same (a 0) (b 0) _ _ (small 0 (lit< tt)) (small' 0 (lit< tt)),
+        digit_same (a 1) (b 1) _ _ (small 1 (lit< tt)) (small' 1 (lit< tt)),
+        digit_same (a 2) (b 2) _ _ (small 2 (lit< tt)) (small' 2 (lit< tt)),
+        digit_same (a 3) (b 3) _ _ (small 3 (lit< tt)) (small' 3 (lit< tt)),
+        digit_same (a 4) (b 4) _ _ (small 4 (lit< tt)) (small' 4 (lit< tt)),
+        digit_same (a 5) (b 5) _ _ (small 5 (lit< tt)) (small' 5 (lit< tt)),
+        digit_same (a 6) (b 6) (a 7) (b 7) (small 6 (lit< tt)) (small' 6 (lit< tt)),
       )
 
 number_small : (a : ℕ → ℕ) → ((i : ℕ) → i < 8 → a i < 256) → number a < 2 ^ 64
@@ -51,39 +51,39 @@ number_small a h =
 
 ---- the counts of a vector
 
-module _ (before : Vector) (s : ℕ) (l : 1 ≤ s) (u : s ≤ 8) (bytes : EightCounts before) (h : countIn before s < 255) where
+module _ (before : Vector) (s : ℕ) (l : 1 ≤ s) (u : s ≤ 8) (bytes : EightCounts before) (h : count_in before s < 255) where
   -- one op more of replica s
   abbrev raised : ℕ → ℕ
   raised i = get_or before i 0 + cond (eqb (i + 1) s) 1 0
 
-  raised-number : packedOf before + unit_of s ≡ number raised
+  raised_number : packed_of before + unit_of s ≡ number raised
   unfolding unit_of
-  raised-number =
-      rw (packed-number before)
-      (replica-cases (λ s. number (λ i. get_or before i 0) + 2 ^ (8 * (s - 1)) ≡ number (λ i. get_or before i 0 + cond (eqb (i + 1) s) 1 0))
+  raised_number =
+      rw (packed_number before)
+      (replica_cases (λ s. number (λ i. get_or before i 0) + 2 ^ (8 * (s - 1)) ≡ number (λ i. get_or before i 0 + cond (eqb (i + 1) s) 1 0))
       (omega arith) (omega arith) (omega arith) (omega arith) (omega arith) (omega arith) (omega arith) (omega arith) s l u)
 
-  raised-small : (i : ℕ) → i < 8 → raised i < 256
-  unfolding countIn
-  raised-small i k = elim (ℕ_discrete (i + 1) s) [
+  raised_small : (i : ℕ) → i < 8 → raised i < 256
+  unfolding count_in
+  raised_small i k = elim (ℕ_discrete (i + 1) s) [
     | yes e ↦ rw (eq-eqb (i + 1) s e) (let z : s - 1 ≡ i = omega arith in omega (arith, rw z at h))
     | no n ↦ rw (ne_eqb (i + 1) s n) (omega (arith, bytes.each i k))
   ]
 
   -- the sum and the test as the code makes them: m, k and n are what was packed
-  module _ (m k : ℕ) (im : m ≡ packedOf before) (ik : k ≡ unit_of s) where
+  module _ (m k : ℕ) (im : m ≡ packed_of before) (ik : k ≡ unit_of s) where
     pub step_sum : m + k < 2 ^ 64
-    step_sum = rw (im, ik, raised-number) (number_small raised raised-small)
+    step_sum = rw (im, ik, raised_number) (number_small raised raised_small)
 
-    pub step-test : (v : Vector) → EightCounts v → (n : ℕ) → n ≡ packedOf v → eqb (m + k) n ≡ isStep before v s
-    unfolding isStep all replicas up_from countIn
-    step-test v small n is =
-        rw (im, ik, is, raised-number, packed-number v, digits_same raised (λ i. get_or v i 0) raised-small small.each, and-true)
+    pub step_test : (v : Vector) → EightCounts v → (n : ℕ) → n ≡ packed_of v → eqb (m + k) n ≡ is_step before v s
+    unfolding is_step all replicas up_from count_in
+    step_test v small n is =
+        rw (im, ik, is, raised_number, packed_number v, digits_same raised (λ i. get_or v i 0) raised_small small.each, and_true)
 
-pub unit-shift : (s : ℕ) → 1 ≤ s → s ≤ 8 → (1 * 2 ^ (8 * (s - 1))) % 2 ^ 64 ≡ unit_of s
+pub unit_shift : (s : ℕ) → 1 ≤ s → s ≤ 8 → (1 * 2 ^ (8 * (s - 1))) % 2 ^ 64 ≡ unit_of s
 unfolding unit_of
-unit-shift =
-    replica-cases (λ s. (1 * 2 ^ (8 * (s - 1))) % 2 ^ 64 ≡ 2 ^ (8 * (s - 1))) refl refl refl refl refl refl refl refl
+unit_shift =
+    replica_cases (λ s. (1 * 2 ^ (8 * (s - 1))) % 2 ^ 64 ≡ 2 ^ (8 * (s - 1))) refl refl refl refl refl refl refl refl
 
 ---- the two halves: n and m are what was spread
 
@@ -98,15 +98,15 @@ module _ (v : Vector) (n m : ℕ) (even : FourAt v 0 n) (odd : FourAt v 1 m) whe
   byte_of =
       let a = even.1 in
       let b = odd.1 in
-      replica-cases (λ s. get_or v (s - 1) 0 < 256)
+      replica_cases (λ s. get_or v (s - 1) 0 < 256)
       a.first b.first a.second b.second a.third b.third a.fourth b.fourth
 
   bytes_of : EightCounts v
   bytes_of = record { each = λ i h. let e : i + 1 - 1 ≡ i = omega arith in rw e at (byte_of (i + 1) (omega arith) (omega arith)) }
 
-  pub halves-packed : (n + 256 * m ≡ packedOf v) × EightCounts v
-  unfolding packedOf
-  halves-packed = (rw (even.0, odd.0), bytes_of)
+  pub halves_packed : (n + 256 * m ≡ packed_of v) × EightCounts v
+  unfolding packed_of
+  halves_packed = (rw (even.0, odd.0), bytes_of)
 
 ---- what the code of packed vectors needs: search packing
-pub ruleset packing = (rules, unit-shift, step_sum, step-test)
+pub ruleset packing = (rules, unit_shift, step_sum, step_test)

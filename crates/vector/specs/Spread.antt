@@ -6,8 +6,8 @@ unfoldable pub spread_of : ℕ → ℕ → ℕ → ℕ → ℕ
 spread_of a b c d = a + 65536 * (b + 65536 * (c + 65536 * d))
 
 -- bit 8 of each
-unfoldable pub allMarked : ℕ → Bool
-allMarked n =
+unfoldable pub all_marked : ℕ → Bool
+all_marked n =
     eqb (n / 256 % 2) 1 && (eqb (n / 16777216 % 2) 1 && (eqb (n / 1099511627776 % 2) 1 && eqb (n / 72057594037927936 % 2) 1))
 
 -- counts are bytes

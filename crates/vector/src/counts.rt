@@ -1,7 +1,7 @@
 ghost use Rattle.std.specs.Prelude.{◌≡◌, ◌+◌, ◌≤◌, ◌<◌, length, take, drop};
-ghost use Rattle.vector.specs.Packed.{packedOf, EightCounts, unit_of, isStep};
-ghost use Rattle.vector.specs.Spread.{spread_of, allMarked, Counts};
-ghost use Rattle.rules.specs.Op.{countIn};
+ghost use Rattle.vector.specs.Packed.{packed_of, EightCounts, unit_of, is_step};
+ghost use Rattle.vector.specs.Spread.{spread_of, all_marked, Counts};
+ghost use Rattle.rules.specs.Op.{count_in};
 ghost use Rattle.rules.specs.File as log;
 
 // The version vector (the document's context) at a place.
@@ -25,7 +25,7 @@ fn spread(a: u8, b: u8, c: u8, d: u8) -> u64
 
 // Whether bit 8 of each of the four parts is set.
 fn all_marked(n: u64) -> bool
-    ensures { result ≡ allMarked n }
+    ensures { result ≡ all_marked n }
 {
     if n / 256 % 2 != 1 {
         return false;
@@ -58,7 +58,7 @@ pub fn within(v: [u8; 8], u: [u8; 8]) -> bool
 
 // All eight counts in one number, 8 bits for each.
 fn packed(v: [u8; 8]) -> u64
-    ensures { (result ≡ packedOf v) × EightCounts v }
+    ensures { (result ≡ packed_of v) × EightCounts v }
 {
     let even = spread(v[0], v[2], v[4], v[6]);
     let odd = spread(v[1], v[3], v[5], v[7]);
@@ -75,8 +75,8 @@ fn unit(s: usize) -> u64
 
 // Whether a vector counts one op more of replica s than another, and is the same otherwise.
 pub fn is_step(before: [u8; 8], v: [u8; 8], s: usize) -> bool
-    requires { (1 ≤ s) × (s ≤ 8) × (countIn before s < 255) }
-    ensures { result ≡ isStep before v s }
+    requires { (1 ≤ s) × (s ≤ 8) × (count_in before s < 255) }
+    ensures { result ≡ is_step before v s }
 {
     packed(before) + unit(s) == packed(v)
 }

@@ -6,36 +6,36 @@ use mathlib.Core.List.{◌++◌, List}
 use mathlib.Core.Path.{sym, ◌∙◌, ◌≡◌}
 use native.Mathlib.Numerals.{add-one}
 use native.Mathlib.Omega.{arith}
-use Rattle.oplog.proofs.InsertLaws.{front, front-step}
-use Rattle.rules.proofs.ClimbLaws.{climb-length, up-last}
-use Rattle.rules.proofs.KnownLaws.{Named, named-valid}
+use Rattle.oplog.proofs.InsertLaws.{front, front_step}
+use Rattle.rules.proofs.ClimbLaws.{climb_length, up_last}
+use Rattle.rules.proofs.KnownLaws.{Named, named_valid}
 use Rattle.rules.proofs.StructureLaws.{GoodLog}
-use Rattle.rules.proofs.SlotLaws.{slot-below}
-use Rattle.rules.specs.File.{Log, countsOf}
-use Rattle.rules.specs.Replay.{parentsOf}
+use Rattle.rules.proofs.SlotLaws.{slot_below}
+use Rattle.rules.specs.File.{Log, counts_of}
+use Rattle.rules.specs.Replay.{parents_of}
 use Rattle.rules.specs.Tree.{climb, depth, path, slots}
-use Rattle.order.proofs.TreePathLaws.{climb-at, root-way, table-size, up_none}
+use Rattle.order.proofs.TreePathLaws.{climb_at, root_way, table_size, up_none}
 use Rattle.view.specs.Asked.{Way}
 
 module _ (log : Log) (good : GoodLog log) where
-  pub way_of : (n : ℕ) → Named log (countsOf log) n → Way (parentsOf log) n (depth (parentsOf log) n)
+  pub way_of : (n : ℕ) → Named log (counts_of log) n → Way (parents_of log) n (depth (parents_of log) n)
   unfolding path depth
   way_of n w =
-      let t : List ℕ = parentsOf log in
-      let (j, b, r, o) = root-way log good n w in
-      let long : length (climb slots t n) ≡ suc j = climb-length t slots j n (omega arith) r.root o in
+      let t : List ℕ = parents_of log in
+      let (j, b, r, o) = root_way log good n w in
+      let long : length (climb slots t n) ≡ suc j = climb_length t slots j n (omega arith) r.root o in
       let steps : length (climb slots t n) - 1 ≡ j = omega arith in
       record {
-        size = table-size log good;
+        size = table_size log good;
         long = omega arith;
-        first = climb-at t slots j n 0 (omega arith) (omega arith) o ∙ up_none t n;
-        inside = λ i h. rw (climb-at t slots j n i (omega arith) (omega arith) o)
-            (slot-below _ (named-valid log (countsOf log) _ (r.on i (omega arith))));
+        first = climb_at t slots j n 0 (omega arith) (omega arith) o ∙ up_none t n;
+        inside = λ i h. rw (climb_at t slots j n i (omega arith) (omega arith) o)
+            (slot_below _ (named_valid log (counts_of log) _ (r.on i (omega arith))));
         above = λ i h. rw (
-          climb-at t slots j n i (omega arith) (omega arith) o,
-          climb-at t slots j n (i + 1) (omega arith) (omega arith) o,
+          climb_at t slots j n i (omega arith) (omega arith) o,
+          climb_at t slots j n (i + 1) (omega arith) (omega arith) o,
           add-one,
-        ) (sym (up-last t i n));
+        ) (sym (up_last t i n));
       }
 
 -- the last entry of a path
@@ -46,7 +46,7 @@ written_all xs d out i steps at e l h a o =
       o,
       a,
       e,
-      front-step xs d steps (omega arith)
+      front_step xs d steps (omega arith)
           (omega arith),
       t,
     )

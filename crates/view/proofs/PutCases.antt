@@ -6,16 +6,16 @@ use mathlib.Core.List.{List}
 use mathlib.Core.Path.{◌≡◌}
 use Rattle.rules.specs.Answer.{accepted, refused, require}
 use Rattle.rules.specs.Path.{Written}
-use Rattle.view.specs.Answers.{putAnswer, put_in}
-use Rattle.view.specs.Tables.{putFront}
+use Rattle.view.specs.Answers.{put_answer, put_in}
+use Rattle.view.specs.Tables.{put_front}
 
 module _ (content out : List ℕ) (n : ℕ) (is : n ≡ length content) where
-  pub put-short : length out < n → ◌≡◌ {A = Written} (record { answer = refused 8; out = out }) (put_in content out)
-  unfolding put_in putAnswer require
-  put-short h = rw (← is, lt-leb n (length out) h)
+  pub put_short : length out < n → ◌≡◌ {A = Written} (record { answer = refused 8; out = out }) (put_in content out)
+  unfolding put_in put_answer require
+  put_short h = rw (← is, lt-leb n (length out) h)
 
   pub put_all :
-      n ≤ length out → (o : List ℕ) → o ≡ putFront content out →
+      n ≤ length out → (o : List ℕ) → o ≡ put_front content out →
       ◌≡◌ {A = Written} (record { answer = accepted n; out = o }) (put_in content out)
-  unfolding put_in putAnswer putFront require
+  unfolding put_in put_answer put_front require
   put_all h o e = rw (← is, le-leb n (length out) h, e, ← is)

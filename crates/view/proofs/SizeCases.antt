@@ -4,28 +4,28 @@ use lib.ListN.{length, take}
 use mathlib.Core.Bool.{false, true}
 use mathlib.Core.List.{List}
 use mathlib.Core.Path.{◌≡◌}
-use Rattle.rules.proofs.SoundLaws.{sound-good}
+use Rattle.rules.proofs.SoundLaws.{sound_good}
 use Rattle.rules.specs.Answer.{accepted, refused, require}
-use Rattle.rules.specs.File.{logOf, width}
-use Rattle.rules.specs.Listing.{listingSize}
+use Rattle.rules.specs.File.{log_of, width}
+use Rattle.rules.specs.Listing.{listing_size}
 use Rattle.rules.specs.Sound.{sound}
 use Rattle.rules.specs.Views.{View}
 use Rattle.view.proofs.ListingCases.{listings}
-use Rattle.view.proofs.ListingLaws.{listing-is}
-use Rattle.marks.specs.Marking.{marksOf}
+use Rattle.view.proofs.ListingLaws.{listing_is}
+use Rattle.marks.specs.Marking.{marks_of}
 use Rattle.view.specs.Tables.{lines_of, order_of}
 
 module _ (f : List ℕ) (view : View) where
-  pub size-unsound : sound width f ≡ false → refused 1 ≡ listingSize width f view
-  unfolding listingSize require
-  size-unsound e = rw e
+  pub size_unsound : sound width f ≡ false → refused 1 ≡ listing_size width f view
+  unfolding listing_size require
+  size_unsound e = rw e
 
   pub size-now :
       sound width f ≡ true → (order : List ℕ) (count size : ℕ) → ((m : List ℕ) → size ≡ length (lines_of m (take count order))) →
-      take count order ≡ order_of (logOf width f) view → accepted size ≡ listingSize width f view
-  unfolding listingSize require
+      take count order ≡ order_of (log_of width f) view → accepted size ≡ listing_size width f view
+  unfolding listing_size require
   size-now a order count size is o =
-      rw (a, is (marksOf (logOf width f)), o, listing-is (logOf width f) (sound-good width f a) view)
+      rw (a, is (marks_of (log_of width f)), o, listing_is (log_of width f) (sound_good width f a) view)
 
 ---- what the code of sizes needs: search sizing
-pub ruleset sizing = (listings, size-unsound, size-now)
+pub ruleset sizing = (listings, size_unsound, size-now)

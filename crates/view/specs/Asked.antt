@@ -1,7 +1,7 @@
 -- What the inner functions of the views ask.
 use Rattle.std.specs.Prelude.{ℕ, ◌+◌, ◌<◌, ◌≤◌, ◌≡◌, true, List, length, get_or, take}
-use Rattle.rules.specs.File.{width, countsOf, logOf}
-use Rattle.rules.specs.Log.{knownParent}
+use Rattle.rules.specs.File.{width, counts_of, log_of}
+use Rattle.rules.specs.Log.{known_parent}
 use Rattle.rules.specs.Sound.{sound}
 use Rattle.rules.specs.Tree.{slot_of, slots, parent_in, path}
 use Rattle.marks.specs.Marking.{Markable}
@@ -11,8 +11,8 @@ use Rattle.view.specs.Tables.{lines_of}
 
 -- a sound buffer, and a number that is 0 or added
 pub record Present (f : List ℕ) (n : ℕ) : Type 0 where
-  pub is-sound : sound width f ≡ true
-  pub is_known : knownParent (logOf width f) (countsOf (logOf width f)) n ≡ true
+  pub is_sound_so : sound width f ≡ true
+  pub is_known : known_parent (log_of width f) (counts_of (log_of width f)) n ≡ true
 
 -- the path of a node has so many steps, and stays inside of the table
 pub record Way (parents : List ℕ) (n steps : ℕ) : Type 0 where
@@ -37,7 +37,7 @@ pub record Toured (order : List ℕ) (count : ℕ) : Type 0 where
 -- with marks
 pub record Arranged (order : List ℕ) (count : ℕ) (marks : List ℕ) : Type 0 where
   pub toured : Toured order count
-  pub marks-size : length marks ≡ slots
+  pub marks_size : length marks ≡ slots
 
 -- and room for their lines
 pub record Printable (order : List ℕ) (count : ℕ) (marks out : List ℕ) : Type 0 where
@@ -46,10 +46,10 @@ pub record Printable (order : List ℕ) (count : ℕ) (marks out : List ℕ) : T
 
 -- the tables that a view is arranged in, and those that it is arranged from
 pub record Orderable (parents marks order : List ℕ) : Type 0 where
-  pub parents-size : length parents ≡ slots
-  pub marks-size : length marks ≡ slots
-  pub order-size : length order ≡ slots
+  pub parents_size : length parents ≡ slots
+  pub marks_size : length marks ≡ slots
+  pub order_size : length order ≡ slots
 
 pub record Arrangeable (f marks order : List ℕ) : Type 0 where
   pub markable : Markable f marks
-  pub order-size : length order ≡ slots
+  pub order_size : length order ≡ slots

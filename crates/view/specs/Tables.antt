@@ -2,26 +2,26 @@
 use Rattle.std.specs.Prelude.{ℕ, not, List, ◌++◌, map, length, drop, eqb}
 use Rattle.lists.specs.Lists.{concat}
 use Rattle.rules.specs.File.{Log}
-use Rattle.rules.specs.Replay.{parentsOf}
+use Rattle.rules.specs.Replay.{parents_of}
 use Rattle.rules.specs.Views.{View}
 use Rattle.rules.specs.Listing.{line_of}
-use Rattle.tree.specs.Slots.{atNode}
-use Rattle.marks.specs.Marking.{marksOf}
-use Rattle.tour.specs.Tables.{depthIn, nodeIn, order_by}
+use Rattle.tree.specs.Slots.{at_node}
+use Rattle.marks.specs.Marking.{marks_of}
+use Rattle.tour.specs.Tables.{depth_in, node_in, order_by}
 
 -- what a view shows of a log, in preorder
 abbrev pub order_of : Log → View → List ℕ
-order_of log view = order_by (parentsOf log) (marksOf log) view
+order_of log view = order_by (parents_of log) (marks_of log) view
 
 ---- the lines
 
 unfoldable pub line_for : List ℕ → ℕ → List ℕ
-line_for marks e = line_of (depthIn e) (nodeIn e) (not (eqb (atNode marks (nodeIn e)) 0))
+line_for marks e = line_of (depth_in e) (node_in e) (not (eqb (at_node marks (node_in e)) 0))
 
 unfoldable pub lines_of : List ℕ → List ℕ → List ℕ
 lines_of marks es = concat (map (line_for marks) es)
 
 ---- lent memory with a text, or the entries of a path, in front
 
-unfoldable pub putFront : (content out : List ℕ) → List ℕ
-putFront content out = content ++ drop (length content) out
+unfoldable pub put_front : (content out : List ℕ) → List ℕ
+put_front content out = content ++ drop (length content) out

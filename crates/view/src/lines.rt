@@ -1,6 +1,6 @@
 ghost use Rattle.std.specs.Prelude.{◌≡◌, List, ℕ, length, take};
 ghost use Rattle.view.specs.Asked.{Toured, Printable};
-ghost use Rattle.view.specs.Tables.{lines_of, putFront};
+ghost use Rattle.view.specs.Tables.{lines_of, put_front};
 
 use pen::{Pen, lend_line, line_size};
 use tour::{depth_in, node_in};
@@ -22,7 +22,7 @@ pub(crate) fn size_of(order: &[u32], count: usize) -> usize
 // Writes the lines of a tour.
 pub(crate) fn write_lines(order: &[u32], count: usize, marks: &[u8], out: &mut [u8])
     requires { Printable order.now count marks.now out.old }
-    ensures { out.new ≡ putFront (lines_of marks.now (take count order.now)) out.old }
+    ensures { out.new ≡ put_front (lines_of marks.now (take count order.now)) out.old }
 {
     let mut pen = Pen { bytes: 0, lines: 0 };
     for i in 0..count {

@@ -1,10 +1,10 @@
 ghost use Rattle.std.specs.Prelude.{◌≡◌, ◌-◌};
 ghost use mathlib.Core.List.{foldl};
-ghost use Rattle.lists.specs.Lists.{downFrom};
+ghost use Rattle.lists.specs.Lists.{down_from};
 ghost use Rattle.rules.specs.Tree.{slots};
 ghost use Rattle.view.specs.Answers.{view_of};
 ghost use Rattle.tour.specs.Asked.{TourSized};
-ghost use Rattle.tour.specs.Tables.{links, linkSlot, hiddenOf};
+ghost use Rattle.tour.specs.Tables.{links, link_slot, hidden_of};
 
 use crate::answer::View;
 use tour::{link, reveal_all};
@@ -21,8 +21,8 @@ pub(crate) fn link_view(
 )
     requires { TourSized parents.now marks.now first.old next.old }
     ensures { links first.new next.new
-        ≡ foldl (linkSlot parents.now (hiddenOf parents.now marks.now (view_of view)))
-        (links first.old next.old) (downFrom (slots - 1)) }
+        ≡ foldl (link_slot parents.now (hidden_of parents.now marks.now (view_of view)))
+        (links first.old next.old) (down_from (slots - 1)) }
 {
     match view {
         View::Skipping => {

@@ -1,10 +1,10 @@
 ghost use Rattle.std.specs.Prelude.{◌≡◌, ◌≤◌, take};
-ghost use Rattle.rules.specs.File.{width, logOf};
+ghost use Rattle.rules.specs.File.{width, log_of};
 ghost use Rattle.rules.specs.Tree.{slots};
 ghost use Rattle.codec.specs.Answers.{answer_of};
 ghost use Rattle.view.specs.Answers.{view_of, put_in};
 ghost use Rattle.view.specs.Asked.{Orderable, Arrangeable, Arranged};
-ghost use Rattle.marks.specs.Marking.{marksOf};
+ghost use Rattle.marks.specs.Marking.{marks_of};
 ghost use Rattle.tour.specs.Tables.{order_by};
 ghost use Rattle.view.specs.Tables.{order_of, lines_of};
 ghost use Rattle.rules.specs.Listing as rules;
@@ -33,8 +33,8 @@ fn order_view(parents: &[u16], marks: &[u8], view: View, order: &mut [u32]) -> u
 // Arranges the nodes that a view shows, and marks those that ops remove.
 pub(crate) fn arrange_view(file: &[u8], view: View, marks: &mut [u8], order: &mut [u32]) -> usize
     requires { Arrangeable file.now marks.old order.old }
-    ensures { (marks.new ≡ marksOf (logOf width file.now))
-        × (take result order.new ≡ order_of (logOf width file.now) (view_of view)) × (result ≤ slots) }
+    ensures { (marks.new ≡ marks_of (log_of width file.now))
+        × (take result order.new ≡ order_of (log_of width file.now) (view_of view)) × (result ≤ slots) }
 {
     let mut parents = [0u16; SLOTS];
     let mut outcomes = [0u8; SLOTS];

@@ -1,10 +1,10 @@
 ghost use Rattle.std.specs.Prelude.{◌≡◌};
 ghost use Rattle.rules.specs.File.{width};
-ghost use Rattle.rules.specs.Path.{pathCall};
+ghost use Rattle.rules.specs.Path.{path_call};
 ghost use Rattle.codec.specs.Answers.{answer_of};
 ghost use Rattle.view.specs.Answers.{put_in};
 ghost use Rattle.view.specs.Asked.{Way, WayOut, Present};
-ghost use Rattle.view.specs.Tables.{putFront};
+ghost use Rattle.view.specs.Tables.{put_front};
 ghost use Rattle.rules.specs.Tree as tree;
 
 use codec::{Answer, Refusal};
@@ -17,7 +17,7 @@ use tree::{SLOTS, depth_of, slot_of};
 // Writes a node, its parent, and so on to the root.
 fn write_path(parents: &[u16], node: u16, steps: usize, out: &mut [u16])
     requires { WayOut parents.now node steps out.old }
-    ensures { out.new ≡ putFront (tree.path parents.now node) out.old }
+    ensures { out.new ≡ put_front (tree.path parents.now node) out.old }
 {
     let mut at = node;
     for i in 0..steps {
@@ -46,7 +46,7 @@ fn put_path(parents: &[u16], node: u16, out: &mut [u16]) -> Answer
 fn put_path_now(file: &[u8], node: u16, out: &mut [u16]) -> Answer
     requires { Present file.now node }
     ensures { record { answer = answer_of result; out = out.new }
-        ≡ pathCall width file.now node out.old }
+        ≡ path_call width file.now node out.old }
 {
     let mut parents = [0u16; SLOTS];
     let mut outcomes = [0u8; SLOTS];
@@ -57,7 +57,7 @@ fn put_path_now(file: &[u8], node: u16, out: &mut [u16]) -> Answer
 // Puts the path of a node into lent entries.
 pub fn path(file: &[u8], node: u16, out: &mut [u16]) -> Answer
     ensures { record { answer = answer_of result; out = out.new }
-        ≡ pathCall width file.now node out.old }
+        ≡ path_call width file.now node out.old }
 {
     if !is_sound(file) {
         return Answer::Refused(Refusal::Unsound);

@@ -1,6 +1,6 @@
 ghost use Rattle.std.specs.Prelude.{◌≡◌};
 ghost use Rattle.rules.specs.File.{width};
-ghost use Rattle.rules.specs.Listing.{listingSize};
+ghost use Rattle.rules.specs.Listing.{listing_size};
 ghost use Rattle.codec.specs.Answers.{answer_of};
 ghost use Rattle.view.specs.Answers.{view_of};
 
@@ -13,7 +13,7 @@ use tree::SLOTS;
 
 // How many bytes the listing of a view has.
 pub fn listing_size(file: &[u8], view: View) -> Answer
-    ensures { answer_of result ≡ listingSize width file.now (view_of view) }
+    ensures { answer_of result ≡ listing_size width file.now (view_of view) }
 {
     if !is_sound(file) {
         return Answer::Refused(Refusal::Unsound);

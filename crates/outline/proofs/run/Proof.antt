@@ -1,7 +1,7 @@
 -- `outline::run` meets its contract.
 use borrow.Author.Rules.{rules}
-use Rattle.outline.proofs.ReadCases.{read-within}
-use Rattle.outline.proofs.TextCases.{text-printed}
+use Rattle.outline.proofs.ReadCases.{read_within}
+use Rattle.outline.proofs.TextCases.{text_printed}
 use Rattle.outline.proofs.run.Statement.{statement}
 use Rattle.outline.proofs.run.Tie as tie
 
@@ -11,13 +11,13 @@ text-requires c κs =
     let matched = bound.before.before in
     let called = matched.before.before in
     record {
-      within = read-within _ _ _ bound.n.given.1 called.read_all.ensures;
-      buf-size = search rules;
-      out-size = search rules;
+      within = read_within _ _ _ bound.n.given.1 called.read_all.ensures;
+      buf_size = search rules;
+      out_size = search rules;
     }
 
 print-requires : tie.Need-print-requires
-print-requires c κs = let called = c.before.before.before in text-printed _ _ _ _ (search rules) called.text.ensures.0
+print-requires c κs = let called = c.before.before.before in text_printed _ _ _ _ (search rules) called.text.ensures.0
 
 pub run_spec : {M : Type 1} → statement M
 run_spec =

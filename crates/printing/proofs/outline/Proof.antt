@@ -1,6 +1,6 @@
 -- `printing::outline` meets its contract.
 use borrow.Author.Rules.{rules}
-use Rattle.soundness.proofs.SoundCases.{end-asks}
+use Rattle.soundness.proofs.SoundCases.{end_asks}
 use Rattle.printing.proofs.OutlineCases.{printing}
 use Rattle.printing.proofs.outline.Statement.{statement}
 use Rattle.printing.proofs.outline.Tie as tie
@@ -16,7 +16,7 @@ outline-spec =
     (λ c κs. search rules)
     (λ c. search rules)
     (λ c. search printing)
-    (λ c κs. end-asks _ (search printing))
+    (λ c κs. end_asks _ (search printing))
     (λ c κs. search rules)
     (λ c. search rules)
     (λ c. search printing)

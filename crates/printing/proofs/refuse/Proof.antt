@@ -2,14 +2,14 @@
 use mathlib.Core.Path.{refl}
 use lib.ListN.{length-set}
 use native.Mathlib.Omega.{arith}
-use Rattle.rules.specs.Listing.{refusedLine}
-use Rattle.printing.proofs.OutlineCases.{printing, refuse-put}
+use Rattle.rules.specs.Listing.{refused_line}
+use Rattle.printing.proofs.OutlineCases.{printing, refuse_put}
 use Rattle.printing.proofs.refuse.Statement.{statement}
 use Rattle.printing.proofs.refuse.Tie as tie
 
 returns-2 : tie.Need-returns-2
-unfolding refusedLine
-returns-2 c = refuse-put _ c.if1.false
+unfolding refused_line
+returns-2 c = refuse_put _ c.if1.false
 
 pub refuse-spec : {M : Type 1} → statement M
 refuse-spec =

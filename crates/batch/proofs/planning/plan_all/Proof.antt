@@ -2,9 +2,9 @@
 use Prim.Native.Nat.{◌-◌}
 use mathlib.Core.Path.{refl}
 use borrow.Author.Rules.{rules}
-use Rattle.lists.proofs.BoolLaws.{so-by-not}
-use Rattle.soundness.proofs.SoundCases.{end-asks}
-use Rattle.batch.proofs.PlanCases.{PlannedTo, plan-on, planning}
+use Rattle.lists.proofs.BoolLaws.{so_by_not}
+use Rattle.soundness.proofs.SoundCases.{end_asks}
+use Rattle.batch.proofs.PlanCases.{PlannedTo, plan_on, planning}
 use Rattle.batch.proofs.planning.plan_all.Statement.{statement}
 use Rattle.batch.proofs.planning.plan_all.Tie as tie
 
@@ -22,8 +22,8 @@ loop-again c =
     let lent = took.before.before.before in
     let counted = lent.before in
     let turn = counted.before in
-    let accepted = so-by-not c.before.is-accepted.ensures c.if1.false in
-    plan-on _ _ _ _ _ _ _ _ _ _ _ _ _ turn.before.loop.invariant turn.loop-test.true _ _ refl refl _ counted.with-more.ensures
+    let accepted = so_by_not c.before.is-accepted.ensures c.if1.false in
+    plan_on _ _ _ _ _ _ _ _ _ _ _ _ _ turn.before.loop.invariant turn.loop-test.true _ _ refl refl _ counted.with-more.ensures
     _ _ _ took.plan-next.ensures accepted (search rules)
 
 pub plan-all-spec : {M : Type 1} → statement M
@@ -32,7 +32,7 @@ plan-all-spec =
     (tie.spec
     invariant-loop
     decreases-loop
-    (λ c κs. end-asks _ (search planning))
+    (λ c κs. end_asks _ (search planning))
     (λ c κs. search planning)
     (λ c. search planning)
     (λ c. search planning)

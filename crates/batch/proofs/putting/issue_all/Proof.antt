@@ -2,7 +2,7 @@
 use borrow.Author.Rules.{rules}
 use native.Mathlib.Omega.{arith}
 use lib.ListN.{length-replicate, length-take}
-use Rattle.soundness.proofs.SoundCases.{end-asks}
+use Rattle.soundness.proofs.SoundCases.{end_asks}
 use Rattle.batch.proofs.PutCases.{putting}
 use Rattle.batch.proofs.putting.issue_all.Statement.{statement}
 use Rattle.batch.proofs.putting.issue_all.Tie as tie
@@ -11,7 +11,7 @@ pub issue-all-spec : {M : Type 1} → statement M
 issue-all-spec =
     tie.close
     (tie.spec
-    (λ c κs. end-asks _ (search putting))
+    (λ c κs. end_asks _ (search putting))
     (λ c. search rules)
     (λ c. search putting)
     (λ c. search rules)

@@ -1,5 +1,5 @@
 -- `bundle::opening::take_body` meets its contract.
-use Rattle.bundle.proofs.OpenCases.{opening, body-unread}
+use Rattle.bundle.proofs.OpenCases.{opening, body_unread}
 use mathlib.Core.Path.{◌∙◌}
 use Rattle.delivery.proofs.DeliverCases.{delivering, unread}
 use Rattle.bundle.proofs.opening.take_body.Statement.{statement}
@@ -13,7 +13,7 @@ returns-2 c =
     let inner = c.before in
     let outer = inner.before.before.before in
     let read = outer.before.before in
-    body-unread _ _ _ (unread _ _ (search delivering) _ read.read-op.ensures _ (outer.read2.given.1 ∙ inner.read3.given.1))
+    body_unread _ _ _ (unread _ _ (search delivering) _ read.read-op.ensures _ (outer.read2.given.1 ∙ inner.read3.given.1))
 
 pub take-body-spec : {M : Type 1} → statement M
 take-body-spec =

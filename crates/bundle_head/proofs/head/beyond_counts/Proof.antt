@@ -2,12 +2,12 @@
 use Rattle.bundle_head.proofs.HeadCases.{heading}
 use Prim.Native.Nat.{◌-◌}
 use Rattle.vector.proofs.VectorLaws.{Built}
-use Rattle.bundle_head.specs.Head.{beyondAt}
+use Rattle.bundle_head.specs.Head.{beyond_at}
 use Rattle.bundle_head.proofs.head.beyond_counts.Statement.{statement}
 use Rattle.bundle_head.proofs.head.beyond_counts.Tie as tie
 
 abbrev invariant-loop : tie.invariant-loop
-invariant-loop held counts beyond₀ i₀ beyond i = Built (beyondAt held counts) beyond i
+invariant-loop held counts beyond₀ i₀ beyond i = Built (beyond_at held counts) beyond i
 
 abbrev decreases-loop : tie.decreases-loop
 decreases-loop held counts beyond₀ i₀ beyond i = 8 - i

@@ -1,5 +1,5 @@
 -- `bundle_head::head::total` meets its contract.
-use Rattle.bundle_head.proofs.HeadCases.{heading, Summed, sum-all}
+use Rattle.bundle_head.proofs.HeadCases.{heading, Summed, sum_all}
 use Prim.Native.Nat.{◌-◌}
 use native.Mathlib.Omega.{arith}
 use Rattle.bundle_head.proofs.head.total.Statement.{statement}
@@ -12,7 +12,7 @@ abbrev decreases-loop : tie.decreases-loop
 decreases-loop counts sum₀ i₀ sum i = 8 - i
 
 returns : tie.Need-returns invariant-loop decreases-loop
-returns c = sum-all _ _ _ c.before.loop.invariant (search heading) (omega arith)
+returns c = sum_all _ _ _ c.before.loop.invariant (search heading) (omega arith)
 
 pub total-spec : {M : Type 1} → statement M
 total-spec =

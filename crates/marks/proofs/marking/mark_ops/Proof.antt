@@ -1,7 +1,7 @@
 -- `marks::marking::mark_ops` meets its contract.
 use native.Mathlib.Omega.{arith}
 use Rattle.oplog.proofs.MarkerLaws.{togo}
-use Rattle.marks.proofs.MarkingCases.{Marking, marking, unmarked-size}
+use Rattle.marks.proofs.MarkingCases.{Marking, marking, unmarked_size}
 use Rattle.marks.proofs.marking.mark_ops.Statement.{statement}
 use Rattle.marks.proofs.marking.mark_ops.Tie as tie
 
@@ -22,5 +22,5 @@ mark-ops-spec =
     (λ c κs. search marking)
     (λ c. search marking)
     (λ c. search marking)
-    (λ c. omega (arith, unmarked-size))
+    (λ c. omega (arith, unmarked_size))
     (λ c. search marking))

@@ -1,14 +1,14 @@
 -- `outline_c::batches::outline_issue_moves` meets its contract.
 use native.Mathlib.Omega.{arith}
 use borrow.Author.Rules.{rules}
-use Rattle.outline_c.proofs.NumberCases.{numbering, batched-fits}
+use Rattle.outline_c.proofs.NumberCases.{numbering, batched_fits}
 use Rattle.outline_c.proofs.batches.outline_issue_moves.Statement.{statement}
 use Rattle.outline_c.proofs.batches.outline_issue_moves.Tie as tie
 
 number-requires : tie.Need-number-requires
 number-requires c κs =
     let called = c.before.before.before in
-    batched-fits _ _ _ _ _ _ _ _ called.before.issue-moves.ensures (omega arith)
+    batched_fits _ _ _ _ _ _ _ _ called.before.issue-moves.ensures (omega arith)
 
 pub outline-issue-moves-spec : {M : Type 1} → statement M
 outline-issue-moves-spec =

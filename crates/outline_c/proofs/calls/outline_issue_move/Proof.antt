@@ -1,14 +1,14 @@
 -- `outline_c::calls::outline_issue_move` meets its contract.
 use native.Mathlib.Omega.{arith}
 use borrow.Author.Rules.{rules}
-use Rattle.outline_c.proofs.NumberCases.{numbering, issued-fits}
+use Rattle.outline_c.proofs.NumberCases.{numbering, issued_fits}
 use Rattle.outline_c.proofs.calls.outline_issue_move.Statement.{statement}
 use Rattle.outline_c.proofs.calls.outline_issue_move.Tie as tie
 
 number-requires : tie.Need-number-requires
 number-requires c κs =
     let called = c.before.before.before in
-    issued-fits _ _ _ _ _ _ _ called.before.issue-move.ensures (omega arith)
+    issued_fits _ _ _ _ _ _ _ called.before.issue-move.ensures (omega arith)
 
 pub outline-issue-move-spec : {M : Type 1} → statement M
 outline-issue-move-spec =

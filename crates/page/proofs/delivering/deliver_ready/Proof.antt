@@ -1,6 +1,6 @@
 -- `page::delivering::deliver_ready` meets its contract.
-use Rattle.page.proofs.CallCases.{delivering, deliver-renewed}
-use Rattle.lists.proofs.BoolLaws.{so-by-not}
+use Rattle.page.proofs.CallCases.{delivering, deliver_renewed}
+use Rattle.lists.proofs.BoolLaws.{so_by_not}
 use Rattle.page.proofs.delivering.deliver_ready.Statement.{statement}
 use Rattle.page.proofs.delivering.deliver_ready.Tie as tie
 
@@ -21,8 +21,8 @@ returns-2 c =
     let page = renewed c in
     let test = passed page in
     let call = delivered test in
-    deliver-renewed _ _ _ _ _ (start call).pre _ _ call.deliver-next.ensures
-    (so-by-not test.before.is-accepted.ensures test.if1.left) _ call.before.before.Counts-of.ensures _
+    deliver_renewed _ _ _ _ _ (start call).pre _ _ call.deliver-next.ensures
+    (so_by_not test.before.is-accepted.ensures test.if1.left) _ call.before.before.Counts-of.ensures _
     page.renew.ensures.0 _ page.renew.ensures.1
 
 pub deliver-ready-spec : {M : Type 1} → statement M

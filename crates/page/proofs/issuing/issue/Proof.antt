@@ -1,6 +1,6 @@
 -- `page::issuing::issue` meets its contract.
-use Rattle.page.proofs.CallCases.{issuing, ready, issue-short}
-use Rattle.lists.proofs.BoolLaws.{not-so-by-not, so-by-not}
+use Rattle.page.proofs.CallCases.{issuing, ready, issue_short}
+use Rattle.lists.proofs.BoolLaws.{not_so_by_not, so_by_not}
 use Rattle.page.proofs.issuing.issue.Statement.{statement}
 use Rattle.page.proofs.issuing.issue.Tie as tie
 
@@ -19,8 +19,8 @@ returns-2 c =
     let long = c.before.before in
     let asked = long.before.before.before in
     let sound = asked.before in
-    issue-short _ _ _ _ _ _ _ (so-by-not sound.before.is-sound.ensures sound.if1.false)
-    (not-so-by-not long.long-enough.ensures c.before.if2.true) _ _ c.refused2.ensures.number c.refused2.ensures.none
+    issue_short _ _ _ _ _ _ _ (so_by_not sound.before.is_sound_so.ensures sound.if1.false)
+    (not_so_by_not long.long-enough.ensures c.before.if2.true) _ _ c.refused2.ensures.number c.refused2.ensures.none
 
 issue-ready-requires : tie.Need-issue-ready-requires
 issue-ready-requires c κs =
@@ -29,8 +29,8 @@ issue-ready-requires c κs =
     let long = passed.before in
     let asked = long.before.before.before in
     let sound = asked.before in
-    ready _ _ _ _ (so-by-not sound.before.is-sound.ensures sound.if1.false)
-    (so-by-not long.long-enough.ensures passed.if2.false)
+    ready _ _ _ _ (so_by_not sound.before.is_sound_so.ensures sound.if1.false)
+    (so_by_not long.long-enough.ensures passed.if2.false)
 
 pub issue-spec : {M : Type 1} → statement M
 issue-spec =

@@ -1,7 +1,7 @@
 -- `page::renewing::rejudge` meets its contract.
 use borrow.Author.Rules.{rules}
 use native.Mathlib.Omega.{arith}
-use Rattle.page.proofs.RenewLaws.{blank-tables, carry-asks, fill-asks, judge-asks, page-new, shows-asks, slots-ask, some, took-all, took-back}
+use Rattle.page.proofs.RenewLaws.{blank_tables, carry_asks, fill_asks, judge_asks, page_new, shows_asks, slots_ask, some, took_all, took_back}
 use Rattle.page.proofs.renewing.rejudge.Statement.{statement}
 use Rattle.page.proofs.renewing.rejudge.Tie as tie
 
@@ -33,30 +33,30 @@ abbrev stored : tie.After-slice-known6 → tie.After-fill
 stored c = let parents = c.before.before.before in parents.before.before.before
 
 judge-along-requires : tie.Need-judge-along-requires
-judge-along-requires c κs = judge-asks _ _ _ _ _ _ _ _ _ (start c).requires _ _ _ _ _ blank-tables
+judge-along-requires c κs = judge_asks _ _ _ _ _ _ _ _ _ (start c).requires _ _ _ _ _ blank_tables
 
 first-beyond-requires : tie.Need-first-beyond-requires
-first-beyond-requires c κs = slots-ask _ _ _ _ _ _ _ _ _ (start (judged c).before).requires
+first-beyond-requires c κs = slots_ask _ _ _ _ _ _ _ _ _ (start (judged c).before).requires
 
 shows-requires : tie.Need-shows-requires
 shows-requires c κs =
     let place = found c in
     let old = judged place.before in
-    shows-asks _ _ _ _ _ _ _ _ _ (start old.before).requires _ _ _ _ _ _ _ _ _ _ blank-tables old.judge-along.ensures _
+    shows_asks _ _ _ _ _ _ _ _ _ (start old.before).requires _ _ _ _ _ _ _ _ _ _ blank_tables old.judge-along.ensures _
     place.first-beyond.ensures
 
 carry-requires : tie.Need-carry-requires
 carry-requires c κs =
     let place = found (seen c).before in
     let old = judged place.before in
-    carry-asks _ _ _ _ _ _ _ _ _ (start old.before).requires _ _ _ _ _ _ _ _ _ _ blank-tables old.judge-along.ensures _
+    carry_asks _ _ _ _ _ _ _ _ _ (start old.before).requires _ _ _ _ _ _ _ _ _ _ blank_tables old.judge-along.ensures _
     place.first-beyond.ensures
 
 fill-requires : tie.Need-fill-requires
 fill-requires c κs =
     let new = brought c in
     let old = judged (found (seen new.before).before).before in
-    fill-asks _ _ _ _ _ _ _ _ _ (start old.before).requires _ _ _ _ _ new.carry.ensures.0
+    fill_asks _ _ _ _ _ _ _ _ _ (start old.before).requires _ _ _ _ _ new.carry.ensures.0
 
 returns : tie.Need-returns
 returns c =
@@ -65,8 +65,8 @@ returns c =
     let shown = seen new.before in
     let place = found shown.before in
     let old = judged place.before in (
-      page-new _ _ _ _ _ _ _ _ _ (start old.before).requires _ _ _ _ _ new.carry.ensures.0 _ page.fill.ensures,
-      took-back _ _ _ _ _ _ _ _ _ (start old.before).requires _ _ _ _ _ _ _ _ _ _ blank-tables old.judge-along.ensures _
+      page_new _ _ _ _ _ _ _ _ _ (start old.before).requires _ _ _ _ _ new.carry.ensures.0 _ page.fill.ensures,
+      took_back _ _ _ _ _ _ _ _ _ (start old.before).requires _ _ _ _ _ _ _ _ _ _ blank_tables old.judge-along.ensures _
           place.first-beyond.ensures _ shown.shows.ensures c.if1.true _ new.carry.ensures.1,
     )
 
@@ -84,8 +84,8 @@ returns-2 c =
     let shown = seen new.before in
     let place = found shown.before in
     let old = judged place.before in (
-      page-new _ _ _ _ _ _ _ _ _ (start old.before).requires _ _ _ _ _ new.carry.ensures.0 _ page.fill.ensures,
-      took-all _ _ _ _ _ _ _ _ _ (start old.before).requires _ _ _ _ _ _ _ _ _ _ blank-tables old.judge-along.ensures _
+      page_new _ _ _ _ _ _ _ _ _ (start old.before).requires _ _ _ _ _ new.carry.ensures.0 _ page.fill.ensures,
+      took_all _ _ _ _ _ _ _ _ _ (start old.before).requires _ _ _ _ _ _ _ _ _ _ blank_tables old.judge-along.ensures _
           place.first-beyond.ensures _ shown.shows.ensures c.if1.false,
     )
 

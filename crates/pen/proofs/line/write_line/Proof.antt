@@ -4,15 +4,15 @@ use Prim.Native.Nat.{◌+◌, ◌≤◌}
 use native.Mathlib.Omega.{arith}
 use lib.ListN.{length, length-set}
 use Rattle.rules.specs.Listing.{decimal}
-use Rattle.rules.proofs.DecimalLaws.{length-line}
-use Rattle.pen.proofs.LineLaws.{line-penned, line-written}
+use Rattle.rules.proofs.DecimalLaws.{length_line}
+use Rattle.pen.proofs.LineLaws.{line_penned, line_written}
 use Rattle.pen.proofs.line.write_line.Statement.{statement}
 use Rattle.pen.proofs.line.write_line.Tie as tie
 
 -- what is written, piece by piece, fits
 fits : (c : tie.Start) → let a = c.args in
     a.pen.bytes + (length (decimal a.depth) + length (decimal a.node) + 4) ≤ length a.out.now
-fits c = omega (arith, length-line c.args.depth c.args.node c.args.marked, c.requires.room)
+fits c = omega (arith, length_line c.args.depth c.args.node c.args.marked, c.requires.room)
 
 -- the depth, and a space
 first : (c : tie.After-put-decimal) → let a = c.before.before.before.args in
@@ -47,10 +47,10 @@ returns c =
     let a = s.args in
     let n = node.before.put-decimal2 in
     let d = depth.put-decimal in
-    let x = line-written _ _ _ _ _ _ _ _ _ a.marked s.requires.room d.ensures.0 d.ensures.1 n.ensures.0 n.ensures.1
+    let x = line_written _ _ _ _ _ _ _ _ _ a.marked s.requires.room d.ensures.0 d.ensures.1 n.ensures.0 n.ensures.1
     c.before.mark-byte.ensures in
-    let size = length-line a.depth a.node a.marked in
-    line-penned _ _ a.pen _ _ _ _ x (omega (arith, size, d.ensures.0, n.ensures.0))
+    let size = length_line a.depth a.node a.marked in
+    line_penned _ _ a.pen _ _ _ _ x (omega (arith, size, d.ensures.0, n.ensures.0))
 
 pub write-line-spec : {M : Type 1} → statement M
 write-line-spec =

@@ -4,12 +4,12 @@ use Rattle.lists.proofs.ListLaws.{Filled}
 use Prim.Native.Nat.{◌-◌}
 use native.Mathlib.Omega.{arith}
 use lib.ListN.{length-set}
-use Rattle.rules.specs.Tree.{slots, noParent}
+use Rattle.rules.specs.Tree.{slots, no_parent}
 use Rattle.replay.proofs.cut.clear_parents.Statement.{statement}
 use Rattle.replay.proofs.cut.clear_parents.Tie as tie
 
 abbrev invariant-loop : tie.invariant-loop
-invariant-loop parents₀ i₀ parents i = Filled noParent slots i parents
+invariant-loop parents₀ i₀ parents i = Filled no_parent slots i parents
 
 abbrev decreases-loop : tie.decreases-loop
 decreases-loop parents₀ i₀ parents i = slots - i

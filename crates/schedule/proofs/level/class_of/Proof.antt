@@ -1,7 +1,7 @@
 -- `schedule::level::class_of` meets its contract.
 use Rattle.schedule.proofs.ClassLaws.{classing}
 use native.Mathlib.Omega.{arith}
-use Rattle.schedule.proofs.ClassLaws.{classing, class-high}
+use Rattle.schedule.proofs.ClassLaws.{classing, class_high}
 use Rattle.schedule.proofs.level.class_of.Statement.{statement}
 use Rattle.schedule.proofs.level.class_of.Tie as tie
 
@@ -14,4 +14,4 @@ class-of-spec =
     (λ c. search classing)
     (λ c. search classing)
     (λ c. search classing)
-    (λ c. class-high _ (omega arith)))
+    (λ c. class_high _ (omega arith)))

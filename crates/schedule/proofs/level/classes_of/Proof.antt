@@ -2,13 +2,13 @@
 use Rattle.schedule.proofs.ClassLaws.{classing}
 use Prim.Native.Nat.{◌-◌}
 use Rattle.vector.proofs.VectorLaws.{Built}
-use Rattle.rules.specs.File.{logOf}
+use Rattle.rules.specs.File.{log_of}
 use Rattle.schedule.specs.Level.{class_at}
 use Rattle.schedule.proofs.level.classes_of.Statement.{statement}
 use Rattle.schedule.proofs.level.classes_of.Tie as tie
 
 abbrev invariant-loop : tie.invariant-loop
-invariant-loop file next width classes₀ i₀ classes i = Built (class_at (logOf width file) next) classes i
+invariant-loop file next width classes₀ i₀ classes i = Built (class_at (log_of width file) next) classes i
 
 abbrev decreases-loop : tie.decreases-loop
 decreases-loop file next width classes₀ i₀ classes i = 8 - i

@@ -1,14 +1,14 @@
 -- `undo::along::judge_along` meets its contract.
-use Rattle.undo.proofs.WalkLaws.{walking, Ahead, ahead-on}
+use Rattle.undo.proofs.WalkLaws.{walking, Ahead, ahead_on}
 use Prim.Native.Nat.{◌-◌}
-use Rattle.rules.specs.File.{logOf}
+use Rattle.rules.specs.File.{log_of}
 use Rattle.undo.specs.Tables.{undoable}
 use Rattle.undo.proofs.along.judge_along.Statement.{statement}
 use Rattle.undo.proofs.along.judge_along.Tie as tie
 
 abbrev invariant-loop : tie.invariant-loop
 invariant-loop file cut order times from to parents₀ outcomes₀ placed₀ took₀ was₀ width i₀ parents outcomes placed took was i =
-    Ahead (logOf width file) cut order times from to (undoable parents₀ outcomes₀ placed₀ took₀ was₀) parents outcomes placed took was i
+    Ahead (log_of width file) cut order times from to (undoable parents₀ outcomes₀ placed₀ took₀ was₀) parents outcomes placed took was i
 
 abbrev decreases-loop : tie.decreases-loop
 decreases-loop file cut order times from to parents₀ outcomes₀ placed₀ took₀ was₀ width i₀ parents outcomes placed took was i = to - i
@@ -23,7 +23,7 @@ loop-again c =
     let first = lent.before.before in
     let read = first.before.before in
     let turn = read.before.before in
-    ahead-on _ _ _ _ _ _ _ _ _ _ _ _ _ turn.before.loop.invariant turn.loop-test.true _ read.widen16.ensures _ _ _ _ _
+    ahead_on _ _ _ _ _ _ _ _ _ _ _ _ _ turn.before.loop.invariant turn.loop-test.true _ read.widen16.ensures _ _ _ _ _
     judged.keep-counted.ensures
 
 pub judge-along-spec : {M : Type 1} → statement M
