@@ -3,7 +3,7 @@ ghost use Rattle.codec.specs.Answers.{answer_of, number_of};
 ghost use Rattle.codec.specs.Asked.{is_accepted};
 
 // Why a call is refused: a case for each of the document's numbers.
-#[derive(Drop)]
+#[derive(Clone, Copy)]
 pub enum Refusal {
     // 1: the log is not sound.
     Unsound,
@@ -36,7 +36,7 @@ pub enum Refusal {
 }
 
 // What a call answers.
-#[derive(Drop)]
+#[derive(Clone, Copy)]
 pub enum Answer {
     Refused(Refusal),
     // The op was held already.

@@ -9,7 +9,7 @@ use crate::field::{kind_at, node_at, parent_at, replica_at};
 use crate::word::{put_word, widen};
 
 // The fields of an op but its vector, which stays beside it: an enum holds no array.
-#[derive(Drop)]
+#[derive(Clone, Copy)]
 pub struct Fields {
     pub kind: u8,
     pub replica: u8,
@@ -19,7 +19,7 @@ pub struct Fields {
 }
 
 // What the op reader answers.
-#[derive(Drop)]
+#[derive(Clone, Copy)]
 pub enum Read {
     Op(Fields),
     Refused(Refusal),

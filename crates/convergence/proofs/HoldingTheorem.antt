@@ -10,7 +10,7 @@ use borrow.Author.Tests.{ltb-true}
 use lib.Dec.{ltb}
 use lib.ListN.{length, length-append}
 use Rattle.lists.proofs.BoolLaws.{never}
-use Rattle.rules.specs.Answer.{Answer, refused, had_it, waiting, accepted, require, if_accepted, if_waiting}
+use Rattle.rules.specs.Answer.{Answer, refused, had_it, waiting, accepted, require, if_accepted, if_waiting, done}
 use Rattle.rules.specs.Bytes.{byte}
 use Rattle.rules.specs.Op.{Op, vector_of, well_formed}
 use Rattle.rules.specs.File.{Log, Extends, file_end, log_of, appended}
@@ -207,7 +207,7 @@ module _ (w : ℕ) (f : List ℕ) (rs : List (List ℕ)) where
     -- nothing changes
     same_desk : (reads w r ≡ true → Waited d r) → Next d r (record { buffer = g; holdback = h })
     same_desk k = record {
-      desked = record { reached = x.reached; is_holdback = x.is_holdback; known = x.known; is_early = x.is-early };
+      desked = record { reached = x.reached; is_holdback = x.is_holdback; known = x.known; is_early = x.is_early };
       keeps = λ y e q. q;
       gains = k;
     }
@@ -230,7 +230,7 @@ module _ (w : ℕ) (f : List ℕ) (rs : List (List ℕ)) where
                 (λ (q : has (r ∷ []) y ≡ true). rw (last y q) (i, reads_of w r l m))
                 (has_either ops (r ∷ []) y j));
             is_early = rw back (λ y j. ⊎_elim
-                (λ (q : has ops y ≡ true). x.is-early y q)
+                (λ (q : has ops y ≡ true). x.is_early y q)
                 (λ (q : has (r ∷ []) y ≡ true). rw (last y q) c)
                 (has_either ops (r ∷ []) y j));
           };
@@ -308,6 +308,8 @@ module _ (w : ℕ) (f : List ℕ) (rs : List (List ℕ)) where
     next (refused n) e (full l a k) ok =
         absurd (omega (arith, has_room w rs f g x.reached r i (reads_of w r l a.formed) a))
     next (accepted n) e (taken k) ok = on_taken n k e
+    next waiting e v ok = elim v [ ]
+    next done e v ok = elim v [ ]
 
     post_next : (holdback_answer w g r h ≡ refused 13 → ⊥) → Next d r (post w d r)
     unfolding post holdback_buffer holdback_after holdback_answer require
@@ -356,7 +358,7 @@ module _ (w : ℕ) (f : List ℕ) (rs : List (List ℕ)) where
           y.desked.reached,
           λ r j e a. ⊎_elim
               (λ z. settled_out _ r z a)
-              (λ z. never (sym (y.desked.is-early r z) ∙ a.is_covered))
+              (λ z. never (sym (y.desked.is_early r z) ∙ a.is_covered))
               (y.gains r j e),
         )
 

@@ -130,9 +130,9 @@ module _ (log : Log) (ops : List Op) (t : Tracks log ops) (held : HeldOps log) (
       let b : q ≤ count_in (counts_of log) s = rw (es, eq) at (t.inside y i).here in
       omega arith)))
 
-  in_order : count_in (counts_of log) s ≤ 255 → in_order ops s ≡ ops_of log s
+  in_order_law : count_in (counts_of log) s ≤ 255 → in_order ops s ≡ ops_of log s
   unfolding in_order op_at
-  in_order full =
+  in_order_law full =
       let c : count_in (counts_of log) s ≡ length (ops_of log s) = count_held log s in
       collect (op_numbered ops s) 255 1 (ops_of log s) (omega arith)
       (λ i j. let k : 1 + i - 1 ≡ i = omega arith in rw k at (numbered (1 + i) (omega arith) (omega arith)))
@@ -143,4 +143,4 @@ pub arrange_log : (log : Log) (ops : List Op) → Tracks log ops → HeldOps log
     → ((s : ℕ) → 1 ≤ s → s ≤ 8 → count_in (counts_of log) s ≤ 255) → arrange ops ≡ log
 unfolding arrange
 arrange_log log ops t held eight full =
-    map_replicas (in_order ops) (ops_of log) (λ s l u. in_order log ops t held s l u (full s l u)) ∙ log_eta log eight
+    map_replicas (in_order ops) (ops_of log) (λ s l u. in_order_law log ops t held s l u (full s l u)) ∙ log_eta log eight

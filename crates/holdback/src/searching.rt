@@ -12,7 +12,7 @@ use holdback_places::{count, free_place};
 use soundness::WIDTH;
 
 // What becomes of an op that the search meets.
-#[derive(Drop)]
+#[derive(Clone, Copy)]
 pub(crate) enum Met {
     Taken,
     Stays,

@@ -1,7 +1,7 @@
 use codec::Refusal;
 
 // An op to issue, but for its replica and its vector.
-#[derive(Drop)]
+#[derive(Clone, Copy)]
 pub struct Draft {
     pub kind: u8,
     pub node: u16,
@@ -9,7 +9,7 @@ pub struct Draft {
 }
 
 // What the tests of a request say: the op to issue, or the first test that failed.
-#[derive(Drop)]
+#[derive(Clone, Copy)]
 pub enum Drafted {
     Op(Draft),
     Refused(Refusal),

@@ -8,7 +8,7 @@ use structure::known_in;
 use tree::slot_in;
 
 // What a vector knows of a node.
-#[derive(Drop)]
+#[derive(Clone, Copy)]
 pub enum Knowledge {
     Unknown,
     KnownUnmarked,

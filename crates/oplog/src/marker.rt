@@ -6,7 +6,7 @@ use crate::header::count_at;
 
 // A marker (the document's): the op number `sequence` of a replica, both from 1. It steps through the
 // bodies in file order.
-#[derive(Drop)]
+#[derive(Clone, Copy)]
 pub struct Marker {
     pub replica: usize,
     pub sequence: usize,

@@ -4,7 +4,7 @@ ghost use Rattle.page.specs.Answers.{Refuses};
 use codec::{Answer, Refusal};
 
 // What a call with a page answers, and how many ops it took back.
-#[derive(Drop)]
+#[derive(Clone, Copy)]
 pub struct Paged {
     pub answer: Answer,
     pub taken: usize,

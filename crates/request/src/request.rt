@@ -1,5 +1,5 @@
 // What a caller asks to issue.
-#[derive(Drop)]
+#[derive(Clone, Copy)]
 pub enum Request {
     // A new node under a parent.
     Add(u16),

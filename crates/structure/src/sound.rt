@@ -80,7 +80,7 @@ fn next_place(file: &[u8], m: Marker, at: usize, width: usize) -> usize
 
 // The next marker and what goes with it: the place of its op, and the vector of its replica's op
 // before, that of this marker's op, or none at a replica's first.
-#[derive(Drop)]
+#[derive(Clone, Copy)]
 struct Turn {
     marker: Marker,
     at: usize,

@@ -5,7 +5,7 @@ ghost use Rattle.tree.specs.Climb.{climbed_of, move_or_cycle};
 use crate::slots::{SLOTS, slot_of};
 
 // What a climb that ends at a node hands back: whether the node is met, and the number of steps.
-#[derive(Drop)]
+#[derive(Clone, Copy)]
 pub struct Climbed {
     pub met: bool,
     pub steps: usize,

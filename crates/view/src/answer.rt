@@ -1,5 +1,5 @@
 // The two views of a log.
-#[derive(Drop)]
+#[derive(Clone, Copy)]
 pub enum View {
     // A node is shown if it or some node below it is unmarked.
     Keeping,

@@ -1,0 +1,28 @@
+-- `schedule::level::lowest` meets its contract.
+use Rattle.schedule.proofs.ClassLaws.{classing}
+use Prim.Native.Nat.{◌-◌}
+use Rattle.schedule.proofs.level.lowest.Goals as goal
+
+pub loop-i-init : goal.loop-i-init
+loop-i-init c = search classing
+
+pub bounds-classes-i : goal.bounds-classes-i
+bounds-classes-i c = search classing
+
+pub overflow_add-result : goal.overflow_add-result
+overflow_add-result c = search classing
+
+pub returns-then-classes-i-ne0 : goal.returns-then-classes-i-ne0
+returns-then-classes-i-ne0 c = search classing
+
+pub overflow_step-i : goal.overflow_step-i
+overflow_step-i c = search classing
+
+pub loop-i-smaller : goal.loop-i-smaller
+loop-i-smaller c = search classing
+
+pub loop-i-preserved : goal.loop-i-preserved
+loop-i-preserved c = search classing
+
+pub returns : goal.returns
+returns c = search classing

@@ -1,0 +1,12 @@
+-- `tree::climb::climb_to`: what its loops keep.
+use Rattle.tree.proofs.ClimbLaws.{Climbing}
+use Prim.Native.Nat.{◌+◌, ◌-◌}
+use Rattle.rules.specs.Tree.{climb_to}
+use Rattle.tree.proofs.climb.climb_to.Given as goal
+
+abbrev pub invariant-loop-i : goal.invariant-loop-i
+invariant-loop-i l = Climbing l.parents l.parent l.node l.i l.at
+
+-- what is left of the steps: the loop makes no more of them
+abbrev pub decreases-loop-i : goal.decreases-loop-i
+decreases-loop-i l = (climb_to l.parents l.parent l.node).steps + 1 - l.i
