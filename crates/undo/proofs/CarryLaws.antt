@@ -126,6 +126,6 @@ module _ (w : ℕ) (f : List ℕ) (before after : Vector) (order times : List �
           ops_are w f order times from to x.whole y x.ends before,
           x.replayed,
         ) (carried log (structural_good w f st) before after x.whole y.is_covered
-        (within_le before x.whole x.before-inside) (within_le after x.whole x.after-inside) from front_agrees)
+        (within_le before x.whole x.before_inside) (within_le after x.whole x.after_inside) from front_agrees)
 
 pub ruleset carrying = (rules, judge_asks, carries)

@@ -63,10 +63,10 @@ module _ (i : ℕ) (x : IsSlot i) where
   pub index_fits : (s : ℕ) → s ≡ replica_in i → s - 1 < 8
   index_fits s e = omega (arith, x.some, x.most)
 
-  pub slot_counted : (cut : Vector) (s q c : ℕ) → s ≡ replica_in i → q ≡ sequence_in i → c ≡ get_or cut (s - 1) 0
+  pub slot_counted_law : (cut : Vector) (s q c : ℕ) → s ≡ replica_in i → q ≡ sequence_in i → c ≡ get_or cut (s - 1) 0
       → leb q c ≡ slot_counted cut i
   unfolding slot_counted count_in
-  slot_counted cut s q c es eq ec = rw (eq, ec, es)
+  slot_counted_law cut s q c es eq ec = rw (eq, ec, es)
 
 ---- one op
 
@@ -204,7 +204,7 @@ pub ruleset keeping = (
   gone_through,
   gone_one,
   index_fits,
-  slot_counted,
+  slot_counted_law,
   outcome_fits,
   took_fits,
   was_fits,
