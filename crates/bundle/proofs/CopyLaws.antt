@@ -119,11 +119,11 @@ module _ (w n : ℕ) (f : List ℕ) (x : Reaches w n f) (r : Op) where
 
   front_after : deliver_buffer w front r ≡ take n (deliver_buffer w f r)
   unfolding deliver_buffer
-  front_after = rw deliver_part (delivered_part (deliver_answer w f r) refl).same-front
+  front_after = rw deliver_part (delivered_part (deliver_answer w f r) refl).same_front
 
   past_after : drop n (deliver_buffer w f r) ≡ drop n f
   unfolding deliver_buffer
-  past_after = (delivered_part (deliver_answer w f r) refl).same-past
+  past_after = (delivered_part (deliver_answer w f r) refl).same_past
 
 -- ops in turn
 pub turns_part : (w n : ℕ) (rs : List Op) (f : List ℕ) → Reaches w n f

@@ -1,0 +1,12 @@
+-- `issue::drafting::draft_move_now` meets its contract.
+use Rattle.issue.proofs.IssueCases.{issuing}
+use Rattle.issue.proofs.drafting.draft_move_now.Goals as goal
+
+pub replay_all-requires : goal.replay_all-requires
+replay_all-requires c = search issuing
+
+pub draft_move-requires : goal.draft_move-requires
+draft_move-requires c = search issuing
+
+pub returns : goal.returns
+returns c = search issuing
