@@ -5,7 +5,7 @@ ghost use Rattle.pen.specs.Lines.{Asked, penned};
 use crate::decimal::{digit_count, put_decimal};
 
 // A pen (the document's): bytes and lines written.
-#[derive(Drop)]
+#[derive(Clone, Copy)]
 pub struct Pen {
     pub bytes: usize,
     pub lines: usize,
@@ -30,7 +30,7 @@ fn mark_byte(marked: bool) -> u8
 // Writes a line behind what is written, and hands the pen back with the line counted.
 pub fn write_line(out: &mut [u8], pen: Pen, depth: u16, node: u16, marked: bool) -> Pen
     requires { Asked out.old pen (line_of depth node marked) }
-    ensures { record { out = out.exit.now; pen = result } ≡ penned out.entry.now pen (line_of depth node marked) }
+    ensures { record { out = out.new; pen = result } ≡ penned out.old pen (line_of depth node marked) }
 {
     let at = pen.bytes;
     let space = put_decimal(out, at, depth);
@@ -47,8 +47,8 @@ pub fn write_line(out: &mut [u8], pen: Pen, depth: u16, node: u16, marked: bool)
 // The thin line writer: the pen is lent, and changed by the line.
 pub fn write_line_with(out: &mut [u8], pen: &mut Pen, depth: u16, node: u16, marked: bool)
     requires { Asked out.old pen.old (line_of depth node marked) }
-    ensures { record { out = out.exit.now; pen = pen.new }
-        ≡ penned out.entry.now pen.old (line_of depth node marked) }
+    ensures { record { out = out.new; pen = pen.new }
+        ≡ penned out.old pen.old (line_of depth node marked) }
 {
     *pen = write_line(out, *pen, depth, node, marked);
 }
@@ -56,7 +56,7 @@ pub fn write_line_with(out: &mut [u8], pen: &mut Pen, depth: u16, node: u16, mar
 // A line by a pen that the caller holds by value: the pen is lent to the line, and handed back.
 pub fn lend_line(out: &mut [u8], pen: Pen, depth: u16, node: u16, marked: bool) -> Pen
     requires { Asked out.old pen (line_of depth node marked) }
-    ensures { record { out = out.exit.now; pen = result } ≡ penned out.entry.now pen (line_of depth node marked) }
+    ensures { record { out = out.new; pen = result } ≡ penned out.old pen (line_of depth node marked) }
 {
     let mut lent = pen;
     write_line_with(out, &mut lent, depth, node, marked);

@@ -171,8 +171,8 @@ module _ (log more : Log) (late : Late log more) (good : GoodLog log) (Good-more
   skip n st none t = record {
     full = t.full;
     falls = t.falls;
-    placed_if = λ m p. t.placed-if m (p.0, higher p.0 p.1 p.2, p.2, p.3);
-    placed_only = λ m v e. lower n m (t.placed-only m v e);
+    placed_if = λ m p. t.placed_if m (p.0, higher p.0 p.1 p.2, p.2, p.3);
+    placed_only = λ m v e. lower n m (t.placed_only m v e);
     fair = λ s h a. t.fair s (higher s h a) a;
     old_outcome = λ i none. t.old_outcome i (λ s h. none s (omega arith));
     moved = λ s h a. t.moved s (higher s h a) a;
@@ -218,7 +218,7 @@ module _ (log more : Log) (late : Late log more) (good : GoodLog log) (Good-more
     judge_second : get_or st.placed (slot_of n₀) 0 ≡ now → JudgedAbove n (step st (it s₀))
     judge_second e =
         let m = is_move_law s₀ a in
-        let p = t.placed-only n₀ (node_valid s₀ a) e in
+        let p = t.placed_only n₀ (node_valid s₀ a) e in
         let full' = full_step st (it s₀) t.full in
         let after = passed_over st now r₀ m 2 refl (placed_already st now r₀ m e) in
         rw after (record {
@@ -226,9 +226,9 @@ module _ (log more : Log) (late : Late log more) (good : GoodLog log) (Good-more
           falls = t.falls;
           placed_if = λ m q. elim (ℕ_discrete q.0 s₀) [
             | yes z ↦ let m-is : n₀ ≡ m = rw z at q.3 in rw (← m-is) e
-            | no nz ↦ t.placed-if m (q.0, omega (arith, q.1), q.2, q.3)
+            | no nz ↦ t.placed_if m (q.0, omega (arith, q.1), q.2, q.3)
           ];
-          placed_only = λ m v q. lower n m (t.placed-only m v q);
+          placed_only = λ m v q. lower n m (t.placed_only m v q);
           fair = outcomes_set 2 (inr (refl, p));
           old_outcome = old_set 2;
           moved = λ s h b free. elim (ℕ_discrete s s₀) [
@@ -241,7 +241,7 @@ module _ (log more : Log) (late : Late log more) (good : GoodLog log) (Good-more
     -- it is the first to place its node
     module _ (ne : get_or st.placed (slot_of n₀) 0 ≡ now → ⊥) where
       not_moved : Mover log more s₀ n₀ → ⊥
-      not_moved p = ne (t.placed-if n₀ p)
+      not_moved p = ne (t.placed_if n₀ p)
 
       in_table : slot_of n₀ < slots
       in_table = slot_below n₀ (node_valid s₀ a)
@@ -257,7 +257,7 @@ module _ (log more : Log) (late : Late log more) (good : GoodLog log) (Good-more
         | yes z ↦ rw z (get_or-set_same st.placed (slot_of n₀) now 0 (omega (arith, t.full.placed_full, in_table)))
         | no nz ↦ rw (get_or-set_other st.placed (slot_of n₀) (slot_of m) now 0 nz) (elim (ℕ_discrete q.0 s₀) [
           | yes z ↦ absurd (nz (ap slot_of (sym (rw z at q.3))))
-          | no nz' ↦ t.placed-if m (q.0, omega (arith, q.1), q.2, q.3)
+          | no nz' ↦ t.placed_if m (q.0, omega (arith, q.1), q.2, q.3)
         ])
       ]
 
@@ -266,7 +266,7 @@ module _ (log more : Log) (late : Late log more) (good : GoodLog log) (Good-more
         | yes z ↦ (s₀, omega arith, a, sym z)
         | no nz ↦
             let apart : slot_of m ≡ slot_of n₀ → ⊥ = λ z. nz (slot_injective m n₀ v (node_valid s₀ a) z) in
-            lower n m (t.placed-only m v (sym (get_or-set_other st.placed (slot_of n₀) (slot_of m) now 0 apart) ∙ q))
+            lower n m (t.placed_only m v (sym (get_or-set_other st.placed (slot_of n₀) (slot_of m) now 0 apart) ∙ q))
       ]
 
       moved_now : (s : ℕ) → n < s → New log more s → (Mover log more s (node s) → ⊥)

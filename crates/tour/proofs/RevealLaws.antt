@@ -163,7 +163,7 @@ module _ (log : Log) (good : GoodLog log) where
       let c : (i : ℕ) → i < j → shows_in hidden (up P i n) ≡ true → shows_in hidden (up P (suc i) n) ≡ true = λ i h s.
       is (up P (suc i) n) (v (suc i) h) ∙ rw (up_last P i n) (u.upward (up P i n) (r.on i (omega arith)) (o i h)
       (sym (is (up P i n) (v i (omega arith))) ∙ s)) in
-      reveals P (table_size log good) slots j hidden n m l d v (omega arith) (is 0 (inl refl) ∙ u.has-root) c vm ∙ rw (is m vm)
+      reveals P (table_size log good) slots j hidden n m l d v (omega arith) (is 0 (inl refl) ∙ u.has_root) c vm ∙ rw (is m vm)
 
   reveal_slot_law : (k : ℕ) → 0 < k → k < slots → (hidden : List ℕ) (S : ℕ → Bool) → length hidden ≡ slots
       → ((m : ℕ) → Valid m → shows_in hidden m ≡ S m) → Upward S → (m : ℕ) → Valid m
@@ -192,7 +192,7 @@ module _ (log : Log) (good : GoodLog log) where
 
   upward_more : (k : ℕ) (S : ℕ → Bool) → Upward S → Upward (λ m. S m || (unmarked k && is_in m (path P (slot_node k))))
   upward_more k S u = record {
-    has_root = rw u.has-root;
+    has_root = rw u.has_root;
     upward = λ c w nz e.
         ⊎_elim
         (λ (s : S c ≡ true). rw (u.upward c w nz s))
