@@ -1,0 +1,16 @@
+-- `batch::planning::plan` meets its contract.
+use Rattle.soundness.proofs.SoundCases.{header_of}
+use Rattle.batch.proofs.PutCases.{putting}
+use Rattle.batch.proofs.planning.plan.Goals as goal
+
+pub counts_of-held-requires : goal.counts_of-held-requires
+counts_of-held-requires c = header_of _ (search putting)
+
+pub mark_ops-requires : goal.mark_ops-requires
+mark_ops-requires c = search putting
+
+pub replay_all-requires : goal.replay_all-requires
+replay_all-requires c = search putting
+
+pub plan_all-requires : goal.plan_all-requires
+plan_all-requires c = search putting
