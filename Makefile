@@ -1,7 +1,8 @@
-# The library for C and C++, and the program seat: building, testing and installing them. `rt` proves
-# and compiles the library; a C compiler does the rest, and cargo builds seat.
+# The library for C and C++, and the programs: building, testing and installing them. `rt` proves and
+# compiles the library and the program outline; a C compiler does the rest, and cargo builds seat.
 #
 #   make               the library and the program outline-print
+#   make outline       proves and builds the program outline: target/bin/outline
 #   make example       builds and runs the example
 #   make check         the tests of the header, the programs and the installation
 #   make install       into PREFIX (/usr/local), below DESTDIR if that is set
@@ -24,19 +25,25 @@ version := $(shell sed -n 's/.*OUTLINE_VERSION_TEXT "\(.*\)"/\1/p' include/outli
 
 library = target/staticlib/liboutline_c.a
 program = target/outline-print
-sources := $(shell find crates.txt crates -type f -not -path '*/must-fail/*')
+sources := $(shell find crates.txt crates -type f -not -path '*/must-fail/*' -not -path '*/out/*')
 
 seat = tools/seat/target/release/seat
 
-.PHONY: all library example check install uninstall seat install-seat uninstall-seat
+.PHONY: all library outline example check install uninstall seat install-seat uninstall-seat
 
 all: library $(program)
 
 library: $(library)
 
 $(library): $(sources)
-	rt staticlib outline_c
-	touch $@
+	cd crates/outline_c && rt lib
+	install -D -m 644 crates/outline_c/out/liboutline_c.a $@
+
+outline: target/bin/outline
+
+target/bin/outline: $(sources)
+	cd crates/outline && rt run </dev/null >/dev/null
+	install -D -m 755 crates/outline/out/outline $@
 
 $(program): tools/outline-print.c include/outline.h $(library)
 	$(c99) $< $(library) -o $@

@@ -1,5 +1,7 @@
 // The head of a bundle: how many ops of each replica it has, and whether the bytes behind it agree
 // (number 12).
+#![tactic(auto)]
+
 mod bits;
 mod head;
 mod whole;

@@ -15,7 +15,6 @@ use Rattle.codec.specs.Read.{fields_of, read_of}
 use Rattle.codec.specs.declared.op.Fields.{Fields}
 use Rattle.codec.specs.declared.op.Read.TheVariants.{Op, Refused}
 use Rattle.codec.specs.declared.answer.Refusal.TheVariants.{Length, Malformed}
-use Rattle.rules.proofs.CausalLaws.{own}
 use borrow.Author.Rules.{rules}
 
 -- the own count is the byte after the replicas below

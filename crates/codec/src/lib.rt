@@ -1,4 +1,6 @@
 // Bytes to numbers and back: two-byte words, and the reader and writer of an op (the document's record); what a call answers.
+#![tactic(auto)]
+
 mod answer;
 mod field;
 mod op;

@@ -21,7 +21,6 @@ use Rattle.convergence.specs.Exchange.{Call, deliver, has}
 use Rattle.order.proofs.LateLaws.{Late, ordered_late, late_empty, late_ready, top}
 use Rattle.order.proofs.PlacedLaws.{placed_by}
 use Rattle.order.specs.Levels.{ready_op, level, ready_ops, level_kind}
-use Rattle.rules.proofs.AppendLaws.{extends}
 use Rattle.lists.proofs.BoolLaws.{and_both, never}
 use Rattle.rules.proofs.IssueLaws.{allowed}
 use Rattle.rules.proofs.PutOutLaws.{NextOp, put_out_law, put_out_next}

@@ -1,4 +1,6 @@
 // The steps of delivering an op to a sound log, and the addition of an op, which issuing shares.
+#![tactic(auto)]
+
 mod adding;
 mod delivering;
 

@@ -1,4 +1,6 @@
 // The steps of issuing an op at a sound log: a request is drafted as an op, which is put out and added.
+#![tactic(auto)]
+
 mod draft;
 mod drafting;
 mod opening;

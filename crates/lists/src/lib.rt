@@ -1,1 +1,3 @@
+#![tactic(auto)]
+
 // Functions on lists and truth values, and their laws: no code.

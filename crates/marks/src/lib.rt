@@ -1,5 +1,7 @@
 // The marks (tombstones in the field): a table that tells which nodes ops remove, and what the held
 // counts know of a node by it.
+#![tactic(auto)]
+
 mod knowing;
 mod marking;
 

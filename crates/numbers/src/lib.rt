@@ -1,4 +1,6 @@
 // One number for each answer, for callers in other languages.
+#![tactic(auto)]
+
 mod answer;
 
 pub use answer::{number, page_number};

@@ -1,5 +1,7 @@
 // The operation log (the document's collection) in a lent buffer: its header, the places of its ops,
 // a marker through them, and adding ops. Ops have `width` bytes.
+#![tactic(auto)]
+
 mod append;
 mod header;
 mod marker;

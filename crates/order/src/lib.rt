@@ -1,1 +1,3 @@
+#![tactic(auto)]
+
 // Laws only: see specs/ and proofs/.

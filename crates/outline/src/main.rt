@@ -1,6 +1,8 @@
 // Reads one log from standard input and prints its keeping view; input that is no log prints
 // `refused 1`. An input of no bytes is a log without ops. A read or a write that fails is told on
 // standard error, with its cause.
+#![tactic(auto)]
+
 ghost use Rattle.std.specs.Prelude.{◌≤◌, ◌<◌, ◌≡◌, length, take};
 ghost use Rattle.rules.specs.File.{largest, width};
 ghost use Rattle.codec.specs.Answers.{answer_of};
@@ -10,6 +12,8 @@ ghost use Rattle.outline.specs.Text as texts;
 use codec::Answer;
 use printing::LONGEST;
 use soundness::LARGEST;
+use std::io;
+use std::io::{Print, Read};
 
 // One byte more than the largest log, so that longer input shows.
 const INPUT: usize = LARGEST + 1;
@@ -18,27 +22,27 @@ const INPUT: usize = LARGEST + 1;
 #[derive(Drop)]
 enum Input {
     Bytes(usize),
-    Failed,
+    Failed(io::Error),
 }
 
 // Reads until the input ends or the buffer is full.
-fn read_all(buf: &mut [u8]) -> Input
+fn read_all<R: Read>(reader: &mut R, buf: &mut [u8]) -> Input
     ensures { Within result (length buf.new) }
 {
     let mut done: usize = 0;
     while done < buf.len() {
-        let part = &mut buf[done..];
-        let got = libc::read(libc::STDIN_FILENO, part);
-        if got < 0 {
-            return Input::Failed;
+        match reader.read(&mut buf[done..]) {
+            Ok(0) => break,
+            Ok(more) => done += more,
+            Err(cause) => return Input::Failed(cause),
         }
-        let more = io::count(got, part);
-        if more == 0 {
-            break;
-        }
-        done += more;
     }
     Input::Bytes(done)
+}
+
+// Tells on standard error what failed, and why. Where that fails too, nothing is left to do.
+fn tell(errors: &impl Print, what: &str, cause: io::Error) {
+    let _told = println!(errors; "outline: {what}: {cause}");
 }
 
 // How many bytes an answer counts; none if it is refused.
@@ -65,28 +69,41 @@ fn text(input: &[u8], n: usize, out: &mut [u8]) -> usize
 }
 
 // Prints the first bytes, which are the output for some input.
-fn print(bytes: &[u8], n: usize)
+fn print(output: &impl Print, errors: &impl Print, bytes: &[u8], n: usize)
     requires { texts.Printed bytes.now n }
 {
-    if !io::write_all(libc::STDOUT_FILENO, &bytes[..n]) {
-        os::fail(b"outline: cannot write the output");
+    if let Err(cause) = output.write_all(&bytes[..n]) {
+        tell(errors, "cannot write the output", cause);
     }
 }
 
 // Reads the input, and prints what it gives.
-fn run(input: &mut [u8], out: &mut [u8])
+fn run<R: Read>(
+    reader: &mut R,
+    output: &impl Print,
+    errors: &impl Print,
+    input: &mut [u8],
+    out: &mut [u8],
+)
     requires { (largest width < length input.old) × (24492 ≤ length out.old) }
 {
-    let Input::Bytes(n) = read_all(input) else {
-        os::fail(b"outline: cannot read the input");
-        return;
-    };
-    let size = text(input, n, out);
-    print(out, size);
+    match read_all(reader, input) {
+        Input::Bytes(n) => {
+            let size = text(input, n, out);
+            print(output, errors, out, size);
+        }
+        Input::Failed(cause) => tell(errors, "cannot read the input", cause),
+    }
 }
 
-fn main() {
+fn main(rt: HostRuntime) {
     let mut input = [0u8; INPUT];
     let mut out = [0u8; LONGEST];
-    run(&mut input, &mut out);
+    run(
+        &mut rt.reader(),
+        &rt.stdout(),
+        &rt.stderr(),
+        &mut input,
+        &mut out,
+    );
 }

@@ -1,5 +1,7 @@
 // The calls of the library for programs in other languages: each answers one number, and lent
 // memory is a pointer and a length. include/outline.h declares them for C.
+#![tactic(auto)]
+
 mod batches;
 mod bundles;
 mod calls;

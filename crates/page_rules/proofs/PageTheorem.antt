@@ -9,7 +9,7 @@ use mathlib.Core.List.{List, ◌++◌}
 use mathlib.Core.Path.{◌≡◌, refl, sym, ap, ◌∙◌}
 use native.Mathlib.Decide.{dec_le}
 use native.Mathlib.Omega.{arith}
-use Rattle.lists.specs.Lists.{same, sum}
+use Rattle.lists.specs.Lists.{sum}
 use Rattle.lists.proofs.BoolLaws.{and_both, and_left, and_right, never}
 use Rattle.lists.proofs.EachLaws.{Each, each_at}
 use Rattle.lists.proofs.FilterLaws.{first_fails}

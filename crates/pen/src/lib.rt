@@ -1,4 +1,6 @@
 // The pen of the listing: how much is written, and the writer of a line.
+#![tactic(auto)]
+
 mod decimal;
 mod line;
 

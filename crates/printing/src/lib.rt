@@ -1,4 +1,6 @@
 // What the program `outline` prints for an input.
+#![tactic(auto)]
+
 ghost use Rattle.std.specs.Prelude.{◌≡◌};
 ghost use Rattle.rules.specs.File.{empty_log, width};
 ghost use Rattle.rules.specs.Listing.{listing_of, refused_line};

@@ -1,5 +1,7 @@
 // Replay (the document's judging) of the ops within a cut of a log to the parent table and the
 // outcome table: their order is written, and then they are applied along it.
+#![tactic(auto)]
+
 mod along;
 mod cut;
 

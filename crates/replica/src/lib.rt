@@ -1,5 +1,7 @@
 // The calls on a replica's log in a lent buffer. Every call takes any bytes, and a refused call
 // changes none of them.
+#![tactic(auto)]
+
 mod delivering;
 mod issuing;
 mod judging;

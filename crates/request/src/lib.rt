@@ -1,4 +1,6 @@
 // What a caller asks to issue, and the tests of what it names.
+#![tactic(auto)]
+
 mod naming;
 mod request;
 

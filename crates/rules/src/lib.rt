@@ -1,1 +1,3 @@
+#![tactic(auto)]
+
 // Definitions and laws only: see specs/ and proofs/.

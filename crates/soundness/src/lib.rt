@@ -1,5 +1,7 @@
 // Whether a buffer holds a sound log, which every call tests first; and where its file ends, and how
 // many ops of each replica it holds.
+#![tactic(auto)]
+
 mod check;
 mod measure;
 

@@ -1,4 +1,6 @@
 // The nodes of a tree in preorder: what is hidden, first children and next siblings, and the tour.
+#![tactic(auto)]
+
 mod hiding;
 mod linking;
 mod touring;

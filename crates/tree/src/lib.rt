@@ -1,4 +1,6 @@
 // The parent table of a tree: its slots, and climbs in it.
+#![tactic(auto)]
+
 mod climb;
 mod slots;
 

@@ -1,5 +1,6 @@
 use crate::print::{answered, memory};
 use codec::{widen16, word_at};
+use std::io::Print;
 
 // The nodes of a line, two bytes each, put into a table; answers how many there are.
 fn load_nodes(line: &[u8], nodes: &mut [u16]) -> usize {
@@ -13,15 +14,29 @@ fn load_nodes(line: &[u8], nodes: &mut [u16]) -> usize {
     n
 }
 
-fn issue_into(buf: &mut [u8], replica: u8, nodes: &[u16], parent: u16, out: &mut [u8]) {
+fn issue_into(
+    rt: &impl Print,
+    buf: &mut [u8],
+    replica: u8,
+    nodes: &[u16],
+    parent: u16,
+    out: &mut [u8],
+) {
     let answer = batch::issue_moves(buf, replica, nodes, parent, out);
-    answered(answer);
-    memory(buf);
-    memory(out);
+    answered(rt, answer);
+    memory(rt, buf);
+    memory(rt, out);
 }
 
 // The first n nodes, and the first bytes of the memory lent for the ops.
-fn issue_part(buf: &mut [u8], line: &[u8], nodes: &[u16], n: usize, out: &mut [u8]) {
+fn issue_part(
+    rt: &impl Print,
+    buf: &mut [u8],
+    line: &[u8],
+    nodes: &[u16],
+    n: usize,
+    out: &mut [u8],
+) {
     if line.len() < 6 {
         return;
     }
@@ -33,6 +48,7 @@ fn issue_part(buf: &mut [u8], line: &[u8], nodes: &[u16], n: usize, out: &mut [u
         return;
     }
     issue_into(
+        rt,
         buf,
         line[1],
         &nodes[..n],
@@ -42,12 +58,12 @@ fn issue_part(buf: &mut [u8], line: &[u8], nodes: &[u16], n: usize, out: &mut [u
 }
 
 // A batch: the replica, the parent, the length of the memory lent for the ops, and the nodes.
-pub fn run(buf: &mut [u8], line: &[u8]) {
+pub fn run(rt: &impl Print, buf: &mut [u8], line: &[u8]) {
     if line.len() < 6 {
         return;
     }
     let mut nodes = [0u16; 40];
     let mut out = [238u8; 600];
     let n = load_nodes(&line[6..], &mut nodes);
-    issue_part(buf, line, &nodes, n, &mut out);
+    issue_part(rt, buf, line, &nodes, n, &mut out);
 }

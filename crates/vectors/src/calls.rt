@@ -5,27 +5,28 @@ use crate::print::{answered, memory, memory_front, number, numbers, refused, tex
 use crate::{batches, pages};
 use codec::{Answer, widen, widen16, word_at};
 use printing::LONGEST;
+use std::io::Print;
 use tree::{NO_PARENT, SLOTS, climb_to};
 use view::View;
 
-fn make(buf: &mut [u8]) {
-    answered(replica::make(buf));
-    memory(buf);
+fn make(rt: &impl Print, buf: &mut [u8]) {
+    answered(rt, replica::make(buf));
+    memory(rt, buf);
 }
 
-fn deliver(buf: &mut [u8], op: &[u8]) {
-    answered(replica::deliver(buf, op));
-    memory(buf);
+fn deliver(rt: &impl Print, buf: &mut [u8], op: &[u8]) {
+    answered(rt, replica::deliver(buf, op));
+    memory(rt, buf);
 }
 
-fn issued(answer: Answer, buf: &[u8], out: &[u8]) {
-    answered(answer);
-    memory(buf);
-    memory(out);
+fn issued(rt: &impl Print, answer: Answer, buf: &[u8], out: &[u8]) {
+    answered(rt, answer);
+    memory(rt, buf);
+    memory(rt, out);
 }
 
 // An issue of a line on memory lent for the op.
-fn issue_into(buf: &mut [u8], line: &[u8], out: &mut [u8]) {
+fn issue_into(rt: &impl Print, buf: &mut [u8], line: &[u8], out: &mut [u8]) {
     if line.len() < 5 {
         return;
     }
@@ -34,68 +35,81 @@ fn issue_into(buf: &mut [u8], line: &[u8], out: &mut [u8]) {
     let call = line[0];
     match call {
         4 => {
-            issued(replica::issue_add(buf, replica, first, out), buf, out);
+            issued(rt, replica::issue_add(buf, replica, first, out), buf, out);
             return;
         }
         5 => {
-            issued(replica::issue_remove(buf, replica, first, out), buf, out);
+            issued(
+                rt,
+                replica::issue_remove(buf, replica, first, out),
+                buf,
+                out,
+            );
             return;
         }
         0..=3 | 6..=255 => {
-            move_into(buf, line, out);
+            move_into(rt, buf, line, out);
             return;
         }
     }
 }
 
-fn move_into(buf: &mut [u8], line: &[u8], out: &mut [u8]) {
+fn move_into(rt: &impl Print, buf: &mut [u8], line: &[u8], out: &mut [u8]) {
     if line.len() < 7 {
         return;
     }
     let node = word_at(line, 2);
     let parent = word_at(line, 4);
     issued(
+        rt,
         replica::issue_move(buf, line[1], node, parent, out),
         buf,
         out,
     );
 }
 
-fn issue_part(buf: &mut [u8], line: &[u8], out: &mut [u8], n: usize) {
+fn issue_part(rt: &impl Print, buf: &mut [u8], line: &[u8], out: &mut [u8], n: usize) {
     if out.len() < n {
         return;
     }
-    issue_into(buf, line, &mut out[..n]);
+    issue_into(rt, buf, line, &mut out[..n]);
 }
 
 // The last byte of the line is the length of the memory lent for the op.
-fn issue(buf: &mut [u8], line: &[u8]) {
+fn issue(rt: &impl Print, buf: &mut [u8], line: &[u8]) {
     if line.len() == 0 {
         return;
     }
     let mut out = [238u8; 64];
     let n = widen(line[line.len() - 1]);
-    issue_part(buf, line, &mut out, n);
+    issue_part(rt, buf, line, &mut out, n);
 }
 
-fn judge_into(file: &[u8], parents: &mut [u16], outcomes: &mut [u8]) {
-    answered(replica::judge(file, parents, outcomes));
-    memory(file);
-    numbers(parents);
-    memory(outcomes);
+fn judge_into(rt: &impl Print, file: &[u8], parents: &mut [u16], outcomes: &mut [u8]) {
+    answered(rt, replica::judge(file, parents, outcomes));
+    memory(rt, file);
+    numbers(rt, parents);
+    memory(rt, outcomes);
 }
 
-fn judge_parts(file: &[u8], parents: &mut [u16], outcomes: &mut [u8], n: usize, m: usize) {
+fn judge_parts(
+    rt: &impl Print,
+    file: &[u8],
+    parents: &mut [u16],
+    outcomes: &mut [u8],
+    n: usize,
+    m: usize,
+) {
     if parents.len() < n {
         return;
     }
     if outcomes.len() < m {
         return;
     }
-    judge_into(file, &mut parents[..n], &mut outcomes[..m]);
+    judge_into(rt, file, &mut parents[..n], &mut outcomes[..m]);
 }
 
-fn judge(file: &[u8], line: &[u8]) {
+fn judge(rt: &impl Print, file: &[u8], line: &[u8]) {
     if line.len() < 5 {
         return;
     }
@@ -103,29 +117,29 @@ fn judge(file: &[u8], line: &[u8]) {
     let mut outcomes = [238u8; 2100];
     let n = widen16(word_at(line, 1));
     let m = widen16(word_at(line, 3));
-    judge_parts(file, &mut parents, &mut outcomes, n, m);
+    judge_parts(rt, file, &mut parents, &mut outcomes, n, m);
 }
 
-fn path_into(file: &[u8], node: u16, out: &mut [u16]) {
-    answered(view::path(file, node, out));
-    memory(file);
-    numbers(out);
+fn path_into(rt: &impl Print, file: &[u8], node: u16, out: &mut [u16]) {
+    answered(rt, view::path(file, node, out));
+    memory(rt, file);
+    numbers(rt, out);
 }
 
-fn path_part(file: &[u8], node: u16, out: &mut [u16], n: usize) {
+fn path_part(rt: &impl Print, file: &[u8], node: u16, out: &mut [u16], n: usize) {
     if out.len() < n {
         return;
     }
-    path_into(file, node, &mut out[..n]);
+    path_into(rt, file, node, &mut out[..n]);
 }
 
-fn path(file: &[u8], line: &[u8]) {
+fn path(rt: &impl Print, file: &[u8], line: &[u8]) {
     if line.len() < 5 {
         return;
     }
     let mut out = [61166u16; 2100];
     let n = widen16(word_at(line, 3));
-    path_part(file, word_at(line, 1), &mut out, n);
+    path_part(rt, file, word_at(line, 1), &mut out, n);
 }
 
 fn list(file: &[u8], skipping: bool, out: &mut [u8]) -> Answer {
@@ -135,42 +149,42 @@ fn list(file: &[u8], skipping: bool, out: &mut [u8]) -> Answer {
     view::listing(file, View::Keeping, out)
 }
 
-fn listing_into(file: &[u8], skipping: bool, out: &mut [u8]) {
-    answered(list(file, skipping, out));
-    memory(file);
-    memory(out);
+fn listing_into(rt: &impl Print, file: &[u8], skipping: bool, out: &mut [u8]) {
+    answered(rt, list(file, skipping, out));
+    memory(rt, file);
+    memory(rt, out);
 }
 
-fn listing_part(file: &[u8], skipping: bool, out: &mut [u8], n: usize) {
+fn listing_part(rt: &impl Print, file: &[u8], skipping: bool, out: &mut [u8], n: usize) {
     if out.len() < n {
         return;
     }
-    listing_into(file, skipping, &mut out[..n]);
+    listing_into(rt, file, skipping, &mut out[..n]);
 }
 
-fn listing(file: &[u8], line: &[u8]) {
+fn listing(rt: &impl Print, file: &[u8], line: &[u8]) {
     if line.len() < 4 {
         return;
     }
     let mut out = [238u8; 24000];
     let n = widen16(word_at(line, 2));
-    listing_part(file, line[1] != 0, &mut out, n);
+    listing_part(rt, file, line[1] != 0, &mut out, n);
 }
 
-fn bundle_into(file: &[u8], counts: [u8; 8], out: &mut [u8]) {
-    answered(bundle::make(file, counts, out));
-    memory(file);
-    memory(out);
+fn bundle_into(rt: &impl Print, file: &[u8], counts: [u8; 8], out: &mut [u8]) {
+    answered(rt, bundle::make(file, counts, out));
+    memory(rt, file);
+    memory(rt, out);
 }
 
-fn bundle_part(file: &[u8], counts: [u8; 8], out: &mut [u8], n: usize) {
+fn bundle_part(rt: &impl Print, file: &[u8], counts: [u8; 8], out: &mut [u8], n: usize) {
     if out.len() < n {
         return;
     }
-    bundle_into(file, counts, &mut out[..n]);
+    bundle_into(rt, file, counts, &mut out[..n]);
 }
 
-fn make_bundle(file: &[u8], line: &[u8]) {
+fn make_bundle(rt: &impl Print, file: &[u8], line: &[u8]) {
     if line.len() < 11 {
         return;
     }
@@ -179,24 +193,24 @@ fn make_bundle(file: &[u8], line: &[u8]) {
         line[1], line[2], line[3], line[4], line[5], line[6], line[7], line[8],
     ];
     let n = widen16(word_at(line, 9));
-    bundle_part(file, counts, &mut out, n);
+    bundle_part(rt, file, counts, &mut out, n);
 }
 
-fn deliver_with(buf: &mut [u8], op: &[u8], holdback: &mut [u8]) {
-    answered(holdback::deliver(buf, op, holdback));
-    memory(buf);
-    memory(holdback);
+fn deliver_with(rt: &impl Print, buf: &mut [u8], op: &[u8], holdback: &mut [u8]) {
+    answered(rt, holdback::deliver(buf, op, holdback));
+    memory(rt, buf);
+    memory(rt, holdback);
 }
 
-fn deliver_part(buf: &mut [u8], op: &[u8], holdback: &mut [u8], n: usize) {
+fn deliver_part(rt: &impl Print, buf: &mut [u8], op: &[u8], holdback: &mut [u8], n: usize) {
     if holdback.len() < n {
         return;
     }
-    deliver_with(buf, op, &mut holdback[..n]);
+    deliver_with(rt, buf, op, &mut holdback[..n]);
 }
 
 // The op's length stands before it, and the holdback behind it.
-fn deliver_holdback(buf: &mut [u8], line: &[u8]) {
+fn deliver_holdback(rt: &impl Print, buf: &mut [u8], line: &[u8]) {
     if line.len() < 2 {
         return;
     }
@@ -206,10 +220,10 @@ fn deliver_holdback(buf: &mut [u8], line: &[u8]) {
     }
     let mut holdback = [0u8; 600];
     let n = load(&mut holdback, &line[end..]);
-    deliver_part(buf, &line[2..end], &mut holdback, n);
+    deliver_part(rt, buf, &line[2..end], &mut holdback, n);
 }
 
-fn climb_in(parents: &[u16], parent: u16, node: u16)
+fn climb_in(rt: &impl Print, parents: &[u16], parent: u16, node: u16)
     requires { length parents.now ≡ slots }
 {
     if node == NO_PARENT {
@@ -217,42 +231,42 @@ fn climb_in(parents: &[u16], parent: u16, node: u16)
     }
     let climbed = climb_to(parents, parent, node);
     if climbed.met {
-        text(b"y ");
+        text(rt, b"y ");
     } else {
-        text(b"n ");
+        text(rt, b"n ");
     }
-    number(climbed.steps);
+    number(rt, climbed.steps);
 }
 
 // The climb from a parent to a node, in the tree of the buffer.
-fn climb(file: &[u8], line: &[u8]) {
+fn climb(rt: &impl Print, file: &[u8], line: &[u8]) {
     if line.len() < 5 {
         return;
     }
     let mut parents = [0u16; SLOTS];
     let mut outcomes = [0u8; SLOTS];
     let Answer::Refused(why) = replica::judge(file, &mut parents, &mut outcomes) else {
-        climb_in(&parents, word_at(line, 1), word_at(line, 3));
-        memory(file);
+        climb_in(rt, &parents, word_at(line, 1), word_at(line, 3));
+        memory(rt, file);
         return;
     };
-    refused(why);
-    memory(file);
+    refused(rt, why);
+    memory(rt, file);
 }
 
-fn open_bundle(buf: &mut [u8], bytes: &[u8]) {
-    answered(bundle::open(buf, bytes));
-    memory(buf);
+fn open_bundle(rt: &impl Print, buf: &mut [u8], bytes: &[u8]) {
+    answered(rt, bundle::open(buf, bytes));
+    memory(rt, buf);
 }
 
 // What the program `outline` prints for the buffer.
-fn outline(input: &[u8]) {
+fn outline(rt: &impl Print, input: &[u8]) {
     let mut out = [0u8; LONGEST];
-    text(b"o");
+    text(rt, b"o");
     let Answer::Accepted(n) = printing::outline(input, &mut out) else {
         return;
     };
-    memory_front(&out, n);
+    memory_front(rt, &out, n);
 }
 
 // Copies bytes to the front of the buffer, and answers their number.
@@ -276,36 +290,36 @@ fn fill(buf: &mut [u8], from: usize, to: usize) {
 }
 
 // Loading and resizing are done by now.
-fn loaded(lent: &[u8]) {
-    text(b"l");
-    memory(lent);
+fn loaded(rt: &impl Print, lent: &[u8]) {
+    text(rt, b"l");
+    memory(rt, lent);
 }
 
 // Makes the call of a line on the lent buffer.
-fn dispatch(call: u8, line: &[u8], lent: &mut [u8]) {
+fn dispatch(rt: &impl Print, call: u8, line: &[u8], lent: &mut [u8]) {
     if line.len() == 0 {
         return;
     }
     match call {
-        1 => make(lent),
-        2 => deliver(lent, &line[1..]),
-        3 => judge(lent, line),
-        4..=6 => issue(lent, line),
-        7 => path(lent, line),
-        8 => listing(lent, line),
-        9 => outline(lent),
-        11 => make_bundle(lent, line),
-        12 => open_bundle(lent, &line[1..]),
-        13 => deliver_holdback(lent, line),
-        14 => climb(lent, line),
-        15..=18 => pages::run(lent, line),
-        19 => batches::run(lent, line),
-        0 | 10 | 20..=255 => loaded(lent),
+        1 => make(rt, lent),
+        2 => deliver(rt, lent, &line[1..]),
+        3 => judge(rt, lent, line),
+        4..=6 => issue(rt, lent, line),
+        7 => path(rt, lent, line),
+        8 => listing(rt, lent, line),
+        9 => outline(rt, lent),
+        11 => make_bundle(rt, lent, line),
+        12 => open_bundle(rt, lent, &line[1..]),
+        13 => deliver_holdback(rt, lent, line),
+        14 => climb(rt, lent, line),
+        15..=18 => pages::run(rt, lent, line),
+        19 => batches::run(rt, lent, line),
+        0 | 10 | 20..=255 => loaded(rt, lent),
     }
 }
 
 // Runs a line on the first bytes of the buffer, and answers the buffer's length.
-pub fn run(line: &[u8], buf: &mut [u8], len: usize) -> usize {
+pub fn run(rt: &impl Print, line: &[u8], buf: &mut [u8], len: usize) -> usize {
     if line.len() == 0 {
         return len;
     }
@@ -313,8 +327,8 @@ pub fn run(line: &[u8], buf: &mut [u8], len: usize) -> usize {
     if buf.len() < next {
         return 0;
     }
-    dispatch(line[0], line, &mut buf[..next]);
-    text(b"\n");
+    dispatch(rt, line[0], line, &mut buf[..next]);
+    text(rt, b"\n");
     next
 }
 

@@ -1,16 +1,19 @@
 // Runs the cases of model/ (its README has the grammar): one call a line on standard input, its
 // answer and the lent bytes after it on standard output.
+#![tactic(auto)]
+
 mod batches;
 mod calls;
 mod pages;
 mod print;
 
-ghost use Rattle.std.specs.Prelude.{◌<◌};
+ghost use Rattle.std.specs.Prelude.{◌<◌, ◌≤◌, length};
 
 use calls::run;
+use std::io::{Print, Read};
 
 // What is kept from byte to byte: the digits of the line so far, and the length of the buffer.
-#[derive(Drop)]
+#[derive(Clone, Copy)]
 struct State {
     digits: usize,
     len: usize,
@@ -32,7 +35,7 @@ fn joined(byte: u8, c: u8) -> u8 {
 }
 
 // Takes one character: a digit of the line, or its end.
-fn step(c: u8, line: &mut [u8], buf: &mut [u8], state: State) -> State {
+fn step(rt: &impl Print, c: u8, line: &mut [u8], buf: &mut [u8], state: State) -> State {
     let digits = state.digits;
     let len = state.len;
     let at = digits / 2;
@@ -40,7 +43,7 @@ fn step(c: u8, line: &mut [u8], buf: &mut [u8], state: State) -> State {
         if line.len() < at {
             return State { digits: 0, len };
         }
-        let next = run(&line[..at], buf, len);
+        let next = run(rt, &line[..at], buf, len);
         return State {
             digits: 0,
             len: next,
@@ -56,40 +59,61 @@ fn step(c: u8, line: &mut [u8], buf: &mut [u8], state: State) -> State {
     }
 }
 
-fn feed(chunk: &[u8], line: &mut [u8], buf: &mut [u8], state: State) -> State {
+fn feed(rt: &impl Print, chunk: &[u8], line: &mut [u8], buf: &mut [u8], state: State) -> State {
     let mut now = state;
     for i in 0..chunk.len() {
-        let next = step(chunk[i], line, buf, now);
+        let next = step(rt, chunk[i], line, buf, now);
         now = next;
     }
     now
 }
 
 // What a turn leaves, and whether there was more to read.
-#[derive(Drop)]
+#[derive(Clone, Copy)]
 struct Turn {
     more: bool,
     state: State,
 }
 
+// Fills a buffer as far as the input goes, and answers how many bytes that is.
+fn read_full<R: Read>(reader: &mut R, buf: &mut [u8]) -> usize
+    ensures { result ≤ length buf.new }
+{
+    let mut done: usize = 0;
+    while done < buf.len() {
+        match reader.read(&mut buf[done..]) {
+            Ok(0) => break,
+            Ok(more) => done += more,
+            Err(_) => break,
+        }
+    }
+    done
+}
+
 // Reads some of the input and runs its lines.
-fn read_some(line: &mut [u8], buf: &mut [u8], state: State) -> Turn {
-    let mut chunk = io::large_buffer();
-    let n = io::read_full(0, &mut chunk);
+fn read_some<R: Read>(
+    rt: &impl Print,
+    reader: &mut R,
+    line: &mut [u8],
+    buf: &mut [u8],
+    state: State,
+) -> Turn {
+    let mut chunk = [0u8; 65536];
+    let n = read_full(reader, &mut chunk);
     if n == 0 {
         return Turn { more: false, state };
     }
-    let next = feed(&chunk[..n], line, buf, state);
+    let next = feed(rt, &chunk[..n], line, buf, state);
     Turn {
         more: true,
         state: next,
     }
 }
 
-fn run_all(line: &mut [u8], buf: &mut [u8]) {
+fn run_all<R: Read>(rt: &impl Print, reader: &mut R, line: &mut [u8], buf: &mut [u8]) {
     let mut state = State { digits: 0, len: 0 };
     for turn in 0..10000u32 {
-        let t = read_some(line, buf, state);
+        let t = read_some(rt, reader, line, buf, state);
         if !t.more {
             return;
         }
@@ -98,8 +122,8 @@ fn run_all(line: &mut [u8], buf: &mut [u8]) {
     }
 }
 
-fn main() {
+fn main(rt: HostRuntime) {
     let mut line = [0u8; 40000];
     let mut buf = [0u8; 40000];
-    run_all(&mut line, &mut buf);
+    run_all(&rt.stdout(), &mut rt.reader(), &mut line, &mut buf);
 }

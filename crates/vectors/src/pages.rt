@@ -1,9 +1,10 @@
 use crate::print::{answered, memory, number, numbers, text};
 use codec::{widen, widen16, word_at};
 use page::Paged;
+use std::io::Print;
 
 // A table of a line: how many entries it has, and where the next one stands.
-#[derive(Drop)]
+#[derive(Clone, Copy)]
 struct Table {
     entries: usize,
     next: usize,
@@ -58,27 +59,36 @@ fn narrow(words: &[u16], bytes: &mut [u8]) {
     }
 }
 
-fn told(paged: Paged, buf: &[u8]) {
+fn told(rt: &impl Print, paged: Paged, buf: &[u8]) {
     let answer = paged.answer;
-    answered(answer);
-    text(b" ");
-    number(paged.taken);
-    memory(buf);
+    answered(rt, answer);
+    text(rt, b" ");
+    number(rt, paged.taken);
+    memory(rt, buf);
 }
 
-fn issued(paged: Paged, buf: &[u8], out: &[u8], order: &[u16], parents: &[u16], outcomes: &[u8]) {
-    told(paged, buf);
-    memory(out);
-    tables(order, parents, outcomes);
+fn issued(
+    rt: &impl Print,
+    paged: Paged,
+    buf: &[u8],
+    out: &[u8],
+    order: &[u16],
+    parents: &[u16],
+    outcomes: &[u8],
+) {
+    told(rt, paged, buf);
+    memory(rt, out);
+    tables(rt, order, parents, outcomes);
 }
 
-fn tables(order: &[u16], parents: &[u16], outcomes: &[u8]) {
-    numbers(order);
-    numbers(parents);
-    memory(outcomes);
+fn tables(rt: &impl Print, order: &[u16], parents: &[u16], outcomes: &[u8]) {
+    numbers(rt, order);
+    numbers(rt, parents);
+    memory(rt, outcomes);
 }
 
 fn deliver(
+    rt: &impl Print,
     buf: &mut [u8],
     line: &[u8],
     order: &mut [u16],
@@ -93,13 +103,15 @@ fn deliver(
         return;
     }
     told(
+        rt,
         page::deliver(buf, &line[2..end], order, parents, outcomes),
         buf,
     );
-    tables(order, parents, outcomes);
+    tables(rt, order, parents, outcomes);
 }
 
 fn issue_into(
+    rt: &impl Print,
     buf: &mut [u8],
     line: &[u8],
     out: &mut [u8],
@@ -115,6 +127,7 @@ fn issue_into(
     match line[0] {
         16 => {
             issued(
+                rt,
                 page::issue_add(buf, replica, first, out, order, parents, outcomes),
                 buf,
                 out,
@@ -126,6 +139,7 @@ fn issue_into(
         }
         17 => {
             issued(
+                rt,
                 page::issue_remove(buf, replica, first, out, order, parents, outcomes),
                 buf,
                 out,
@@ -137,6 +151,7 @@ fn issue_into(
         }
         0..=15 | 18..=255 => {
             issued(
+                rt,
                 page::issue_move(
                     buf,
                     replica,
@@ -160,6 +175,7 @@ fn issue_into(
 
 // The byte before the page is the length of the memory lent for the op.
 fn issue(
+    rt: &impl Print,
     buf: &mut [u8],
     line: &[u8],
     at: usize,
@@ -178,10 +194,11 @@ fn issue(
     if out.len() < n {
         return;
     }
-    issue_into(buf, line, &mut out[..n], order, parents, outcomes);
+    issue_into(rt, buf, line, &mut out[..n], order, parents, outcomes);
 }
 
 fn call(
+    rt: &impl Print,
     buf: &mut [u8],
     line: &[u8],
     at: usize,
@@ -193,14 +210,15 @@ fn call(
         return;
     }
     if line[0] == 15 {
-        deliver(buf, line, order, parents, outcomes);
+        deliver(rt, buf, line, order, parents, outcomes);
         return;
     }
-    issue(buf, line, at, order, parents, outcomes);
+    issue(rt, buf, line, at, order, parents, outcomes);
 }
 
 // The first entries of the tables are lent.
 fn call_parts(
+    rt: &impl Print,
     buf: &mut [u8],
     line: &[u8],
     at: usize,
@@ -221,6 +239,7 @@ fn call_parts(
         return;
     }
     call(
+        rt,
         buf,
         line,
         at,
@@ -243,7 +262,7 @@ fn page_place(line: &[u8]) -> usize {
 }
 
 // Makes the call of a line with the page that stands at its end.
-pub fn run(buf: &mut [u8], line: &[u8]) {
+pub fn run(rt: &impl Print, buf: &mut [u8], line: &[u8]) {
     let mut order = [0u16; 2100];
     let mut parents = [0u16; 2100];
     let mut words = [0u16; 2100];
@@ -254,6 +273,7 @@ pub fn run(buf: &mut [u8], line: &[u8]) {
     let third = load_table(line, second.next, &mut words);
     narrow(&words, &mut outcomes);
     call_parts(
+        rt,
         buf,
         line,
         at,

@@ -1,32 +1,37 @@
 ghost use Rattle.std.specs.Prelude.{◌<◌};
 
 use codec::{Answer, Refusal, number_of};
+use std::io::Print;
 
-pub fn text(s: &[u8]) {
-    io::write_all(1, s);
+pub fn text(rt: &impl Print, s: &[u8]) {
+    let _written = rt.write_all(s);
 }
 
-pub fn number(n: usize) {
-    io::print_decimal(1, n as u64);
+pub fn number(rt: &impl Print, n: usize) {
+    let _written = print!(rt; "{n}");
 }
 
-pub fn refused(why: Refusal) {
-    text(b"r ");
-    number(number_of(why));
+fn wide_number(rt: &impl Print, n: u64) {
+    let _written = print!(rt; "{n}");
 }
 
-fn accepted(n: usize) {
-    text(b"a ");
-    number(n);
+pub fn refused(rt: &impl Print, why: Refusal) {
+    text(rt, b"r ");
+    number(rt, number_of(why));
 }
 
-pub fn answered(answer: Answer) {
+fn accepted(rt: &impl Print, n: usize) {
+    text(rt, b"a ");
+    number(rt, n);
+}
+
+pub fn answered(rt: &impl Print, answer: Answer) {
     match answer {
-        Answer::Refused(why) => refused(why),
-        Answer::HadIt => text(b"h"),
-        Answer::Waiting => text(b"w"),
-        Answer::Done => text(b"d"),
-        Answer::Accepted(n) => accepted(n),
+        Answer::Refused(why) => refused(rt, why),
+        Answer::HadIt => text(rt, b"h"),
+        Answer::Waiting => text(rt, b"w"),
+        Answer::Done => text(rt, b"d"),
+        Answer::Accepted(n) => accepted(rt, n),
     }
 }
 
@@ -36,7 +41,7 @@ fn digit(n: u8) -> u8 {
 }
 
 // The bytes in hexadecimal, of which there are at most 64.
-fn hex(bytes: &[u8]) {
+fn hex(rt: &impl Print, bytes: &[u8]) {
     let mut out = [0u8; 128];
     let mut n: usize = 0;
     for i in 0..bytes.len() {
@@ -47,13 +52,13 @@ fn hex(bytes: &[u8]) {
         out[n + 1] = digit(bytes[i]);
         n += 2;
     }
-    front(&out, n);
+    front(rt, &out, n);
 }
 
 // Writes the first n bytes.
-pub fn front(bytes: &[u8], n: usize) {
+pub fn front(rt: &impl Print, bytes: &[u8], n: usize) {
     if n <= bytes.len() {
-        io::write_all(1, &bytes[..n]);
+        let _written = rt.write_all(&bytes[..n]);
     }
 }
 
@@ -75,12 +80,12 @@ fn wide(b: u8) -> u64
 }
 
 // Lent memory after a call: its digest, and its bytes if they are few.
-pub fn memory(bytes: &[u8]) {
-    text(b" ");
-    io::print_decimal(1, digest(bytes));
+pub fn memory(rt: &impl Print, bytes: &[u8]) {
+    text(rt, b" ");
+    wide_number(rt, digest(bytes));
     if bytes.len() <= 64 {
-        text(b" ");
-        hex(bytes);
+        text(rt, b" ");
+        hex(rt, bytes);
     }
 }
 
@@ -105,9 +110,9 @@ fn low(n: u16) -> u64
 }
 
 // The same of the first n bytes.
-pub fn memory_front(bytes: &[u8], n: usize) {
+pub fn memory_front(rt: &impl Print, bytes: &[u8], n: usize) {
     if n <= bytes.len() {
-        memory(&bytes[..n]);
+        memory(rt, &bytes[..n]);
     }
 }
 
@@ -120,23 +125,23 @@ fn digest_words(words: &[u16]) -> u64 {
     h
 }
 
-fn word(n: u16) {
+fn word(rt: &impl Print, n: u16) {
     let bytes = [(n / 256) as u8, (n % 256) as u8];
-    hex(&bytes);
+    hex(rt, &bytes);
 }
 
 // Lent two-byte numbers after a call, as `memory`.
-pub fn numbers(words: &[u16]) {
-    text(b" ");
-    io::print_decimal(1, digest_words(words));
+pub fn numbers(rt: &impl Print, words: &[u16]) {
+    text(rt, b" ");
+    wide_number(rt, digest_words(words));
     if words.len() <= 32 {
-        text(b" ");
-        each_word(words);
+        text(rt, b" ");
+        each_word(rt, words);
     }
 }
 
-fn each_word(words: &[u16]) {
+fn each_word(rt: &impl Print, words: &[u16]) {
     for i in 0..words.len() {
-        word(words[i]);
+        word(rt, words[i]);
     }
 }

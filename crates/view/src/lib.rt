@@ -1,5 +1,7 @@
 // What users see of a log: the path of a node, and the listing of a view. Every call takes any
 // bytes, and a refused call changes nothing.
+#![tactic(auto)]
+
 mod answer;
 mod lines;
 mod linking;

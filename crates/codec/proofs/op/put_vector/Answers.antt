@@ -1,9 +1,9 @@
 -- `codec::op::put_vector` meets its contract.
 use mathlib.Core.Path.{◌≡◌, refl, sym, ap, ◌∙◌}
 use mathlib.Core.List.{List}
-use Prim.Native.Nat.{ℕ, ◌+◌, ◌-◌}
+use Prim.Native.Nat.{ℕ, ◌+◌}
 use native.Mathlib.Omega.{arith}
-use lib.ListN.{length, take, drop, get_or, set, length-set, take-append-drop}
+use lib.ListN.{length, get_or, set, length-set, take-append-drop}
 use native.Mathlib.Nat.{add-zero}
 use borrow.Author.Rules.{rules}
 use lib.Seq.{take_all}

@@ -8,8 +8,8 @@ pub returns-in-1 : goal.returns-in-1
 returns-in-1 c =
     let is = c.if-outcome-ne1.false in
     elim c.in-1-1.branch [
-      in-1-1 w ↦ hang_add _ _ _ _ _ is (omega arith) |
-      in_default+then-kind-lt5 w ↦ hang_move _ _ _ _ _ is (omega arith) (omega arith)
+      | in-1-1 w ↦ hang_add _ _ _ _ _ is (omega arith)
+      | in_default+then-kind-lt5 w ↦ hang_move _ _ _ _ _ is (omega arith) (omega arith)
     ]
 
 pub returns-then-outcome-ne1 : goal.returns-then-outcome-ne1

@@ -1,5 +1,4 @@
 -- `oplog::append::put_front` meets its contract.
-use Prim.Native.Nat.{◌-◌}
 use Rattle.oplog.proofs.InsertLaws.{appending}
 use Rattle.oplog.proofs.append.put_front.Goals as goal
 

@@ -1,5 +1,4 @@
 -- `oplog::header::counts_of` meets its contract.
-use Prim.Native.Nat.{◌-◌}
 use Rattle.oplog.proofs.HeaderLaws.{heading}
 use Rattle.oplog.proofs.header.counts_of.Goals as goal
 

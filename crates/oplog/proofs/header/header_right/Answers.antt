@@ -1,5 +1,4 @@
 -- `oplog::header::header_right` meets its contract.
-use Prim.Native.Nat.{◌-◌}
 use Rattle.oplog.proofs.HeaderLaws.{heading}
 use Rattle.oplog.proofs.header.header_right.Goals as goal
 

@@ -1,5 +1,4 @@
 -- `oplog::header::write_header` meets its contract.
-use Prim.Native.Nat.{◌-◌}
 use Rattle.oplog.proofs.HeaderLaws.{heading}
 use Rattle.oplog.proofs.header.write_header.Goals as goal
 

@@ -1,5 +1,4 @@
 -- `oplog::places::same_op` meets its contract.
-use Prim.Native.Nat.{◌-◌}
 use Rattle.oplog.proofs.FieldLaws.{placing}
 use Rattle.oplog.proofs.places.same_op.Goals as goal
 

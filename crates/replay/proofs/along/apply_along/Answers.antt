@@ -1,6 +1,5 @@
 -- `replay::along::apply_along` meets its contract.
 use Rattle.replay.proofs.AlongLaws.{applying}
-use Prim.Native.Nat.{◌-◌}
 use Rattle.replay.proofs.along.apply_along.Goals as goal
 
 pub loop-i-init : goal.loop-i-init

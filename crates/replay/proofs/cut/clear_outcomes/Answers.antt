@@ -1,6 +1,5 @@
 -- `replay::cut::clear_outcomes` meets its contract.
 use Rattle.replay.proofs.CutLaws.{cutting}
-use Prim.Native.Nat.{◌-◌}
 use Rattle.replay.proofs.cut.clear_outcomes.Goals as goal
 
 pub loop-i-init : goal.loop-i-init

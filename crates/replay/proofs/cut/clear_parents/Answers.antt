@@ -1,6 +1,5 @@
 -- `replay::cut::clear_parents` meets its contract.
 use Rattle.replay.proofs.CutLaws.{cutting}
-use Prim.Native.Nat.{◌-◌}
 use native.Mathlib.Omega.{arith}
 use lib.ListN.{length-set}
 use Rattle.replay.proofs.cut.clear_parents.Goals as goal

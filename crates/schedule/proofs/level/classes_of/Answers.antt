@@ -1,7 +1,5 @@
 -- `schedule::level::classes_of` meets its contract.
 use Rattle.schedule.proofs.ClassLaws.{classing}
-use Prim.Native.Nat.{◌-◌}
-use Rattle.schedule.specs.Level.{class_at}
 use Rattle.schedule.proofs.level.classes_of.Goals as goal
 
 pub loop-i-init : goal.loop-i-init

@@ -1,6 +1,5 @@
 -- `schedule::level::highest` meets its contract.
 use Rattle.schedule.proofs.ClassLaws.{classing}
-use Prim.Native.Nat.{◌-◌}
 use Rattle.schedule.proofs.level.highest.Goals as goal
 
 pub loop-i-init : goal.loop-i-init

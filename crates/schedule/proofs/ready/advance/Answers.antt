@@ -1,6 +1,5 @@
 -- `schedule::ready::advance` meets its contract.
 use Rattle.schedule.proofs.ReadyLaws.{readies}
-use Prim.Native.Nat.{◌-◌}
 use Rattle.schedule.proofs.ready.advance.Goals as goal
 
 pub loop-i-init : goal.loop-i-init

@@ -1,6 +1,5 @@
 -- `schedule::writing::write_class` meets its contract.
 use Rattle.schedule.proofs.WritingLaws.{writing}
-use Prim.Native.Nat.{◌-◌}
 use Rattle.schedule.proofs.writing.write_class.Goals as goal
 
 pub overflow_sub-from : goal.overflow_sub-from

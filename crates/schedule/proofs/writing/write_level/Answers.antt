@@ -1,6 +1,5 @@
 -- `schedule::writing::write_level` meets its contract.
 use Rattle.schedule.proofs.WritingLaws.{writing}
-use Prim.Native.Nat.{◌-◌}
 use Rattle.schedule.proofs.writing.write_level.Goals as goal
 
 pub highest-high-requires : goal.highest-high-requires

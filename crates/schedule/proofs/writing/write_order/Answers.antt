@@ -1,6 +1,5 @@
 -- `schedule::writing::write_order` meets its contract.
 use Rattle.schedule.proofs.OrderLaws.{ordering}
-use Prim.Native.Nat.{◌-◌}
 use Rattle.schedule.proofs.writing.write_order.Goals as goal
 
 pub loop-time-init : goal.loop-time-init

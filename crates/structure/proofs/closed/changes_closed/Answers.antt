@@ -1,6 +1,4 @@
 -- `structure::closed::changes_closed` meets its contract.
-use Prim.Native.Nat.{◌-◌}
-use Rattle.structure.specs.Tests.{change_closed}
 use Rattle.structure.proofs.TestLaws.{testing}
 use Rattle.structure.proofs.closed.changes_closed.Goals as goal
 

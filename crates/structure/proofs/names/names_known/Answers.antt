@@ -11,8 +11,8 @@ returns-in-3 c = move_names_law _ _ _ _ _ _ _ (inr (omega arith)) c.move_known.e
 pub returns-in-0 : goal.returns-in-0
 returns-in-0 c =
     elim c.in-0-1.branch [
-      in-0-1 w ↦ move_names_law _ _ _ _ _ _ _ (inl (omega arith)) c.move_known-in-0.ensures |
-      in_default+else-kind-lt5 w ↦ move_names_law _ _ _ _ _ _ _ (inr (omega arith)) c.move_known-in-0.ensures
+      | in-0-1 w ↦ move_names_law _ _ _ _ _ _ _ (inl (omega arith)) c.move_known-in-0.ensures
+      | in_default+else-kind-lt5 w ↦ move_names_law _ _ _ _ _ _ _ (inr (omega arith)) c.move_known-in-0.ensures
     ]
 
 pub returns-then-not-known_parent : goal.returns-then-not-known_parent

@@ -1,6 +1,5 @@
 -- `tree::climb::climb_to` meets its contract.
 use Rattle.tree.proofs.ClimbLaws.{climbing}
-use Prim.Native.Nat.{◌-◌}
 use Rattle.tree.proofs.climb.climb_to.Goals as goal
 
 pub loop-i-init : goal.loop-i-init

@@ -1,6 +1,5 @@
 -- `undo::along::judge_along` meets its contract.
 use Rattle.undo.proofs.WalkLaws.{walking, ahead_on}
-use Prim.Native.Nat.{◌-◌}
 use Rattle.undo.proofs.along.judge_along.Goals as goal
 
 pub loop-i-preserved : goal.loop-i-preserved

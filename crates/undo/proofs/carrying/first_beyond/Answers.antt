@@ -1,6 +1,5 @@
 -- `undo::carrying::first_beyond` meets its contract.
 use Rattle.undo.proofs.CarryLaws.{finding}
-use Prim.Native.Nat.{◌-◌}
 use Rattle.undo.proofs.carrying.first_beyond.Goals as goal
 
 pub loop-i-init : goal.loop-i-init

@@ -2,7 +2,7 @@
 use mathlib.Core.Path.{◌≡◌, refl, sym, ◌∙◌}
 use Prim.Native.Nat.{◌-◌}
 use native.Mathlib.Omega.{arith}
-use lib.ListN.{length, take, drop, length-drop, length-set}
+use lib.ListN.{length, drop, length-drop, length-set}
 use lib.Seq.{take_all, get_or-drop}
 use Rattle.lists.proofs.ListLaws.{copy_step}
 use Rattle.vector.proofs.counts.read_vector.Goals as goal

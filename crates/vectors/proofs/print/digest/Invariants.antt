@@ -1,0 +1,6 @@
+-- `vectors::print::digest`: what its loop keeps.
+use Rattle.std.proofs.Common.{◌<◌}
+use Rattle.vectors.proofs.print.digest.Given as goal
+
+abbrev pub invariant-loop-i : goal.invariant-loop-i
+invariant-loop-i l = l.h < 4294967291
