@@ -3,7 +3,7 @@
  * change without a line between them, and that is the same on all of them once
  * they have handed each other their ops.
  *
- * For C99 and C++. Link with liboutline_c.a (made by `rt staticlib outline_c`;
+ * For C99 and C++. Link with liboutline_c.a (made by `make library`;
  * x86-64 Linux). The calls of the library are proved; docs/LIBRARY.md says what
  * that means for a caller. The inline functions here are plain C.
  *

@@ -17,7 +17,7 @@ fn main() {
     println!("cargo:rerun-if-changed={}", library.display());
     if !library.is_file() {
         eprintln!("{LIBRARY} is not in {}.", dir.display());
-        eprintln!("Make it by `rt staticlib outline_c` at the root of the repository,");
+        eprintln!("Make it by `make library` at the root of the repository,");
         eprintln!("or name the folder that has it in the variable OUTLINE_LIB_DIR.");
         exit(1);
     }

@@ -143,7 +143,7 @@
 //!
 //! # Building
 //!
-//! The library is made by `rt staticlib outline_c`, for x86-64 Linux alone; the
+//! The library is made by `make library`, for x86-64 Linux alone; the
 //! build script says so on another machine. It looks for `liboutline_c.a` in
 //! `target/staticlib` of the repository, or in the folder that the variable
 //! `OUTLINE_LIB_DIR` names. The library needs `memset`, which a program without

@@ -8,7 +8,7 @@ use Rattle.codec.specs.Answers.{answer_of, number_of}
 use Rattle.codec.specs.declared.answer.Answer.TheVariants.{Refused, HadIt, Waiting, Done, Accepted}
 use Rattle.codec.specs.declared.answer.Refusal.{Refusal}
 use Rattle.codec.specs.declared.answer.Refusal.TheVariants.{Unsound, Length, Malformed, Conflict, Early, NotClosed, Unknown, NoRoom, Exhausted, Cycle, Marked, BadBundle, HoldbackFull, BadHoldback}
-use Rattle.rules.specs.Answer.{Answer, accepted}
+use Rattle.rules.specs.Answer.{accepted}
 use Rattle.rules.specs.File.{largest, width}
 use Rattle.rules.specs.Issue.{Request}
 use Rattle.page_rules.specs.Page.{Page, PageIssued, PageResult, deliver_page, issue_page}

@@ -1,6 +1,5 @@
 -- What a preorder has.
 use Rattle.std.proofs.Common.{ℕ, zero, suc, List}
-use Rattle.tour.proofs.LinkLaws.{kids}
 use Rattle.lists.proofs.EachLaws.{each_concat, Each, each_map}
 use Rattle.tour.proofs.TourLaws.{pre}
 

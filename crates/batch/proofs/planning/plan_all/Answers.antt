@@ -1,5 +1,4 @@
 -- `batch::planning::plan_all` meets its contract.
-use Prim.Native.Nat.{◌-◌}
 use mathlib.Core.Path.{refl}
 use borrow.Author.Rules.{rules}
 use Rattle.lists.proofs.BoolLaws.{is_so}

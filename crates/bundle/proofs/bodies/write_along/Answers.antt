@@ -1,6 +1,5 @@
 -- `bundle::bodies::write_along` meets its contract.
 use Rattle.bundle.proofs.BodyCases.{bodying}
-use Prim.Native.Nat.{◌-◌}
 use Rattle.bundle.proofs.bodies.write_along.Goals as goal
 
 pub loop-i-init : goal.loop-i-init

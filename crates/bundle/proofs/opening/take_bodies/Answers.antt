@@ -1,6 +1,5 @@
 -- `bundle::opening::take_bodies` meets its contract.
 use Rattle.bundle.proofs.OpenCases.{taking}
-use Prim.Native.Nat.{◌-◌}
 use Rattle.soundness.proofs.SoundCases.{end_asks}
 use Rattle.bundle.proofs.opening.take_bodies.Goals as goal
 

@@ -1,6 +1,5 @@
 -- `bundle_head::head::beyond_counts` meets its contract.
 use Rattle.bundle_head.proofs.HeadCases.{heading}
-use Prim.Native.Nat.{◌-◌}
 use Rattle.bundle_head.proofs.head.beyond_counts.Goals as goal
 
 pub loop-i-init : goal.loop-i-init

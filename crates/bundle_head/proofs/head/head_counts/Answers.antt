@@ -1,6 +1,5 @@
 -- `bundle_head::head::head_counts` meets its contract.
 use Rattle.bundle_head.proofs.HeadCases.{heading, read_starts}
-use Prim.Native.Nat.{◌-◌}
 use native.Mathlib.Omega.{arith}
 use Rattle.bundle_head.proofs.head.head_counts.Goals as goal
 

@@ -1,6 +1,5 @@
 -- `bundle_head::head::put_counts` meets its contract.
 use Rattle.bundle_head.proofs.HeadCases.{heading}
-use Prim.Native.Nat.{◌-◌}
 use Rattle.bundle_head.proofs.head.put_counts.Goals as goal
 
 pub loop-bits-init : goal.loop-bits-init

@@ -1,6 +1,5 @@
 -- `bundle_head::head::total` meets its contract.
 use Rattle.bundle_head.proofs.HeadCases.{heading, sum_all}
-use Prim.Native.Nat.{◌-◌}
 use native.Mathlib.Omega.{arith}
 use Rattle.bundle_head.proofs.head.total.Goals as goal
 

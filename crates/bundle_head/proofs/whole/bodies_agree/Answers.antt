@@ -1,6 +1,5 @@
 -- `bundle_head::whole::bodies_agree` meets its contract.
 use Rattle.bundle_head.proofs.WholeCases.{testing}
-use Prim.Native.Nat.{◌-◌}
 use Rattle.bundle_head.proofs.whole.bodies_agree.Goals as goal
 
 pub loop-s-init : goal.loop-s-init

@@ -1,6 +1,5 @@
 -- `bundle_head::whole::bodies_by` meets its contract.
 use Rattle.bundle_head.proofs.WholeCases.{testing}
-use Prim.Native.Nat.{◌-◌}
 use Rattle.bundle_head.proofs.whole.bodies_by.Goals as goal
 
 pub loop-i-init : goal.loop-i-init

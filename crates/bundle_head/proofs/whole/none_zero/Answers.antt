@@ -1,6 +1,5 @@
 -- `bundle_head::whole::none_zero` meets its contract.
 use Rattle.bundle_head.proofs.WholeCases.{testing}
-use Prim.Native.Nat.{◌-◌}
 use Rattle.bundle_head.proofs.whole.none_zero.Goals as goal
 
 pub loop-i-init : goal.loop-i-init

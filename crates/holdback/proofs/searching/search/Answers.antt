@@ -1,5 +1,4 @@
 -- `holdback::searching::search` meets its contract.
-use Prim.Native.Nat.{◌-◌}
 use Rattle.holdback.proofs.SearchCases.{searching}
 use Rattle.holdback.proofs.searching.search.Goals as goal
 

@@ -1,5 +1,4 @@
 -- `holdback_places::places::all_zero` meets its contract.
-use Prim.Native.Nat.{◌-◌}
 use Rattle.holdback_places.proofs.PlaceCases.{placing}
 use Rattle.holdback_places.proofs.places.all_zero.Goals as goal
 

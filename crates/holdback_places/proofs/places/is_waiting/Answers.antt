@@ -1,5 +1,4 @@
 -- `holdback_places::places::is_waiting` meets its contract.
-use Prim.Native.Nat.{◌-◌}
 use Rattle.holdback_places.proofs.PlaceCases.{placing}
 use Rattle.holdback_places.proofs.places.is_waiting.Goals as goal
 

@@ -1,5 +1,4 @@
 -- `holdback_places::places::move_down` meets its contract.
-use Prim.Native.Nat.{◌-◌}
 use Rattle.holdback_places.proofs.PlaceCases.{placing}
 use Rattle.holdback_places.proofs.places.move_down.Goals as goal
 

@@ -1,6 +1,5 @@
 -- `page_tables::tables::order_shows` meets its contract.
 use Rattle.page_tables.proofs.TableLaws.{tabling}
-use Prim.Native.Nat.{◌-◌}
 use Rattle.page_tables.proofs.tables.order_shows.Goals as goal
 
 pub loop-j-init : goal.loop-j-init

@@ -1,6 +1,5 @@
 -- `page_tables::tables::put_words` meets its contract.
 use Rattle.page_tables.proofs.TableLaws.{tabling}
-use Prim.Native.Nat.{◌-◌}
 use Rattle.page_tables.proofs.tables.put_words.Goals as goal
 
 pub loop-j-init : goal.loop-j-init

@@ -1,6 +1,5 @@
 -- `page_tables::tables::same_words` meets its contract.
 use Rattle.page_tables.proofs.TableLaws.{tabling}
-use Prim.Native.Nat.{◌-◌}
 use Rattle.page_tables.proofs.tables.same_words.Goals as goal
 
 pub loop-i-init : goal.loop-i-init

@@ -1,5 +1,4 @@
 -- `tour::hiding::reveal` meets its contract.
-use Rattle.std.proofs.Common.{◌-◌}
 use Rattle.tour.proofs.HidingCases.{hiding}
 use Rattle.tour.proofs.hiding.reveal.Goals as goal
 

@@ -1,5 +1,4 @@
 -- `tour::linking::link` meets its contract.
-use Rattle.std.proofs.Common.{◌-◌}
 use Rattle.tour.proofs.LinkingCases.{linking}
 use Rattle.tour.proofs.linking.link.Goals as goal
 

@@ -1,5 +1,4 @@
 -- `tour::touring::tour` meets its contract.
-use Rattle.std.proofs.Common.{◌-◌}
 use Rattle.tour.proofs.TouringCases.{touring}
 use Rattle.tour.proofs.touring.tour.Goals as goal
 

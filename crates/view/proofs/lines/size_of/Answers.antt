@@ -1,5 +1,4 @@
 -- `view::lines::size_of` meets its contract.
-use Prim.Native.Nat.{◌-◌}
 use Rattle.view.proofs.LineCases.{lining}
 use Rattle.view.proofs.lines.size_of.Goals as goal
 

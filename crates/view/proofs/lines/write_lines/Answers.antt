@@ -1,5 +1,4 @@
 -- `view::lines::write_lines` meets its contract.
-use Prim.Native.Nat.{◌-◌}
 use Rattle.view.proofs.LineCases.{lining}
 use Rattle.view.proofs.lines.write_lines.Goals as goal
 

@@ -1,5 +1,4 @@
 -- `view::paths::write_path` meets its contract.
-use Prim.Native.Nat.{◌-◌}
 use Rattle.view.proofs.PathCases.{paths}
 use Rattle.view.proofs.paths.write_path.Goals as goal
 
