@@ -134,7 +134,7 @@ module _ (log : Log) (ops : List Op) (t : Tracks log ops) (held : HeldOps log) (
   unfolding in_order op_at
   in_order_law full =
       let c : count_in (counts_of log) s ≡ length (ops_of log s) = count_held log s in
-      collect (op_numbered ops s) 255 1 (ops_of log s) (omega arith)
+      collect (op_numbered ops s) _ _ (ops_of log s) (omega arith)
       (λ i j. let k : 1 + i - 1 ≡ i = omega arith in rw k at (numbered (1 + i) (omega arith) (omega arith)))
       (λ i j. unnumbered (1 + i) (omega arith))
 

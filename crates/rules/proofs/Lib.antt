@@ -29,3 +29,4 @@ pub mod SearchLaws
 pub mod VerdictLaws
 pub mod ReleaseLaws
 pub mod DecimalLaws
+pub mod TableTheorem
