@@ -134,7 +134,7 @@ module _ (f bodies : List ℕ) (n : ℕ) (buf : List ℕ) (i : ℕ) (x : TakenTo
     unfolding body_answer unless_refused is_accepted
     taken_refused no_end = record {
       answered = sym (turn ∙ go (deliver_answer width buf r) refl);
-      left = λ yes-end. never (sym no_end ∙ yes-end);
+      left = λ yes_end. never (sym no_end ∙ yes_end);
     }
       where
         go : (d : Answer) → deliver_answer width buf r ≡ d
@@ -147,7 +147,7 @@ module _ (f bodies : List ℕ) (n : ℕ) (buf : List ℕ) (i : ℕ) (x : TakenTo
 
     pub taken_on : is_accepted a ≡ true → TakenTo f bodies n g (i + 1)
     unfolding body_answer unless_refused is_accepted turns_buffer
-    taken_on yes-end = record {
+    taken_on yes_end = record {
       made = omega arith;
       long = x.long;
       is_sound_so = rw buffer_so (deliver_sound width buf r x.is_sound_so);
@@ -160,7 +160,7 @@ module _ (f bodies : List ℕ) (n : ℕ) (buf : List ℕ) (i : ℕ) (x : TakenTo
         rest = turns_answer width (deliver_buffer width buf r) (bodies_from bodies n (i + 1))
 
         go : (d : Answer) → deliver_answer width buf r ≡ d → unless_refused d rest ≡ rest
-        go (refused m) q = let y : is_accepted a ≡ false = rw (answer_so, q) in never (sym y ∙ yes-end)
+        go (refused m) q = let y : is_accepted a ≡ false = rw (answer_so, q) in never (sym y ∙ yes_end)
         go had_it q = refl
         go waiting q = refl
         go done q = refl
@@ -299,10 +299,10 @@ module _ (f b copy : List ℕ) (a : Answer) (x : Ended f b copy a) where
   open_done e after is =
       let o = x.trial.openable in
       let left : copy ≡ take (length copy) (turns_buffer width f ops) = x.tried.left e ∙ turns.1 in
-      let all-of-it : after ≡ turns_buffer width f ops =
+      let all_of_it : after ≡ turns_buffer width f ops =
       is ∙ ap (λ (t : List ℕ). copy ++ t) (sym turns.2) ∙ ap (λ (t : List ℕ). t ++ drop (length copy) (turns_buffer width f ops)) left
       ∙ take-append-drop (length copy) (turns_buffer width f ops) in
-      rw (o.is_sound_so, o.is_whole, ← is_turns, if_accepted_law (turns_buffer width f ops) f a e) (ap (handed a) all-of-it)
+      rw (o.is_sound_so, o.is_whole, ← is_turns, if_accepted_law (turns_buffer width f ops) f a e) (ap (handed a) all_of_it)
 
 ---- the call
 

@@ -74,7 +74,7 @@ module _ (w : ℕ) (b : List ℕ) where
             pub read_all : not fits ≡ false → (n : ℕ) → n ≡ node_of b
                 → Op (record { kind = k; replica = s; sequence = own + 1; node = n; parent = p }) ≡ read_of w b
             unfolding read_of seq_of
-            read_all z n is-node = rw (eq-eqb (length b) w e, formed, not-false fits z, is, is_own, is_kind, is_parent, is-node)
+            read_all z n is_node = rw (eq-eqb (length b) w e, formed, not-false fits z, is, is_own, is_kind, is_parent, is_node)
 
 pub own_is : (b : List ℕ) (s : ℕ) → Origin b s → (t : ℕ) → t ≡ s → get_or b (5 + t) 0 ≡ own_count b
 own_is b s o t e = rw (e, o.is_origin) (sym (own_byte b (omega (arith, o.low, o.is_origin)) (omega (arith, o.high, o.is_origin))))

@@ -77,13 +77,13 @@ module _ (f b : List ℕ) (new : List Op) (only : OnlyAdded f b new) (r : Op) (n
   more_ops z =
       let log : Log = log_of width b in
       let good = sound_good width b h.is_sound_so in
-      let good-then = good_append log r good h.admits in
+      let good_then = good_append log r good h.admits in
       let range = in_range log r good h.admits in
       let listed = tracks_append log r good.eight range.0 range.1 (own_next log r good h.admits) (concat log)
       (tracks_log log good) in
       rw (
         appended_log width b r n h,
-        tracks_listed (append log r) (good_ops good-then) good-then.eight z (concat log ++ (r ∷ [])) listed,
+        tracks_listed (append log r) (good_ops good_then) good_then.eight z (concat log ++ (r ∷ [])) listed,
         has_last (concat log) r z,
         only.ops z,
         has_append new (concat (log_of width f)) z,
@@ -145,10 +145,10 @@ module _ (f : List ℕ) (good : GoodLog (log_of width f)) (s s' : ℕ) (r r' : O
     -- and the other is delivered after it
     pub arrives : Arrives f b r r' one (deliver r')
     arrives =
-        let new-end : file_end width then + width ≡ file_end width b + 2 * width = omega (arith, appended_end width b r end came) in
+        let new_end : file_end width then + width ≡ file_end width b + 2 * width = omega (arith, appended_end width b r end came) in
         record {
           one_accepted = adds.taken;
-          next_accepted = rw adds.grown (next.taken ∙ ap accepted new-end);
+          next_accepted = rw adds.grown (next.taken ∙ ap accepted new_end);
           both_added = rw (adds.grown, next.grown) both;
         }
 

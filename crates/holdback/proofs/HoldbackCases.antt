@@ -150,10 +150,10 @@ module _ (f r h : List ℕ) (x : Searchable f h) where
         pub then_held : (b : Answer) (h' : List ℕ) → handed_early b h' ≡ early_call r h → handed b g h' ≡ deliver_holdback width f r h
         unfolding holdback_buffer holdback_after early_call
         then_held b h' s =
-            let b-so : b ≡ early_answer width r h = ap (λ (k : EarlyResult). k.answer) s in
-            let h-so : h' ≡ if_waiting (early_answer width r h) (put_back width r h) h = ap (λ (k : EarlyResult). k.holdback) s in
+            let b_so : b ≡ early_answer width r h = ap (λ (k : EarlyResult). k.answer) s in
+            let h_so : h' ≡ if_waiting (early_answer width r h) (put_back width r h) h = ap (λ (k : EarlyResult). k.holdback) s in
             let kept = early_kept width r h (holdback_of width (released width f r h).left) in
-            rw (same_buffer, early_so, early_kept width r h _ f, kept _, b-so, h-so)
+            rw (same_buffer, early_so, early_kept width r h _ f, kept _, b_so, h_so)
 
       pub then_same : is_early a ≡ false → handed a g h ≡ deliver_holdback width f r h
       unfolding holdback_buffer holdback_after answer_on is_early is_accepted

@@ -388,8 +388,8 @@ module _ (f₀ h₀ f h : List ℕ) (i : ℕ) (x : ScanTo f₀ h₀ f h i) where
   unfolding scanned look search_on
   search_ends n count_is l a b y =
       let ops : List Op = holdback_ops width h in
-      let all-met : length ops ≤ i = omega (arith, ops_count width h) in
-      sym (y.rest ∙ x.rest ∙ rw (drop_of_length-le ops all-met, take_all i ops all-met)
+      let all_met : length ops ≤ i = omega (arith, ops_count width h) in
+      sym (y.rest ∙ x.rest ∙ rw (drop_of_length-le ops all_met, take_all i ops all_met)
       (ap (desk f) (holdback_back width h x.searchable.is_holdback)))
 
   module _ (a b : List ℕ) (y : SearchTo a b f₀ h₀) where

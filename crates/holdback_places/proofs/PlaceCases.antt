@@ -121,8 +121,8 @@ module _ (h op : List ℕ) where
     unfolding any
     waits_not l =
         let c = ops_count width h in
-        let all-met : length (holdback_ops width h) ≤ i = omega (arith, c, x.whole) in
-        sym (x.left ∙ rw (drop_of_length-le (holdback_ops width h) all-met))
+        let all_met : length (holdback_ops width h) ≤ i = omega (arith, c, x.whole) in
+        sym (x.left ∙ rw (drop_of_length-le (holdback_ops width h) all_met))
 
 ---- moving down
 

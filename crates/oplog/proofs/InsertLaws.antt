@@ -182,9 +182,9 @@ module _ (w : ℕ) (f : List ℕ) (s : ℕ) (l : 1 ≤ s) (u : s ≤ 8) (ops : L
   pub counts_more : counts_of (append_all log s ops) ≡ set (header_counts f) (s - 1) (get_or (header_counts f) (s - 1) 0 + length ops)
   unfolding counts_of append_all count_in
   counts_more =
-      let count-getD : count_in (counts_of log) s ≡ get_or (header_counts f) (s - 1) 0 = ap (λ v. get_or v (s - 1) 0) (counts_log_of w f) in
+      let count_get_or : count_in (counts_of log) s ≡ get_or (header_counts f) (s - 1) 0 = ap (λ v. get_or v (s - 1) 0) (counts_log_of w f) in
       let n : length (ops_of log s ++ ops) ≡ get_or (header_counts f) (s - 1) 0 + length ops =
-      length-append (ops_of log s) ops ∙ ap (λ (k : ℕ). k + length ops) (sym (count_held log s) ∙ count-getD) in
+      length-append (ops_of log s) ops ∙ ap (λ (k : ℕ). k + length ops) (sym (count_held log s) ∙ count_get_or) in
       map_set log (s - 1) (ops_of log s ++ ops)
       ∙ rw n (ap (λ v. set v (s - 1) (get_or (header_counts f) (s - 1) 0 + length ops)) (counts_log_of w f))
 

@@ -38,7 +38,7 @@ placed_set placed b n t h le i = elim (ℕ_discrete i n) [
   | no ne ↦ rw (get_or-set_other placed n i t 0 ne) (h i)
   | yes e ↦ elim (dec_le (length placed) i) [
     | yes out ↦ rw (get_or-eq_default (set placed n t) 0 {n = i} (omega (arith, length-set placed n t))) (omega arith)
-    | no in-it ↦ rw (e, get_or-set_same placed n t 0 (omega arith)) le
+    | no in_it ↦ rw (e, get_or-set_same placed n t 0 (omega arith)) le
   ]
 ]
 
@@ -61,7 +61,7 @@ pub placed_first : PlacedBy 0 start.placed
 unfolding start
 placed_first i = elim (dec_le slots i) [
   | yes out ↦ rw (get_or-eq_default {A = ℕ} (replicate slots 0) 0 {n = i} (omega (arith, length-replicate {A = ℕ} slots 0))) (le_refl 0)
-  | no in-it ↦ rw (get_or-replicate {A = ℕ} slots i 0 0 (omega arith)) (le_refl 0)
+  | no in_it ↦ rw (get_or-replicate {A = ℕ} slots i 0 0 (omega arith)) (le_refl 0)
 ]
 
 pub placed_by : (log : Log) (cut : Vector) (i : ℕ) → get_or (replay log cut).placed i 0 ≤ greatest (map (timestamp log) (ops_within log cut))

@@ -39,10 +39,10 @@ module _ (buf out : List ℕ) (n : ℕ) (x : Readable buf n out) where
   unfolding put_front
   text_put a o e r is =
       let whole : Written = record { answer = accepted (length text); out = put_front text out } in
-      let all-put : ◌≡◌ {A = Written} (record { answer = a; out = o }) whole =
+      let all_put : ◌≡◌ {A = Written} (record { answer = a; out = o }) whole =
       e ∙ sym (put_all text out (length text) refl fits (put_front text out) refl) in
-      let long : r ≡ length text = is ∙ ap (λ (x : Written). counted x.answer) all-put in
-      let written : o ≡ put_front text out = ap (λ (x : Written). x.out) all-put in
+      let long : r ≡ length text = is ∙ ap (λ (x : Written). counted x.answer) all_put in
+      let written : o ≡ put_front text out = ap (λ (x : Written). x.out) all_put in
       let front : take r o ≡ text = rw (long, written) (take_at text (drop (length text) out) (length text) refl) in
       (λ input i. front ∙ read_settles buf n x.within x.buf_size input i, rw long fits)
 

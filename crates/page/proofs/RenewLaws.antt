@@ -247,11 +247,11 @@ module _ (f : List ℕ) (old all : Vector) (s times : List ℕ) (n : ℕ) (ls lp
       old_page =
           let ys = order_of log all in
           let slot_of : Stamped → ℕ = λ x. outcome_slot x.op in
-          let old-order : order_of log old ≡ take i ys ++ drop (suc i) ys =
+          let old_order : order_of log old ≡ take i ys ++ drop (suc i) ys =
           ap (map slot_of) (rw counts_all at (old_ordered log good old old_cut one i first_new))
           ∙ map-append slot_of (take i xs) (drop (suc i) xs) ∙ ap₂ ◌++◌ (map_take slot_of i xs) (map_drop slot_of (suc i) xs) in
           let long : length ys ≡ n = length-map xs slot_of ∙ sym count in
-          rw (old-order, table, padded_without i ys (omega (arith, long, inside)) (omega (arith, long, few)))
+          rw (old_order, table, padded_without i ys (omega (arith, long, inside)) (omega (arith, long, few)))
           (ap₂ (page (padded (take i ys ++ drop (suc i) ys))) (state_parents p o l t b log old judged_old)
           (state_outcomes p o l t b log old judged_old))
 

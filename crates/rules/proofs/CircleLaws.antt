@@ -138,11 +138,11 @@ module _ (P : ℕ → Type 0) (pv : (x : ℕ) → P x → Valid x) (parents : Li
           ] in
           let same = same_q j x.3 jq in
           let climbs = in_climb parents slots j q (omega arith) (λ k l z. oi k (omega arith) (same k (omega arith) ∙ z)) in
-          let q-below-n : is_in n (climb slots parents q) ≡ true = rw x.2 at climbs in
+          let q_below_n : is_in n (climb slots parents q) ≡ true = rw x.2 at climbs in
           elim (ℕ_discrete i j) [
             | yes e ↦
-                let m-is-n : m ≡ n = sym wi ∙ ap (λ (t : ℕ). up hung t q) e ∙ same j (le_refl j) ∙ x.2 in
-                never (sym (rw m-is-n at clear) ∙ q-below-n)
+                let m_is_n : m ≡ n = sym wi ∙ ap (λ (t : ℕ). up hung t q) e ∙ same j (le_refl j) ∙ x.2 in
+                never (sym (rw m_is_n at clear) ∙ q_below_n)
             | no ne ↦
                 let (jp, jb, rp', firstp) = short P pv parents ip p rp in
                 let avoids = free_avoids parents n p jp jb firstp free in
@@ -157,9 +157,9 @@ module _ (P : ℕ → Type 0) (pv : (x : ℕ) → P x → Valid x) (parents : Li
                   | no h ↦ absurd (oi (j + suc jp) (omega arith) (after jp ∙ same_p jp (le_refl jp) ∙ rp'.root))
                 ] in
                 let meet : up parents d p ≡ m = sym (same_p d dp) ∙ sym (after d) ∙ ap (λ (t : ℕ). up hung t q) (sym id) ∙ wi in
-                let p-climbs = in_climb parents slots d p (omega arith) (λ k l. firstp k (omega arith)) in
-                let p-below-m : is_in m (climb slots parents p) ≡ true = rw meet at p-climbs in
-                never (sym apart ∙ and_both p-below-m q-below-n)
+                let p_climbs = in_climb parents slots d p (omega arith) (λ k l. firstp k (omega arith)) in
+                let p_below_m : is_in m (climb slots parents p) ≡ true = rw meet at p_climbs in
+                never (sym apart ∙ and_both p_below_m q_below_n)
           ]
 
 ---- a node hung below itself
@@ -229,9 +229,9 @@ module _ (P : ℕ → Type 0) (pv : (x : ℕ) → P x → Valid x) (parents : Li
             | yes h ↦
                 let d : ℕ = k - i in
                 let e : k ≡ i + d = omega arith in
-                let to-m = sym x.2 ∙ sym (same i (le_refl i)) in
+                let to_m = sym x.2 ∙ sym (same i (le_refl i)) in
                 never_root (suc d) d (omega arith)
-                (ap (up closed_up d) to-m ∙ sym (up_add closed_up i d n) ∙ ap (λ (t : ℕ). up closed_up t n) (sym e) ∙ wk)
+                (ap (up closed_up d) to_m ∙ sym (up_add closed_up i d n) ∙ ap (λ (t : ℕ). up closed_up t n) (sym e) ∙ wk)
             | no h ↦ oa k (omega arith) (sym (same k (omega arith)) ∙ wk)
           ]
 

@@ -53,8 +53,8 @@ module _ (f out : List ℕ) (s : ℕ) (q : Request) (n : ℕ) (e : issue_answer 
       rw put_out_law (record {
         origin = issued_origin log s q;
         sequence = rw (issued_origin log s q, issued_vector log g s q);
-        accepted_by = λ buffer sound-there more new room. delivered width buffer (issued log s q) _ (record {
-          is_sound_so = sound-there;
+        accepted_by = λ buffer sound_there more new room. delivered width buffer (issued log s q) _ (record {
+          is_sound_so = sound_there;
           long = a.long;
           admits = admits_more log (log_of width buffer) more (issued log s q) a.admits new;
           room = room;

@@ -42,7 +42,7 @@ module _ (w : ℕ) (u : Log) (su : SoundLog u) (base : List ℕ) where
     unfolding is_held file_end
     way_room enough e =
         let v : Vector = counts_of (log_of w g) in
-        let not-here = leb-false (seq_of r) (count_in v (replica_of r)) e in
+        let not_here = leb-false (seq_of r) (count_in v (replica_of r)) e in
         let few : count_in v (replica_of r) < count_in (counts_of u) (replica_of r) = omega (arith, i.here) in
         let later : end_of w v + w ≤ end_of w (counts_of u) =
         end_later w v (counts_of u) (counts_eight (log_of w g) good) (counts_eight u su.good) k.inside.counts (replica_of r) i.low

@@ -143,14 +143,14 @@ module _ (log : Log) (cut : Vector) (o t : List ℕ) where
       let xs = ordered log cut in
       let z : 0 + length (map entry_of xs) ≡ length xs = omega (arith, length-map xs entry_of) in
       let slots_of : List ℕ = map (λ (x : Stamped). outcome_slot x.op) xs in
-      let timesOf : List ℕ = map (λ (x : Stamped). x.time) xs in
+      let times_of : List ℕ = map (λ (x : Stamped). x.time) xs in
       put_stores (map entry_of xs) o t 0
       ∙ rw (
         z,
         map_map (λ (e : Entry). e.slot) entry_of xs,
         map_map (λ (e : Entry). e.time) entry_of xs,
         front_stores slots_of o (rw length-map ho),
-        front_stores timesOf t (rw length-map ht),
+        front_stores times_of t (rw length-map ht),
         length-map,
         length-map,
       )
@@ -274,14 +274,14 @@ module _ (w : ℕ) (f : List ℕ) (cut : Vector) where
         let short : i < length xs = omega (arith, count_is) in
         let x = each_at Slotted xs no_op i (slotted st h) short in
         let slots_of_law : List ℕ = map (λ (x : Stamped). outcome_slot x.op) xs in
-        let times-of : List ℕ = map (λ (x : Stamped). x.time) xs in
+        let times_of_law : List ℕ = map (λ (x : Stamped). x.time) xs in
         let slot_at : get_or o i 0 ≡ outcome_slot (get_or xs i no_op).op =
         rw (ap (λ (y : Schedule). y.order) is) (get_or-append slots_of_law _ 0 i (rw length-map short)
         ∙ map_at (λ (x : Stamped). outcome_slot x.op) xs i 0 no_op short) in
-        let time-at : get_or t i 0 ≡ (get_or xs i no_op).time =
-        rw (ap (λ (y : Schedule). y.times) is) (get_or-append times-of _ 0 i (rw length-map short)
+        let time_at : get_or t i 0 ≡ (get_or xs i no_op).time =
+        rw (ap (λ (y : Schedule). y.times) is) (get_or-append times_of_law _ 0 i (rw length-map short)
         ∙ map_at (λ (x : Stamped). x.time) xs i 0 no_op short) in
-        record { in_slot = rw slot_at x.in_slot; op = rw slot_at x.same_op; time = time-at }
+        record { in_slot = rw slot_at x.in_slot; op = rw slot_at x.same_op; time = time_at }
 
 ---- what the code of the levels needs: search ordering
 

@@ -39,13 +39,13 @@ module _ (f : List ℕ) where
       unfolding counts_call counts_answer require
       counts_short h = rw (a, lt-leb 8 (length out) h)
 
-      pub counts-put :
+      pub counts_put :
           8 ≤ length out → (v : Vector) → v ≡ header_counts f → (o : List ℕ) → o ≡ v ++ drop (length v) out →
           handed (accepted 8) o ≡ counts_call width f out
       unfolding counts_call counts_answer require
-      counts-put h v is o e =
+      counts_put h v is o e =
           let eight : length v ≡ 8 = rw is (length_counts f) in
           rw (a, le-leb 8 (length out) h, counts_log_of width f, e, eight, is)
 
 ---- what the code of the end and the counts needs: search measuring
-pub ruleset measuring = (rules, tested, end_unsound, end_sound, counts_unsound, counts_short, counts-put)
+pub ruleset measuring = (rules, tested, end_unsound, end_sound, counts_unsound, counts_short, counts_put)

@@ -155,7 +155,7 @@ module _ (f : List ℕ) (sound_f : sound width f ≡ true) (ops : List Op) (diff
           let fits : end ≤ length b = omega (arith, way.room, fewer) in
           let e = (next r is).accepted_by b way.only.is_sound_so x not_held fits in
           let a = admitted width b r end e in
-          let new-end = appended_end width b r end a in
+          let new_end = appended_end width b r end a in
           let long = appended_length width b r end a in
           record {
             on = rw e (λ y. refl);

@@ -117,8 +117,8 @@ module _ (log more : Log) (late : Late log more) (good : GoodLog log) (Good-more
   slots_apart : (s t : ℕ) → New log more s → New log more t → (s ≡ t → ⊥) → next_slot log s ≡ next_slot log t → ⊥
   unfolding next_slot slot
   slots_apart s t a b ne e =
-      let most-s = Good-more.counts s a.low a.high in
-      let most-t = Good-more.counts t b.low b.high in
+      let most_s = Good-more.counts s a.low a.high in
+      let most_t = Good-more.counts t b.low b.high in
       ne (omega (arith, a.low, a.beyond, b.low, b.beyond))
 
   ---- their level
@@ -225,7 +225,7 @@ module _ (log more : Log) (late : Late log more) (good : GoodLog log) (Good-more
           full = rw after at full';
           falls = t.falls;
           placed_if = λ m q. elim (ℕ_discrete q.0 s₀) [
-            | yes z ↦ let m-is : n₀ ≡ m = rw z at q.3 in rw (← m-is) e
+            | yes z ↦ let m_is : n₀ ≡ m = rw z at q.3 in rw (← m_is) e
             | no nz ↦ t.placed_if m (q.0, omega (arith, q.1), q.2, q.3)
           ];
           placed_only = λ m v q. lower n m (t.placed_only m v q);

@@ -92,13 +92,13 @@ module _ (f out : List ℕ) (view : View) where
     unfolding listing listing_answer put_in put_answer require
     listing_put = rw a
 
-    pub listing-now :
+    pub listing_now :
         (marks t : List ℕ) → marks ≡ marks_of (log_of width f) → t ≡ order_of (log_of width f) view →
         (x : Written) → x ≡ put_in (lines_of marks t) out → x ≡ listing width f view out
-    listing-now marks t m o x e =
+    listing_now marks t m o x e =
         e ∙ rw (m, o, listing_is (log_of width f) (sound_good width f a) view) (sym listing_put)
 
 ---- what the code of listings needs: search listings
 pub ruleset arranging = (links_ask, order_few, order_made, fresh_asks, order_asks, order_of_law)
 
-pub ruleset listings = (rules, tested, sound_structural, arranging, lines_short, lines_ask, lines_put, listing_unsound, listing-now)
+pub ruleset listings = (rules, tested, sound_structural, arranging, lines_short, lines_ask, lines_put, listing_unsound, listing_now)

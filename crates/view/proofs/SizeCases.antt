@@ -20,12 +20,12 @@ module _ (f : List ℕ) (view : View) where
   unfolding listing_size require
   size_unsound e = rw e
 
-  pub size-now :
+  pub size_now :
       sound width f ≡ true → (order : List ℕ) (count size : ℕ) → ((m : List ℕ) → size ≡ length (lines_of m (take count order))) →
       take count order ≡ order_of (log_of width f) view → accepted size ≡ listing_size width f view
   unfolding listing_size require
-  size-now a order count size is o =
+  size_now a order count size is o =
       rw (a, is (marks_of (log_of width f)), o, listing_is (log_of width f) (sound_good width f a) view)
 
 ---- what the code of sizes needs: search sizing
-pub ruleset sizing = (listings, size_unsound, size-now)
+pub ruleset sizing = (listings, size_unsound, size_now)

@@ -10,16 +10,16 @@ returns c =
     let judged = outcomes.before.before.before in
     let lent = judged.before.before.before in
     let first = lent.before.before in
-    let old-was = first.before.before in
-    let old-took = old-was.before.before in
-    let old-placed = old-took.before.before in
-    let old-outcomes = old-placed.before.before in
-    let taken = old-outcomes.before.before.before in
-    let old-lent = taken.before.before.before in
-    let known = old-lent.before.before.before in
-    let known-outcomes = known.before.before.before in
-    let known-file = known-outcomes.before.before.before in
-    let start = known-file.before.before in (
+    let old_was = first.before.before in
+    let old_took = old_was.before.before in
+    let old_placed = old_took.before.before in
+    let old_outcomes = old_placed.before.before in
+    let taken = old_outcomes.before.before.before in
+    let old_lent = taken.before.before.before in
+    let known = old_lent.before.before.before in
+    let known_outcomes = known.before.before.before in
+    let known_file = known_outcomes.before.before.before in
+    let start = known_file.before.before in (
       carries _ _ _ _ _ _ _ _ _ _ _ _ _ start.requires _ _ _ _ _ taken.take_back-taken.ensures.0 _ _ _ _ _ judged.judge_along.ensures,
       taken.take_back-taken.ensures.1,
     )
