@@ -146,8 +146,8 @@
 //! The library is made by `make library`, for x86-64 Linux alone; the
 //! build script says so on another machine. It looks for `liboutline_c.a` in
 //! `target/staticlib` of the repository, or in the folder that the variable
-//! `OUTLINE_LIB_DIR` names. The library needs `memset`, which a program without
-//! the C library has to bring.
+//! `OUTLINE_LIB_DIR` names. The library needs `memcpy`, `memmove` and `memset`,
+//! which a program without the C library has to bring.
 
 #![no_std]
 #![deny(unsafe_code)]
