@@ -1,18 +1,22 @@
 -- The library's words for lists and bytes, as this repository's.
-use Rattle.std.specs.Prelude.{Bool, true, false, cond, ◌&&◌, ◌||◌, not, List, [], ◌∷◌, ℕ, suc, ◌+◌, ◌*◌, ◌/◌, ◌%◌, ◌<◌, ◌≡◌}
+use Rattle.std.specs.Prelude.{Bool, true, false, cond, ◌&&◌, ◌||◌, not, List, [], ◌∷◌, ℕ, zero, suc, ◌+◌, ◌*◌, ◌/◌, ◌%◌, ◌<◌, ◌≡◌}
 use Rattle.std.specs.Prelude.{Option, eqb, get_or, map}
 use Rattle.std.specs.List.{FoldsTo, list_all, list_any, position_or_len, sum_by}
+use Rattle.std.specs.List.{range_with_len}
 use Rattle.std.specs.List as library
+use Rattle.std.specs.Array.{IsFromFnResult, IsFromFnResultFrom}
 use Rattle.std.specs.Int.{w16, from_be_bytes, to_be_bytes}
 use Rattle.std.specs.Str.{bytes_eq}
 use Rattle.std.specs.Fn.{Called}
 use Rattle.std.specs.Iterator.{YieldsThen}
 use Rattle.std.specs.Option.{MatchOption}
-use Rattle.std.proofs.Common.{refl, sym, ap, ◌∙◌, arith}
+use Rattle.std.proofs.Common.{refl, sym, ap, ◌∙◌, arith, length, ◌≤◌, subst}
 use Rattle.std.proofs.lemmas.List.Sums.{sum_by-cons}
 use Rattle.std.proofs.lemmas.Iterator.{YieldsList}
 use Rattle.std.proofs.lemmas.Iterator.Search.{all_from_yields_List, any_from_yields_List}
+use Rattle.std.proofs.lemmas.List.FromFn.{fill_by_all}
 use denote.Param.Members.{Mut}
+use native.Mathlib.Decide.{ℕ_discrete}
 use Rattle.lists.specs.Lists.{all, any, filter, index_of, same, sum}
 
 pub all_is : {A : Type 0} (p : A → Bool) (xs : List A) → all p xs ≡ list_all p xs
@@ -89,3 +93,29 @@ module _ {S A B F : Type 0} {steps : S → Option A → S → Type 0} {v : A →
       → ((x : A) (b : Bool) (q : F) → Called g f (x, tt) b q → (q ≡ f) × (b ≡ test (v x)))
       → r ≡ any test given
   any_gives test u f r ran list calls = any_from_yields_List test u f r ran list calls ∙ sym (any_is test given)
+
+---- `from_fn`, of a closure that changes nothing it captures
+
+module _ {F : Type 0} (g : Mut F (ℕ × Unit {0}) ℕ) (f : F) (h : ℕ → ℕ) where
+  abbrev Gives : Type 0
+  Gives = (i x : ℕ) (q : F) → Called g f (i, tt) x q → (q ≡ f) × (x ≡ h i)
+
+  each_gives : (ys : List ℕ) → Gives → (i n : ℕ) → IsFromFnResultFrom g f ys i n → (j : ℕ) → i ≤ j → j < i + n
+      → get_or ys j 0 ≡ h j
+  each_gives ys calls i zero each j a l = absurd (omega arith)
+  each_gives ys calls i (suc n) (q, y, there, call, rest) j a l =
+      let told = calls i y q call in
+      let rest' : IsFromFnResultFrom g f ys (i + 1) n = subst (λ (p : F). IsFromFnResultFrom g p ys (i + 1) n) told.0 rest in
+      elim (ℕ_discrete i j) [
+        | yes e ↦ rw (← e) (there.1 0 ∙ told.1)
+        | no z ↦ each_gives ys calls (i + 1) n rest' j (omega arith) (omega arith)
+      ]
+
+-- takes what the closure gives, the list, the call's clause `items`, and that it does, mostly `λ i x q k. search rules`
+pub from_fn_gives : {F : Type 0} {g : Mut F (ℕ × Unit {0}) ℕ} {f : F} {n : ℕ} (h : ℕ → ℕ) (given : List ℕ)
+    → IsFromFnResult g f given n
+    → ((i x : ℕ) (q : F) → Called g f (i, tt) x q → (q ≡ f) × (x ≡ h i))
+    → given ≡ map h (range_with_len 0 n)
+from_fn_gives {F} {g} {f} {n} h given items calls =
+    fill_by_all h given n 0 items.long
+    (λ k l. each_gives g f h given calls 0 n items.each k (omega arith) (omega arith))
