@@ -22,7 +22,12 @@ fn answer_held(file: &[u8], fields: Fields, op: &[u8]) -> Result<(), Refusal>
     requires { Again file.now op.now fields }
     ensures { answer_by (λ _. had_it) result ≡ rules.deliver_answer width file.now op.now }
 {
-    let at = place(file, usize::from(fields.replica), usize::from(fields.sequence), WIDTH);
+    let at = place(
+        file,
+        usize::from(fields.replica),
+        usize::from(fields.sequence),
+        WIDTH,
+    );
     if !same_op(file, at, op) {
         return Err(Refusal::Conflict);
     }
@@ -47,12 +52,7 @@ fn names(file: &[u8], v: [u8; 8], fields: Fields) -> bool
 }
 
 // The tests 5, 6, 7 and 8, where no op of this replica and sequence is held.
-fn answer_new(
-    file: &[u8],
-    counts: [u8; 8],
-    fields: Fields,
-    op: &[u8],
-) -> Result<usize, Refusal>
+fn answer_new(file: &[u8], counts: [u8; 8], fields: Fields, op: &[u8]) -> Result<usize, Refusal>
     requires { Fresh file.now op.now fields counts }
     ensures { answer_of result ≡ rules.deliver_answer width file.now op.now }
 {
