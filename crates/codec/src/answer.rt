@@ -72,7 +72,6 @@ pub enum Delivered {
 
 impl Delivered {
     // Whether the op was added.
-    #[tactic(auto, unfolding(crate::specs::Asked::is_accepted))]
     pub fn is_accepted(self) -> bool
         ensures { result ≡ is_accepted (delivered self) }
     {
