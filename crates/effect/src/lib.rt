@@ -1,6 +1,6 @@
 // The effect of one op on the tables of a replay: parents, outcomes, and the times of moves.
 #![tactic(auto)]
 
-mod apply;
+mod tables;
 
-pub use apply::apply_op;
+pub use tables::Tables;

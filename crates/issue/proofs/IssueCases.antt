@@ -1,5 +1,5 @@
 -- The cases of issuing, as the code meets them.
-use mathlib.Core.Path.{◌≡◌, refl, sym, ◌∙◌, ap}
+use mathlib.Core.Path.{◌≡◌, refl, sym, ap}
 use mathlib.Core.Bool.{Bool, true, false, cond, not, and-eq-true_iff}
 use mathlib.Core.List.{List, ◌++◌}
 use Prim.Native.Nat.{ℕ, ◌+◌, ◌<◌}
@@ -12,7 +12,7 @@ use borrow.Author.Tests.{ltb-true, le-leb}
 use Rattle.rules.specs.Answer.{Answer, accepted, refused, require}
 use Rattle.rules.specs.Bytes.{word}
 use Rattle.rules.specs.Issue.{Request, add, remove, move, Issued, issue_answer, issue_buffer, issue_out, issued, op_bytes, request_clear, request_known, request_unmarked}
-use Rattle.rules.specs.Tree.{move_kind, at_or_below, depth}
+use Rattle.rules.specs.Tree.{move_kind, at_or_below}
 use Rattle.rules.specs.File.{Log, width, appended, counts_of, header_counts, log_of}
 use Rattle.rules.specs.Op.{Vector, count_in, is_replica, node_number, replica_of}
 use Rattle.rules.specs.Replay.{parents_of}
@@ -24,7 +24,6 @@ use Rattle.rules.proofs.SoundLaws.{sound_structural}
 use Rattle.codec.specs.Answers.{number_of}
 use Rattle.codec.specs.declared.answer.Refusal.{Refusal}
 use Rattle.codec.specs.declared.answer.Refusal.TheVariants.{Unknown, Exhausted, Cycle, Marked}
-use Rattle.tree.specs.Climb.{move_or_cycle}
 use Rattle.delivery.specs.Adding.{last_test, room_test, Acceptable}
 use Rattle.issue.specs.Issuing.{Drafted, bytes_of, moved_in, cleared_op, drafted, with_op, put_out, Lent, Ready, Writable, KnownRequest}
 use Rattle.issue.specs.declared.draft.Draft.{Draft}
@@ -50,30 +49,8 @@ known_small log n p e =
     let w = (known_reads log (counts_of log) n h.0.0).0 in
     omega (arith, w.high)
 
--- b tells whether a move closes a circle, and m is its kind
-kind_by : (b : Bool) → let m : ℕ = cond b 3 4 in m ≡ 0 → ⊥
-kind_by true e = omega arith
-kind_by false e = omega arith
-
-cycle_by : (b : Bool) (m : ℕ) (d : Draft) → (m ≡ 0 → ⊥) → cond b 0 m ≡ 0 → Err Cycle ≡ cond b (Err Cycle) (Ok d)
-cycle_by true m d h z = refl
-cycle_by false m d h z = absurd (h z)
-
 abbrev move_draft : (k n p : ℕ) → Draft
 move_draft k n p = record { kind = k; node = n; parent = p }
-
-op_by : (b : Bool) (m n p : ℕ) → (cond b 0 m ≡ 0 → ⊥) → Ok (move_draft (cond b 0 m) n p) ≡ cond b (Err Cycle) (Ok (move_draft m n p))
-op_by true m n p h = absurd (h refl)
-op_by false m n p h = refl
-
-module _ (t : List ℕ) (n p k : ℕ) (is : k ≡ move_or_cycle t n p) where
-  pub move_cycle : k ≡ 0 → Err Cycle ≡ moved_in t n p
-  unfolding moved_in move_or_cycle move_kind
-  move_cycle e = cycle_by (at_or_below t p n) _ _ (kind_by (ltb (depth t p) (depth t n))) (sym is ∙ e)
-
-  pub move_op : (k ≡ 0 → ⊥) → Ok (move_draft k n p) ≡ moved_in t n p
-  unfolding moved_in move_or_cycle
-  move_op ne = rw is (op_by (at_or_below t p n) (move_kind t n p) n p (rw is at ne))
 
 module _ (t : List ℕ) (n p : ℕ) where
   pub move_now : (log : Log) → t ≡ parents_of log → (r : Drafted) → r ≡ moved_in t n p → r ≡ moved_in (parents_of log) n p
@@ -254,7 +231,7 @@ module _ (f out : List ℕ) (s : ℕ) (q : Request) (l : Lent f (length out) s) 
     issue_put x h = rw (answer_by f s (length out) l q, ← e, op_of (log_of width f) s q d opened.1, counts_log_of width f) h
 
 ---- what the code of issuing needs: search issuing
-pub ruleset moves = (known_small, move_cycle, move_op, move_now, cleared_move, move_names_law)
+pub ruleset moves = (known_small, move_now, cleared_move, move_names_law)
 
 pub ruleset drafting = (moves, add_op, remove_op, exhausted, unknown, known_request, marked, drafts)
 

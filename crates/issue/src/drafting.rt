@@ -13,7 +13,7 @@ use oplog::counts_of;
 use replay::replay_all;
 use request::{Request, knows, unmarked};
 use soundness::WIDTH;
-use tree::{SLOTS, move_kind};
+use tree::move_kind;
 
 // How many ops of a replica are held.
 #[tactic(auto, using(rules::proofs::ReplicaLaws::replica_low, rules::proofs::ReplicaLaws::replica_high), unfolding(rules::specs::Op::count_in))]
@@ -42,15 +42,19 @@ fn next_node(counts: [u8; 8], replica: u8) -> u16
 }
 
 // Number 10 of a move in a tree, or the op to issue.
+#[tactic(auto, unfolding(crate::specs::Issuing::moved_in, tree::specs::Climb::move_or_cycle))]
 pub fn draft_move(parents: &[u16], node: u16, parent: u16) -> Result<Draft, Refusal>
     requires { InTree parents.now node }
     ensures { result ≡ moved_in parents.now node parent }
 {
-    let kind = move_kind(parents, node, parent);
-    if kind == 0 {
-        return Err(Refusal::Cycle);
+    match move_kind(parents, node, parent) {
+        None => Err(Refusal::Cycle),
+        Some(kind) => Ok(Draft {
+            kind: u8::from(kind),
+            node,
+            parent,
+        }),
     }
-    Ok(Draft { kind, node, parent })
 }
 
 // The same in the present tree.
@@ -58,10 +62,8 @@ fn draft_move_now(file: &[u8], node: u16, parent: u16) -> Result<Draft, Refusal>
     requires { Movable file.now node parent }
     ensures { result ≡ moved_in (parents_of (log_of width file.now)) node parent }
 {
-    let mut parents = [0u16; SLOTS];
-    let mut outcomes = [0u8; SLOTS];
-    replay_all(file, &mut parents, &mut outcomes, WIDTH);
-    draft_move(&parents, node, parent)
+    let tables = replay_all(file, WIDTH);
+    draft_move(&tables.parents, node, parent)
 }
 
 // Number 10 of a request whose names are known, and the op to issue.

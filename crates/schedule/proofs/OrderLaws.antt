@@ -12,7 +12,7 @@ use borrow.Author.Rules.{rules}
 use borrow.Author.Tests.{ne_eqb}
 use Rattle.lists.specs.Lists.{up_from, down_from, concat}
 use Rattle.lists.proofs.RangeLaws.{concat_nothing, concat_none, map_up_from, map_down_from}
-use Rattle.lists.proofs.EachLaws.{Each, each_at}
+use Rattle.lists.proofs.EachLaws.{Each, each_map, each_of_map}
 use Rattle.lists.proofs.ListLaws.{map_at, map_concat, map_map, stores, stores_are}
 use Rattle.rules.specs.Op.{count_in, kind_of, replica_of, seq_of, Op, Vector}
 use Rattle.rules.specs.File.{Log, log_of, op_at, counts_of, within}
@@ -28,13 +28,13 @@ use Rattle.vector.proofs.VectorLaws.{length_eight}
 use Rattle.order.specs.Levels.{level_kind, advanced_at, ready_op, level, levels, ready_ops, nothing, advanced}
 use Rattle.order.proofs.LevelLaws.{Cut, count_nothing, ordered_levels}
 use Rattle.order.proofs.OnceLaws.{ordered_length}
-use Rattle.order.specs.Undo.{no_op}
 use Rattle.order.proofs.OrderLaws.{ordered_each}
 use Rattle.oplog.specs.Places.{Held}
 use Rattle.oplog.proofs.FieldLaws.{counts_in, in_file_of, small}
 use Rattle.oplog.proofs.HeldLaws.{held_op, count_small}
 use Rattle.tree.specs.Slots.{InSlot, op_in, replica_in, sequence_in}
-use Rattle.schedule.specs.Schedule.{Entry, Schedule, entry_of, put, schedule, scheduled}
+use Rattle.schedule.specs.declared.entries.Entry.{Entry}
+use Rattle.schedule.specs.Schedule.{entry_of, scheduled, stamped_of}
 use Rattle.schedule.specs.Level.{Room, SchedulableCut, class_at, class_entries, classes_of, due_entry, level_entries}
 use Rattle.schedule.proofs.ReadyLaws.{next_held}
 use Rattle.schedule.proofs.ClassLaws.{class_is}
@@ -120,41 +120,6 @@ module _ (log : Log) (cut : Vector) where
     idle_levels zero t = refl
     idle_levels (suc n) t = rw (idle_level t, idle_done) (idle_levels n (suc t))
 
----- all entries, from the front of both tables on
-
-put_stores : (es : List Entry) (o t : List ℕ) (n : ℕ)
-    → foldl put (schedule o t n) es
-    ≡ schedule (stores o n (map (λ (e : Entry). e.slot) es)) (stores t n (map (λ (e : Entry). e.time) es)) (n + length es)
-unfolding stores put
-put_stores [] o t n = let z : n + 0 ≡ n = omega arith in rw z
-put_stores (e ∷ es) o t n =
-    let z : n + suc (length es) ≡ n + 1 + length es = omega arith in
-    rw z (put_stores es (set o n e.slot) (set t n e.time) (n + 1))
-
--- a table with the entries xs at its front
-front_stores : (xs t : List ℕ) → length xs ≤ length t → stores t 0 xs ≡ xs ++ drop (length xs) t
-front_stores xs t h = let z : 0 + length xs ≡ length xs = omega arith in stores_are xs t 0 (omega arith) ∙ rw z
-
-module _ (log : Log) (cut : Vector) (o t : List ℕ) where
-  entries_scheduled : length (ordered log cut) ≤ length o → length (ordered log cut) ≤ length t
-      → foldl put (schedule o t 0) (map entry_of (ordered log cut)) ≡ scheduled log cut o t
-  unfolding scheduled entry_of order_of
-  entries_scheduled ho ht =
-      let xs = ordered log cut in
-      let z : 0 + length (map entry_of xs) ≡ length xs = omega (arith, length-map xs entry_of) in
-      let slots_of : List ℕ = map (λ (x : Stamped). outcome_slot x.op) xs in
-      let times_of : List ℕ = map (λ (x : Stamped). x.time) xs in
-      put_stores (map entry_of xs) o t 0
-      ∙ rw (
-        z,
-        map_map (λ (e : Entry). e.slot) entry_of xs,
-        map_map (λ (e : Entry). e.time) entry_of xs,
-        front_stores slots_of o (rw length-map ho),
-        front_stores times_of t (rw length-map ht),
-        length-map,
-        length-map,
-      )
-
 ---- the loop over the levels
 
 -- a cut as the laws of the order want it
@@ -177,41 +142,33 @@ few_ops w f st cut h c =
       total_small cut (count_small w f cut h),
     )
 
--- at the start of time t: so many entries are written, and the ops counted in done are behind
-pub record AtTime (log : Log) (cut : Vector) (o₀ t₀ o t : List ℕ) (n time : ℕ) (done : Vector) : Type 0 where
+-- at the start of a time: so many entries are written, and the ops counted in done are behind
+pub record AtTime (log : Log) (cut : Vector) (now : List Entry) (time : ℕ) (done : Vector) : Type 0 where
   pub eight : length done ≡ 8
-  pub rest : Left (schedule o₀ t₀ 0) (map entry_of (ordered log cut)) o t n (levels_from log cut time done)
+  pub rest : Left [] (scheduled log cut) now (levels_from log cut time done)
 
-module _ (w : ℕ) (f : List ℕ) (cut : Vector) (o₀ t₀ : List ℕ) (x : SchedulableCut w f cut o₀ t₀) where
-  pub order_starts : AtTime (log_of w f) cut o₀ t₀ o₀ t₀ 0 1 (replicate 8 0)
-  unfolding levels_from nothing
+module _ (w : ℕ) (f : List ℕ) (cut : Vector) (x : SchedulableCut w f cut) where
+  pub order_starts : AtTime (log_of w f) cut [] 1 (replicate 8 0)
+  unfolding levels_from nothing scheduled
   order_starts =
-      let xs = ordered (log_of w f) cut in
-      let few : length (map entry_of xs) ≤ most_ops = rw length-map (few_ops w f x.is_structural cut x.held x.is_closed) in
+      let few : length (scheduled (log_of w f) cut) ≤ most_ops = rw length-map (few_ops w f x.is_structural cut x.held x.is_closed) in
       record {
         eight = refl;
-        rest = left_all _ _ o₀ t₀ 0
-            (record { order = omega (arith, x.order); times = omega (arith, x.times) })
+        rest = left_all _ _ _ (omega (arith, few))
             (ap (map entry_of) (ordered_levels (log_of w f) (structural_good w f x.is_structural) cut
             (cut_of w f cut x.held x.is_closed)));
       }
 
-  module _ (o t : List ℕ) (n time : ℕ) (done : Vector) (h : AtTime (log_of w f) cut o₀ t₀ o t n time done) where
-    ends : levels_from (log_of w f) cut time done ≡ [] → schedule o t n ≡ scheduled (log_of w f) cut o₀ t₀
-    ends e =
-        let few = few_ops w f x.is_structural cut x.held x.is_closed in
-        left_none _ _ o t n _ h.rest e
-        ∙ entries_scheduled (log_of w f) cut o₀ t₀ (omega (arith, few, x.order)) (omega (arith, few, x.times))
-
-    pub order_ends : slots + 1 ≤ time → schedule o t n ≡ scheduled (log_of w f) cut o₀ t₀
-    order_ends u = ends (levels_none (log_of w f) cut time done u)
+  module _ (now : List Entry) (time : ℕ) (done : Vector) (h : AtTime (log_of w f) cut now time done) where
+    pub order_ends : slots + 1 ≤ time → now ≡ scheduled (log_of w f) cut
+    order_ends u = left_none _ _ _ _ h.rest (levels_none (log_of w f) cut time done u)
 
     module _ (next : Vector) (is : next ≡ ready_ops (log_of w f) cut done) where
-      pub order_idle : (b : Bool) → b ≡ within next (replicate 8 0) → b ≡ true → schedule o t n ≡ scheduled (log_of w f) cut o₀ t₀
+      pub order_idle : within next (replicate 8 0) ≡ true → now ≡ scheduled (log_of w f) cut
       unfolding levels_from nothing
-      order_idle b e z =
-          let idle : within (ready_ops (log_of w f) cut done) nothing ≡ true = rw (← is) (sym e ∙ z) in
-          ends (ap (map entry_of) (idle_levels (log_of w f) cut done h.eight idle (slots + 1 - time) time))
+      order_idle e =
+          let idle : within (ready_ops (log_of w f) cut done) nothing ≡ true = rw is at e in
+          left_none _ _ _ _ h.rest (ap (map entry_of) (idle_levels (log_of w f) cut done h.eight idle (slots + 1 - time) time))
 
       pub next_asks : Held w f next
       next_asks = rw is (next_held w f cut done x.held)
@@ -223,18 +180,18 @@ module _ (w : ℕ) (f : List ℕ) (cut : Vector) (o₀ t₀ : List ℕ) (x : Sch
             levels_turn (log_of w f) cut time done u
             ∙ rw (c, level_entries_law w f x.is_structural next next_asks time, is)
 
-        pub level_asks : Room o t n (level_entries classes next time)
-        level_asks = left_room _ _ o t n _ h.rest _ _ turn
+        pub level_asks : Room now (level_entries classes next time)
+        level_asks = left_room _ _ _ _ h.rest _ _ turn
 
-        pub order_on : (o' t' : List ℕ) (n' : ℕ) → schedule o' t' n' ≡ foldl put (schedule o t n) (level_entries classes next time)
-            → (after : Vector) → after ≡ advanced done next → AtTime (log_of w f) cut o₀ t₀ o' t' n' (time + 1) after
+        pub order_on : (after : List Entry) → after ≡ now ++ level_entries classes next time
+            → (behind : Vector) → behind ≡ advanced done next → AtTime (log_of w f) cut after (time + 1) behind
         unfolding advanced
-        order_on o' t' n' e after a = record {
+        order_on after e behind a = record {
           eight = ap length a ∙ length_eight (advanced_at done next);
-          rest = rw a (left_on _ _ o t n _ h.rest (level_entries classes next time) _ turn o' t' n' e);
+          rest = rw a (left_on _ _ _ _ h.rest _ _ turn after e);
         }
 
----- what the tables then have
+---- what the schedule then has
 
 -- a slot gives replica and sequence back
 slot_back : (s q : ℕ) → 1 ≤ s → 1 ≤ q → q ≤ 255 → (replica_in (slot s q) ≡ s) × (sequence_in (slot s q) ≡ q) × (1 ≤ slot s q)
@@ -242,13 +199,13 @@ unfolding slot
 slot_back s q ls lq uq = (omega arith, omega arith, omega arith)
 
 module _ (w : ℕ) (f : List ℕ) (cut : Vector) where
-  -- an op has its slot in the file
-  record Slotted (x : Stamped) : Type 0 where
-    pub in_slot : InSlot w f (outcome_slot x.op)
-    pub same_op : op_in (log_of w f) (outcome_slot x.op) ≡ x.op
+  -- an op of the order has its slot in the file
+  pub record Slotted (x : Stamped) : Type 0 where
+    pub in_slot : InSlot w f (entry_of x).slot
+    pub same_op : stamped_of (log_of w f) (entry_of x) ≡ x
 
   slotted : structural w f ≡ true → Held w f cut → Each Slotted (ordered (log_of w f) cut)
-  unfolding stamp outcome_slot op_in
+  unfolding stamp outcome_slot op_in entry_of stamped_of
   slotted st h = ordered_each (log_of w f) cut Slotted (λ s q l u lq uq.
       let i = in_file_of w f cut h s q l u lq uq in
       let op = held_op w f st s q i in
@@ -256,33 +213,16 @@ module _ (w : ℕ) (f : List ℕ) (cut : Vector) where
       let e : slot (replica_of (op_at (log_of w f) s q)) (seq_of (op_at (log_of w f) s q)) ≡ slot s q = ap₂ slot op.origin op.number in
       record { in_slot = rw e (record { some = b.2; in_file = rw (b.0, b.1) i }); same_op = rw (e, b.0, b.1) })
 
-  -- place i of the tables has op i of the order
-  pub record Entered (order times : List ℕ) (i : ℕ) : Type 0 where
-    pub in_slot : InSlot w f (get_or order i 0)
-    pub op : op_in (log_of w f) (get_or order i 0) ≡ (get_or (ordered (log_of w f) cut) i no_op).op
-    pub time : get_or times i 0 ≡ (get_or (ordered (log_of w f) cut) i no_op).time
+  pub entries_in_slots : structural w f ≡ true → Held w f cut → Each (λ (e : Entry). InSlot w f e.slot) (scheduled (log_of w f) cut)
+  unfolding scheduled
+  entries_in_slots st h = each_of_map _ entry_of _ (each_map Slotted _ _ (λ x k. k.in_slot) (slotted st h))
 
-  module _ (o₀ t₀ o t : List ℕ) (n : ℕ) (is : schedule o t n ≡ scheduled (log_of w f) cut o₀ t₀) where
-    pub count_is : n ≡ length (ordered (log_of w f) cut)
-    unfolding scheduled
-    count_is = ap (λ (x : Schedule). x.count) is
-
-    pub entered : structural w f ≡ true → Held w f cut → (i : ℕ) → i < n → Entered o t i
-    unfolding scheduled order_of outcome_slot
-    entered st h i l =
-        let xs = ordered (log_of w f) cut in
-        let short : i < length xs = omega (arith, count_is) in
-        let x = each_at Slotted xs no_op i (slotted st h) short in
-        let slots_of_law : List ℕ = map (λ (x : Stamped). outcome_slot x.op) xs in
-        let times_of_law : List ℕ = map (λ (x : Stamped). x.time) xs in
-        let slot_at : get_or o i 0 ≡ outcome_slot (get_or xs i no_op).op =
-        rw (ap (λ (y : Schedule). y.order) is) (get_or-append slots_of_law _ 0 i (rw length-map short)
-        ∙ map_at (λ (x : Stamped). outcome_slot x.op) xs i 0 no_op short) in
-        let time_at : get_or t i 0 ≡ (get_or xs i no_op).time =
-        rw (ap (λ (y : Schedule). y.times) is) (get_or-append times_of_law _ 0 i (rw length-map short)
-        ∙ map_at (λ (x : Stamped). x.time) xs i 0 no_op short) in
-        record { in_slot = rw slot_at x.in_slot; op = rw slot_at x.same_op; time = time_at }
-
----- what the code of the levels needs: search ordering
-
-pub ruleset ordering = (rules, order_starts, order_ends, order_idle, next_asks, level_asks, order_on)
+  -- its entries are its ops
+  pub entries_are : structural w f ≡ true → Held w f cut
+      → map (stamped_of (log_of w f)) (scheduled (log_of w f) cut) ≡ ordered (log_of w f) cut
+  unfolding scheduled
+  entries_are st h = go (ordered (log_of w f) cut) (slotted st h)
+    where
+      go : (xs : List Stamped) → Each Slotted xs → map (stamped_of (log_of w f)) (map entry_of xs) ≡ xs
+      go [] k = refl
+      go (x ∷ xs) k = rw (k.0.same_op, go xs k.1)

@@ -56,36 +56,6 @@ module _ (w : ℕ) (f : List ℕ) (cut : Vector) (s : ℕ) (x : HeldAt w f cut s
         pub next_waits : b ≡ false → 0 ≡ next_at (log_of w f) cut done s
         next_waits t = sym (next_some (log_of w f) cut done s (omega arith) ∙ rw (← hn, ← vector_so, ← hb, t))
 
--- a replica of the loop
-pub held_at : (w : ℕ) (f : List ℕ) (v : Vector) (i : ℕ) → Held w f v → i < 8 → HeldAt w f v (i + 1)
-held_at w f v i c h = record { held = c; replica = record { low = omega arith; high = omega arith } }
-
----- the numbers of all replicas
-
-module _ (log : Log) (cut done v : Vector) where
-  pub nexts_all : (i : ℕ) → Built (next_at log cut done) v i → 8 ≤ i → v ≡ ready_ops log cut done
-  unfolding ready_ops
-  nexts_all i b h = build_all (next_at log cut done) v i b h
-
-module _ (done next v : Vector) where
-  pub advance_more : (i x : ℕ) → Built (advanced_at done next) v i → i < 8 → x ≡ later (get_or done i 0) (get_or next i 0)
-      → Built (advanced_at done next) (set v i x) (i + 1)
-  unfolding later advanced_at
-  advance_more i x b h e = build_more (advanced_at done next) v i x b h (e ∙ rw (count_of done, count_of next))
-
-  pub advance_all : (i : ℕ) → Built (advanced_at done next) v i → 8 ≤ i → v ≡ advanced done next
-  unfolding advanced
-  advance_all i b h = build_all (advanced_at done next) v i b h
-
-module _ (old new : ℕ) where
-  pub later_old : new ≡ 0 → old ≡ later old new
-  unfolding later
-  later_old e = rw (eq-eqb new 0 e)
-
-  pub later_new : (new ≡ 0 → ⊥) → new ≡ later old new
-  unfolding later
-  later_new e = rw (ne_eqb new 0 e)
-
 -- a file that holds a cut holds what is ready
 pub next_held : (w : ℕ) (f : List ℕ) (cut done : Vector) → Held w f cut → Held w f (ready_ops (log_of w f) cut done)
 unfolding ready_ops count_in
@@ -102,11 +72,3 @@ next_held w f cut done h = record {
     go : {a m : ℕ} (b : Bool) → a ≤ m → cond b a 0 ≤ m
     go true h = h
     go false h = omega arith
-
----- what the code of the ops that are ready needs: search readies
-
-pub ruleset nexts = (next_none, next_fits, next_in_file, next_ready, next_waits, held_at, nexts_all)
-
-pub ruleset advances = (advance_more, advance_all, later_old, later_new)
-
-pub ruleset readies = (rules, build_none, build_more, nexts, advances)

@@ -6,7 +6,7 @@ use Rattle.rules.specs.File.{Log, log_of, op_at}
 use Rattle.rules.specs.Log.{structural, closed}
 use Rattle.rules.specs.Tree.{slot, most_ops}
 use Rattle.oplog.specs.Places.{Held}
-use Rattle.schedule.specs.Schedule.{Entry}
+use Rattle.schedule.specs.declared.entries.Entry.{Entry}
 
 ---- what is ready
 
@@ -46,44 +46,38 @@ pub record HeldAt (w : ℕ) (f : List ℕ) (v : Vector) (s : ℕ) : Type 0 where
   pub held : Held w f v
   pub replica : IsReplica s
 
--- no replica above a number has an op of a class; none below it
-pub record Top (classes : Vector) (high : ℕ) : Type 0 where
+-- no replica has an op of a class
+abbrev pub Idle : Vector → Type 0
+Idle classes = (s : ℕ) → 1 ≤ s → s ≤ 8 → count_in classes s ≡ 0
+
+-- a replica has one, and none above it; none below it
+pub record Highest (classes : Vector) (high : ℕ) : Type 0 where
   pub most : high ≤ 8
+  pub some : 1 ≤ count_in classes high
   pub above : (s : ℕ) → high < s → s ≤ 8 → count_in classes s ≡ 0
 
-pub record Bottom (classes : Vector) (low : ℕ) : Type 0 where
+pub record Lowest (classes : Vector) (low : ℕ) : Type 0 where
   pub least : 1 ≤ low
-  pub most : low ≤ 9
+  pub most : low ≤ 8
+  pub some : 1 ≤ count_in classes low
   pub below : (s : ℕ) → 1 ≤ s → s < low → count_in classes s ≡ 0
 
--- and that replica itself has one, if it is a replica
-pub record Highest (classes : Vector) (high : ℕ) : Type 0 where
-  pub top : Top classes high
-  pub some : 1 ≤ high → 1 ≤ count_in classes high
+-- a schedule has room for more entries
+abbrev pub Room : List Entry → List Entry → Type 0
+Room xs es = length xs + length es ≤ most_ops
 
-pub record Lowest (classes : Vector) (low : ℕ) : Type 0 where
-  pub bottom : Bottom classes low
-  pub some : low ≤ 8 → 1 ≤ count_in classes low
-
--- both tables have room for more entries behind the first n
-pub record Room (o t : List ℕ) (n : ℕ) (es : List Entry) : Type 0 where
-  pub order : n + length es ≤ length o
-  pub times : n + length es ≤ length t
-
-pub record RoomAt (classes next : Vector) (time class s : ℕ) (o t : List ℕ) (n : ℕ) : Type 0 where
+pub record RoomAt (classes next : Vector) (time class s : ℕ) (xs : List Entry) : Type 0 where
   pub replica : IsReplica s
-  pub room : Room o t n (due_entry classes next time class s)
+  pub room : Room xs (due_entry classes next time class s)
 
-pub record RoomIn (classes next : Vector) (high low time class : ℕ) (o t : List ℕ) (n : ℕ) : Type 0 where
-  pub top : Top classes high
-  pub bottom : Bottom classes low
+pub record RoomIn (classes next : Vector) (time class low high : ℕ) (xs : List Entry) : Type 0 where
+  pub lowest : Lowest classes low
+  pub highest : Highest classes high
   pub some : 1 ≤ class
-  pub room : Room o t n (class_entries classes next time class)
+  pub room : Room xs (class_entries classes next time class)
 
--- a closed cut of a structurally sound file, and tables for all ops that a log can have
-pub record SchedulableCut (w : ℕ) (f : List ℕ) (cut : Vector) (o t : List ℕ) : Type 0 where
+-- a closed cut of a structurally sound file
+pub record SchedulableCut (w : ℕ) (f : List ℕ) (cut : Vector) : Type 0 where
   pub is_structural : structural w f ≡ true
   pub held : Held w f cut
   pub is_closed : closed (log_of w f) cut ≡ true
-  pub order : length o ≡ most_ops
-  pub times : length t ≡ most_ops

@@ -1,9 +1,11 @@
-// The order in which the ops of a cut are replayed (the document's judging order), as data: a table
-// of their slots, and one of their timestamps beside it.
+// The order in which the ops of a cut are replayed (the document's judging order), as data: their
+// slots and timestamps, one after another.
 #![tactic(auto)]
 
+mod entries;
 mod level;
 mod ready;
 mod writing;
 
-pub use writing::{OPS, write_order};
+pub use entries::{Entry, OPS, Schedule};
+pub use writing::schedule_of;

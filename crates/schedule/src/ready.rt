@@ -10,6 +10,7 @@ use vector::within;
 
 // The number of replica s's next op, if it is within the cut and all that it has seen is done;
 // else 0.
+#[tactic(auto, using(crate::proofs::ReadyLaws::next_in_file, crate::proofs::ReadyLaws::next_none, crate::proofs::ReadyLaws::next_ready, crate::proofs::ReadyLaws::next_waits))]
 fn next_op(file: &[u8], cut: [u8; 8], done: [u8; 8], s: usize, width: usize) -> u8
     requires { HeldAt width file.now cut s }
     ensures { result ≡ next_at (log_of width file.now) cut done s }
@@ -27,17 +28,15 @@ fn next_op(file: &[u8], cut: [u8; 8], done: [u8; 8], s: usize, width: usize) -> 
 }
 
 // The number of each replica's op that is ready, or 0.
+#[tactic(auto, unfolding(order::specs::Levels::ready_ops, rules::specs::Op::replicas, lists::specs::Lists::up_from))]
 pub fn next_ops(file: &[u8], cut: [u8; 8], done: [u8; 8], width: usize) -> [u8; 8]
     requires { Held width file.now cut }
     ensures { result ≡ ready_ops (log_of width file.now) cut done }
 {
-    let mut next = [0u8; 8];
-    for i in 0..8 {
-        next[i] = next_op(file, cut, done, i + 1, width);
-    }
-    next
+    std::array::from_fn(|i| next_op(file, cut, done, i + 1, width))
 }
 
+#[tactic(auto, unfolding(crate::specs::Level::later))]
 fn later_of(old: u8, new: u8) -> u8
     ensures { result ≡ later old new }
 {
@@ -48,12 +47,9 @@ fn later_of(old: u8, new: u8) -> u8
 }
 
 // What is done after a level.
+#[tactic(auto, unfolding(order::specs::Levels::advanced, rules::specs::Op::replicas, lists::specs::Lists::up_from, order::specs::Levels::advanced_at, crate::specs::Level::later, rules::specs::Op::count_in))]
 pub fn advance(done: [u8; 8], next: [u8; 8]) -> [u8; 8]
     ensures { result ≡ advanced done next }
 {
-    let mut after = [0u8; 8];
-    for i in 0..8 {
-        after[i] = later_of(done[i], next[i]);
-    }
-    after
+    std::array::from_fn(|i| later_of(done[i], next[i]))
 }
