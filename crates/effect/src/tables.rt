@@ -5,7 +5,7 @@ ghost use Rattle.rules.specs.Tree.{slots};
 ghost use Rattle.schedule.specs.Schedule.{stamped_of};
 ghost use Rattle.effect.specs.Effects.{Applicable, Slotted, state_of, outcome_by, hung, noted};
 
-use codec::{kind_at, node_at, parent_at, widen16};
+use codec::{kind_at, node_at, parent_at};
 use schedule::Entry;
 use tree::{NO_PARENT, SLOTS, climb_to, slot_of, slot_place};
 
@@ -34,7 +34,7 @@ impl Tables {
     }
 
     // The outcome of an op by its fields.
-    #[tactic(auto, using(tree::proofs::ClimbLaws::met_is), unfolding(crate::specs::Effects::outcome_by))]
+    #[tactic(auto, unfolding(crate::specs::Effects::outcome_by, rules::specs::Tree::climb_to))]
     fn outcome_of(&self, kind: u8, node: u16, parent: u16, slot: usize, time: u16) -> u8
         requires { Slotted node slot }
         ensures { result ≡ outcome_by (state_of self.now) kind node parent slot time }
@@ -91,7 +91,7 @@ impl Tables {
         ensures { state_of self.new
             ≡ step (state_of self.old) (stamped_of (log_of width file.now) entry) }
     {
-        let slot = widen16(entry.slot);
+        let slot = entry.slot as usize;
         let at = slot_place(file, slot, width);
         let kind = kind_at(file, at);
         let node = node_at(file, at);
