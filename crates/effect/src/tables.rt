@@ -1,13 +1,13 @@
 ghost use Rattle.std.specs.Prelude.{◌≡◌, ◌<◌};
 ghost use Rattle.rules.specs.File.{log_of};
-ghost use Rattle.rules.specs.Replay.{start, step};
+ghost use Rattle.rules.specs.Replay.{step};
 ghost use Rattle.rules.specs.Tree.{slots};
 ghost use Rattle.schedule.specs.Schedule.{stamped_of};
 ghost use Rattle.effect.specs.Effects.{Applicable, Slotted, state_of, outcome_by, hung, noted};
 
 use codec::{kind_at, node_at, parent_at};
 use schedule::Entry;
-use tree::{NO_PARENT, SLOTS, climb_to, slot_of, slot_place};
+use tree::{SLOTS, climb_to, slot_of, slot_place};
 
 // The tables of a replay: the parent of each node, the outcome of each op, and of each node the time
 // of the applied move that placed it last.
@@ -19,20 +19,6 @@ pub struct Tables {
 }
 
 impl Tables {
-    // No op is judged, and the tree is the root alone.
-    #[tactic(auto, unfolding(rules::specs::Replay::start))]
-    pub fn new() -> Self
-        ensures { state_of result ≡ start }
-    {
-        let mut parents = [NO_PARENT; SLOTS];
-        parents[0] = 0;
-        Tables {
-            parents,
-            outcomes: [0; SLOTS],
-            placed: [0; SLOTS],
-        }
-    }
-
     // The outcome of an op by its fields.
     #[tactic(auto, unfolding(crate::specs::Effects::outcome_by, rules::specs::Tree::climb_to))]
     fn outcome_of(&self, kind: u8, node: u16, parent: u16, slot: usize, time: u16) -> u8

@@ -1,31 +1,19 @@
 ghost use Rattle.std.specs.Prelude.{◌≡◌};
 ghost use Rattle.rules.specs.File.{log_of};
-ghost use Rattle.effect.specs.Effects.{tables};
+ghost use Rattle.effect.specs.Effects.{state_of};
 ghost use Rattle.replay.specs.Tables.{Along, applied_along};
 
-use codec::widen16;
-use effect::apply_op;
+use effect::Tables;
+use schedule::Entry;
 
-// Applies the ops whose slots a table has from one place to another, with the timestamps beside
-// them.
-pub(crate) fn apply_along(
-    file: &[u8],
-    order: &[u16],
-    times: &[u16],
-    from: usize,
-    to: usize,
-    parents: &mut [u16],
-    outcomes: &mut [u8],
-    placed: &mut [u16],
-    width: usize,
-)
-    requires { Along width file.now order.now times.now from to parents.old outcomes.old placed.old }
-    ensures { tables parents.new outcomes.new placed.new
-        ≡ applied_along (log_of width file.now) order.now times.now from to
-        (tables parents.old outcomes.old placed.old) }
+// Applies the ops of entries, one after another.
+#[tactic(auto, using(crate::proofs::AlongLaws::along_none, crate::proofs::AlongLaws::along_more))]
+pub(crate) fn apply_along(file: &[u8], entries: &[Entry], tables: &mut Tables, width: usize)
+    requires { Along width file.now entries.now }
+    ensures { state_of tables.new
+        ≡ applied_along (log_of width file.now) entries.now (state_of tables.old) }
 {
-    for i in from..to {
-        let slot = widen16(order[i]);
-        apply_op(file, slot, times[i], parents, outcomes, placed, width);
+    for entry in entries {
+        tables.apply(file, *entry, width);
     }
 }

@@ -1,13 +1,10 @@
--- `replay::along::apply_along`: what its loops keep.
-use Rattle.replay.proofs.AlongLaws.{Left}
-use Prim.Native.Nat.{◌-◌}
+-- `replay::along::apply_along`: what its loop keeps.
+use Rattle.std.proofs.Common.{◌≡◌, take}
 use Rattle.rules.specs.File.{log_of}
-use Rattle.effect.specs.Effects.{tables}
+use Rattle.effect.specs.Effects.{state_of}
+use Rattle.replay.specs.Tables.{applied_along}
 use Rattle.replay.proofs.along.apply_along.Given as goal
 
-abbrev pub invariant-loop-i : goal.invariant-loop-i
-invariant-loop-i l =
-    Left (log_of l.width l.file) l.order l.times l.from l.to (tables l.initial.parents l.initial.outcomes l.initial.placed) l.parents l.outcomes l.placed l.i
-
-abbrev pub decreases-loop-i : goal.decreases-loop-i
-decreases-loop-i l = l.to - l.i
+abbrev pub invariant-loop-entry : goal.invariant-loop-entry
+invariant-loop-entry l =
+    state_of l.tables ≡ applied_along (log_of l.width l.file) (take l.entry-index l.entries) (state_of l.initial.tables)
