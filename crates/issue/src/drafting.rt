@@ -11,7 +11,7 @@ use oplog::counts_of;
 use replay::replay_all;
 use request::{Request, knows, unmarked};
 use soundness::WIDTH;
-use tree::{SLOTS, move_kind};
+use tree::move_kind;
 
 // Number 9: whether a replica has an op left to issue.
 pub fn has_left(counts: [u8; 8], replica: u8) -> bool
@@ -47,10 +47,8 @@ fn draft_move_now(file: &[u8], node: u16, parent: u16) -> Drafted
     requires { Movable file.now node parent }
     ensures { result ≡ moved_in (parents_of (log_of width file.now)) node parent }
 {
-    let mut parents = [0u16; SLOTS];
-    let mut outcomes = [0u8; SLOTS];
-    replay_all(file, &mut parents, &mut outcomes, WIDTH);
-    draft_move(&parents, node, parent)
+    let tables = replay_all(file, WIDTH);
+    draft_move(&tables.parents, node, parent)
 }
 
 // Number 10 of a request whose names are known, and the op to issue.

@@ -9,7 +9,7 @@ use lib.Seq.{drop-append-le, length-take-le, take-append-le}
 use borrow.Author.Tests.{le-leb}
 use Rattle.lists.specs.Lists.{filter, sum, up_from}
 use Rattle.lists.proofs.ListLaws.{map_at, map_drop, map_map, map_take}
-use Rattle.std.proofs.lemmas.List.{get_or-take, set_at, take-append-drop, take_more}
+use Rattle.std.proofs.lemmas.List.{get_or-take, set_at, take_all, take-append-drop, take_more}
 use Rattle.rules.specs.Op.{Vector, count_in, counted}
 use Rattle.rules.specs.File.{Log, counts_of, header_counts, log_of, width}
 use Rattle.rules.specs.Log.{covered, sound_header, structural}
@@ -19,7 +19,7 @@ use Rattle.rules.specs.Tree.{most_ops, no_parent}
 use Rattle.rules.proofs.CausalLaws.{Le, le_within, total, total_sum, within_le, within_length}
 use Rattle.rules.proofs.FileLaws.{counts_at, counts_log_of}
 use Rattle.rules.proofs.IssueLaws.{counts_eight}
-use Rattle.rules.proofs.StepLaws.{Full, full_replay}
+use Rattle.rules.proofs.StepLaws.{Full, full_first, full_run}
 use Rattle.rules.proofs.StructureLaws.{GoodLog, counts_covered, structural_good}
 use Rattle.order.specs.Undo.{FirstNew, Undoable, no_op, replay_keeping, step_keeping, unjudged}
 use Rattle.order.proofs.LevelLaws.{Cut, whole_cut}
@@ -171,8 +171,9 @@ module _ (f : List ℕ) (old all : Vector) (es : List Entry) (ls lp lo : List �
   -- tables of a judgement
   fill_so : (v : Vector) (judged : Undoable) → judged ≡ replay_keeping log v → (s : List ℕ) → s ≡ padded (map slot_in_entry es)
       → FillablePage ls lp lo s judged.state.parents judged.state.outcomes
+  unfolding replay
   fill_so v judged is s is' =
-      let full : Full (replay log v) = full_replay log v in
+      let full : Full (replay log v) = full_run (ordered log v) start full_first in
       record {
         lent = x.lent;
         judged = record {
@@ -246,14 +247,21 @@ module _ (f : List ℕ) (old all : Vector) (es : List Entry) (ls lp lo : List �
         inside = omega (arith, inside, few);
       }
 
-      pub carry_asks : Carriable width f old all (drop i es) judged
+      -- what the code carries along: the slice from there on
+      abbrev rest : List Entry
+      rest = take (length es - i) (drop i es)
+
+      rest_is : rest ≡ drop i es
+      rest_is = take_all (length es - i) (drop i es) (omega (arith, length-drop i es))
+
+      pub carry_asks : Carriable width f old all rest judged
       carry_asks =
           let whole = take-append-drop i es in
           record {
             whole = all;
             front = take i es;
-            along = rw whole along;
-            schedules = rw whole schedules;
+            along = rw (rest_is, whole) along;
+            schedules = rw (rest_is, whole) schedules;
             before_inside = le_within old all old_le;
             after_inside = le_within all all (λ r a c. omega arith);
             agrees = λ k h.
@@ -276,18 +284,18 @@ module _ (f : List ℕ) (old all : Vector) (es : List Entry) (ls lp lo : List �
           (ap₂ (page (padded (take i ys ++ drop (suc i) ys))) (state_parents judged log old judged_old)
           (state_outcomes judged log old judged_old))
 
-      back_count : length (ops_along log old (drop i es)) ≡ length (drop (suc i) (order_of log (counts_of log)))
+      back_count : length (ops_along log old rest) ≡ length (drop (suc i) (order_of log (counts_of log)))
       unfolding order_of timed_along
       back_count =
           let zs : List Stamped = ordered log (counts_of log) in
           let back : filter (in_cut old) (drop i xs) ≡ drop (suc i) xs =
           rw counts_all at (counted_back log good old old_cut one i first_new) in
-          rw (ops_are log old (drop i es), map_drop (stamped_of log) i es, stamped_is, back, length-map, length-drop, length-drop,
+          rw (rest_is, ops_are log old (drop i es), map_drop (stamped_of log) i es, stamped_is, back, length-map, length-drop, length-drop,
             length-map, counts_all)
 
       module _ (s : List ℕ) (is' : s ≡ padded (map slot_in_entry es)) (shown : Bool)
           (so : shown ≡ shows (page ls lp lo) (page (order_without i s) judged.state.parents judged.state.outcomes)) where
-        pub took_back : shown ≡ true → (r : ℕ) → r ≡ length (ops_along log old (drop i es)) → Took log old (page ls lp lo) r
+        pub took_back : shown ≡ true → (r : ℕ) → r ≡ length (ops_along log old rest) → Took log old (page ls lp lo) r
         took_back e r taken = record { place = i; first = first_new; number = rw (← old_page s is', ← so, e) (taken ∙ back_count) }
 
         pub took_all : shown ≡ false → Took log old (page ls lp lo) (length es - 1)

@@ -2,8 +2,8 @@
 use Rattle.issue.proofs.IssueCases.{issuing}
 use Rattle.issue.proofs.drafting.draft_move_now.Goals as goal
 
-pub replay_all-requires : goal.replay_all-requires
-replay_all-requires c = search issuing
+pub replay_all-tables-requires : goal.replay_all-tables-requires
+replay_all-tables-requires c = search issuing
 
 pub draft_move-requires : goal.draft_move-requires
 draft_move-requires c = search issuing

@@ -13,14 +13,5 @@ returns-then-parents-lt-SLOTS c = search judging
 pub returns-then-outcomes-lt-SLOTS : goal.returns-then-outcomes-lt-SLOTS
 returns-then-outcomes-lt-SLOTS c = search judging
 
-pub slice_bounds-replay_all-end-2 : goal.slice_bounds-replay_all-end-2
-slice_bounds-replay_all-end-2 c = simp length-take (omega arith)
-
-pub slice_bounds-replay_all-end-4 : goal.slice_bounds-replay_all-end-4
-slice_bounds-replay_all-end-4 c = simp length-take (omega arith)
-
-pub replay_all-requires : goal.replay_all-requires
-replay_all-requires c = (omega arith, search judging, simp length-take (omega arith), simp length-take (omega arith))
-
 pub returns : goal.returns
 returns c = search judging
