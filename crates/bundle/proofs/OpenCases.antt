@@ -24,10 +24,10 @@ use Rattle.rules.proofs.BundleLaws.{Whole, whole_reads}
 use Rattle.rules.proofs.SoundLaws.{sound_end, sound_laid}
 use Rattle.oplog.proofs.HeaderLaws.{end_is}
 use Rattle.codec.specs.Asked.{is_accepted}
-use Rattle.codec.specs.Answers.{answer_of, number_of}
-use Rattle.codec.specs.declared.answer.Answer.TheVariants.{Refused, HadIt, Waiting, Done, Accepted}
-use Rattle.codec.specs.declared.answer.Refusal.{Refusal}
-use Rattle.codec.specs.declared.answer.Answer as code
+use Rattle.codec.specs.Answers.{delivered}
+use Rattle.codec.specs.declared.answer.Delivered.{Delivered}
+use Rattle.codec.specs.declared.answer.Delivered.TheVariants.{HadIt, Waiting, Accepted}
+use Rattle.soundness.proofs.SoundCases.{end_asks}
 use Rattle.codec.proofs.AnswerLaws.{if_accepted_law, if_not_accepted}
 use Rattle.bundle.specs.Opening.{Bodies, Ended, Openable, Reaches, Trial, Tried, body_answer, reach_of, take_body}
 use Rattle.bundle_head.proofs.WholeCases.{bodies_from, bodies_turn}
@@ -36,32 +36,6 @@ use Rattle.bundle.proofs.CopyLaws.{turns_part}
 
 abbrev handed : Answer → (buffer : List ℕ) → Result
 handed a b = record { answer = a; buffer = b }
-
----- the answer to a body
-
-module _ (f : List ℕ) (a : code.Answer) (n : ℕ) (is : n ≡ start_of width (header_counts f) 9) where
-  abbrev then_end : Answer
-  then_end = unless_refused (answer_of a) (accepted (file_end width f))
-
-  pub passed_refused : (why : Refusal) → a ≡ Refused why → refused (number_of why) ≡ then_end
-  unfolding unless_refused
-  passed_refused why e = rw e
-
-  pub passed_held : a ≡ HadIt → accepted n ≡ then_end
-  unfolding unless_refused
-  passed_held e = rw (e, is, end_is width f)
-
-  pub passed_waiting : a ≡ Waiting → accepted n ≡ then_end
-  unfolding unless_refused
-  passed_waiting e = rw (e, is, end_is width f)
-
-  pub passed_done : a ≡ Done → accepted n ≡ then_end
-  unfolding unless_refused
-  passed_done e = rw (e, is, end_is width f)
-
-  pub passed_new : (k : ℕ) → a ≡ Accepted k → accepted n ≡ then_end
-  unfolding unless_refused
-  passed_new k e = rw (e, is, end_is width f)
 
 ---- one body
 
@@ -75,16 +49,24 @@ module _ (f : List ℕ) (r : Op) (a : Answer) (g : List ℕ) (e : handed a g ≡
   pub body_sound : sound width f ≡ true → sound width g ≡ true
   body_sound s = rw is_buffer (deliver_sound width f r s)
 
-  pub body_passed : (b : Answer) → b ≡ unless_refused a (accepted (file_end width g)) → handed b g ≡ take_body f r
-  unfolding body_answer
-  body_passed b h = rw (h, is_answer, is_buffer)
+module _ (f : List ℕ) (r : Op) (g : List ℕ) where
+  pub body_refused : (n : ℕ) → handed (refused n) g ≡ deliver width f r → handed (refused n) g ≡ take_body f r
+  unfolding body_answer unless_refused
+  body_refused n e =
+      let a : refused n ≡ deliver_answer width f r = is_answer f r (refused n) g e in
+      let b : g ≡ deliver_buffer width f r = is_buffer f r (refused n) g e in
+      rw (← a, ← b)
 
-pub body_unread : (f : List ℕ) (r : Op) (n : ℕ) → handed (refused n) f ≡ deliver width f r → handed (refused n) f ≡ take_body f r
-unfolding body_answer unless_refused
-body_unread f r n e =
-    let a : refused n ≡ deliver_answer width f r = is_answer f r (refused n) f e in
-    let b : f ≡ deliver_buffer width f r = is_buffer f r (refused n) f e in
-    rw (← a, ← b)
+  pub body_passed : (d : Delivered) → handed (delivered d) g ≡ deliver width f r → (n : ℕ) → n ≡ start_of width (header_counts g) 9
+      → handed (accepted n) g ≡ take_body f r
+  unfolding body_answer unless_refused
+  body_passed d e n is = rw (← is_answer f r (delivered d) g e, ← is_buffer f r (delivered d) g e, is, end_is width g) (go d)
+    where
+      go : (x : Delivered) → handed (accepted (file_end width g)) g
+          ≡ handed (unless_refused (delivered x) (accepted (file_end width g))) g
+      go HadIt = refl
+      go Waiting = refl
+      go (Accepted k) = refl
 
 ---- bodies in turn: the first i are delivered
 
@@ -131,7 +113,7 @@ module _ (f bodies : List ℕ) (n : ℕ) (buf : List ℕ) (i : ℕ) (x : TakenTo
     turn = x.answers ∙ ap (turns_answer width buf) (bodies_turn bodies n i h)
 
     pub taken_refused : is_accepted a ≡ false → Tried f (chunks width n bodies) a g
-    unfolding body_answer unless_refused is_accepted
+    unfolding body_answer unless_refused
     taken_refused no_end = record {
       answered = sym (turn ∙ go (deliver_answer width buf r) refl);
       left = λ yes_end. never (sym no_end ∙ yes_end);
@@ -146,7 +128,7 @@ module _ (f bodies : List ℕ) (n : ℕ) (buf : List ℕ) (i : ℕ) (x : TakenTo
         go (accepted m) q = let y : is_accepted a ≡ true = rw (answer_so, q) in never (sym no_end ∙ y)
 
     pub taken_on : is_accepted a ≡ true → TakenTo f bodies n g (i + 1)
-    unfolding body_answer unless_refused is_accepted turns_buffer
+    unfolding body_answer unless_refused turns_buffer
     taken_on yes_end = record {
       made = omega arith;
       long = x.long;
@@ -321,7 +303,7 @@ module _ (f b : List ℕ) where
 
 ---- what the code of opening needs: search opening, and for its loop search taking
 
-pub ruleset passing = (passed_refused, passed_held, passed_waiting, passed_done, passed_new, body_sound, body_passed, body_unread)
+pub ruleset passing = (end_asks, body_sound, body_refused, body_passed)
 
 pub ruleset taking = (rules, tested, body_sound, taken_starts, taken_place, taken_refused, taken_on, taken_ends)
 

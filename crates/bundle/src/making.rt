@@ -1,3 +1,5 @@
+#![tactic(auto, using(crate::proofs::MakeCases::making))]
+
 ghost use Rattle.std.specs.Prelude.{◌≡◌, ◌≤◌, length};
 ghost use Rattle.rules.specs.Bundle.{bundle_call, bundle_of, head_of};
 ghost use Rattle.rules.specs.File.{log_of, width};
@@ -7,7 +9,7 @@ ghost use Rattle.bundle.specs.Making.{Fillable, bundle_size};
 
 use crate::bodies::write_bodies;
 use bundle_head::{beyond_counts, head_byte, head_bytes, put_counts, total};
-use codec::{Answer, Refusal};
+use codec::Refusal;
 use oplog::counts_of;
 use soundness::{WIDTH, is_sound};
 
@@ -40,18 +42,18 @@ fn bundle_size(beyond: [u8; 8]) -> usize
 }
 
 // Makes a bundle of all ops beyond the other's counts.
-pub fn make(file: &[u8], counts: [u8; 8], out: &mut [u8]) -> Answer
+pub fn make(file: &[u8], counts: [u8; 8], out: &mut [u8]) -> Result<usize, Refusal>
     ensures { record { answer = answer_of result; out = out.new }
         ≡ bundle_call width file.now counts out.old }
 {
     if !is_sound(file) {
-        return Answer::Refused(Refusal::Unsound);
+        return Err(Refusal::Unsound);
     }
     let beyond = beyond_counts(counts_of(file, WIDTH), counts);
     let size = bundle_size(beyond);
     if out.len() < size {
-        return Answer::Refused(Refusal::NoRoom);
+        return Err(Refusal::NoRoom);
     }
     write_bundle(file, counts, beyond, &mut out[..size]);
-    Answer::Accepted(size)
+    Ok(size)
 }

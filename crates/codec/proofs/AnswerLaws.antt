@@ -8,7 +8,6 @@ use Rattle.codec.specs.Asked.{is_accepted}
 
 module _ {A : Type 0} (new old : A) where
   pub if_accepted_law : (a : Answer) → is_accepted a ≡ true → if_accepted a new old ≡ new
-  unfolding is_accepted
   if_accepted_law (refused n) e = never e
   if_accepted_law had_it e = never e
   if_accepted_law waiting e = never e
@@ -16,7 +15,6 @@ module _ {A : Type 0} (new old : A) where
   if_accepted_law (accepted n) e = refl
 
   pub if_not_accepted : (a : Answer) → is_accepted a ≡ false → if_accepted a new old ≡ old
-  unfolding is_accepted
   if_not_accepted (refused n) e = refl
   if_not_accepted had_it e = refl
   if_not_accepted waiting e = refl
@@ -24,7 +22,6 @@ module _ {A : Type 0} (new old : A) where
   if_not_accepted (accepted n) e = never (sym e)
 
 pub accepted_with : (a : Answer) → is_accepted a ≡ true → (n : ℕ) × (a ≡ accepted n)
-unfolding is_accepted
 accepted_with (refused n) e = never e
 accepted_with had_it e = never e
 accepted_with waiting e = never e

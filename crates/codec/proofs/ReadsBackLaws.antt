@@ -13,7 +13,7 @@ use Rattle.rules.proofs.StructureLaws.{GoodLog}
 use Rattle.rules.proofs.PutOutLaws.{put_out_law, put_out_next}
 use Rattle.codec.specs.Read.{read_of}
 use Rattle.codec.specs.ReadsBack.{kind_meant, node_meant, parent_meant, fields_meant, IssuedReadsBack}
-use Rattle.codec.specs.declared.op.Read.TheVariants as read
+use Rattle.std.specs.Prelude.{Ok}
 
 module _ (log : Log) (g : GoodLog log) (s : ℕ) (q : Request) where
   abbrev meant : Op
@@ -40,7 +40,7 @@ module _ (log : Log) (g : GoodLog log) (s : ℕ) (q : Request) where
   parent_back : parent_of meant ≡ parent_meant q
   parent_back = bytes_parent _ s _ _ (counts_of log)
 
-  reads_back : length meant ≡ width → well_formed meant ≡ true → read_of width meant ≡ read.Op (fields_meant log s q)
+  reads_back : length meant ≡ width → well_formed meant ≡ true → read_of width meant ≡ Ok (fields_meant log s q)
   unfolding read_of
   reads_back long formed =
       rw (eq-eqb (length meant) width long, formed, kind_back, origin_back, sequence_back, node_back, parent_back)

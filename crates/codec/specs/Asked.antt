@@ -14,7 +14,7 @@ pub record Origin (b : List ℕ) (s : ℕ) : Type 0 where
   pub low : 1 ≤ s
   pub high : s ≤ 8
 
-unfoldable pub is_accepted : Answer → Bool
+abbrev pub is_accepted : Answer → Bool
 is_accepted (refused n) = false
 is_accepted had_it = false
 is_accepted waiting = false

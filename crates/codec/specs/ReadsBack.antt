@@ -1,5 +1,5 @@
 -- "Every record issued is read back as it was meant" (demand 2), as one statement.
-use Rattle.std.specs.Prelude.{ℕ, ◌+◌, ◌≤◌, ◌≡◌, true, false, List, length, take}
+use Rattle.std.specs.Prelude.{ℕ, ◌+◌, ◌≤◌, ◌≡◌, true, false, List, Ok, length, take}
 use Rattle.rules.specs.Answer.{accepted}
 use Rattle.rules.specs.Op.{count_in, kind_of, replica_of, node_of, parent_of, vector_of, seq_of, node_number}
 use Rattle.rules.specs.File.{Log, counts_of, Extends, width, file_end, log_of}
@@ -9,7 +9,6 @@ use Rattle.rules.specs.Replay.{parents_of}
 use Rattle.rules.specs.Issue.{Request, add, remove, move, issue_answer, issue_out}
 use Rattle.rules.specs.Tree.{move_kind}
 use Rattle.codec.specs.declared.op.Fields.{Fields}
-use Rattle.codec.specs.declared.op.Read.TheVariants.{Op}
 use Rattle.codec.specs.Read.{read_of}
 
 -- what was meant by a request of replica s
@@ -47,7 +46,7 @@ pub record ReadsBack (log : Log) (s : ℕ) (q : Request) (r : List ℕ) : Type 0
   pub parent : parent_of r ≡ parent_meant q
   pub vector : vector_of r ≡ counts_of log
   -- the op reader, `read_op`, answers an op with these fields
-  pub reads : read_of width r ≡ Op (fields_meant log s q)
+  pub reads : read_of width r ≡ Ok (fields_meant log s q)
   -- every sound log that holds what its vector counts, and not the op, accepts it where there is room
   pub accepted_by : (g : List ℕ) → sound width g ≡ true → Extends log (log_of width g) → is_held (log_of width g) r ≡ false
       → file_end width g + width ≤ length g → deliver_answer width g r ≡ accepted (file_end width g + width)

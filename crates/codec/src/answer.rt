@@ -1,9 +1,9 @@
 ghost use Rattle.std.specs.Prelude.{◌≡◌};
-ghost use Rattle.codec.specs.Answers.{answer_of, number_of};
+ghost use Rattle.codec.specs.Answers.{delivered, number_of};
 ghost use Rattle.codec.specs.Asked.{is_accepted};
 
 // Why a call is refused: a case for each of the document's numbers.
-#[derive(Clone, Copy)]
+#[derive(Clone, Copy, Debug, PartialEq, Eq)]
 pub enum Refusal {
     // 1: the log is not sound.
     Unsound,
@@ -35,51 +35,46 @@ pub enum Refusal {
     BadHoldback,
 }
 
-// What a call answers.
-#[derive(Clone, Copy)]
-pub enum Answer {
-    Refused(Refusal),
+// The document's number.
+impl From<Refusal> for usize {
+    ghost from_gives = { λ why n. n ≡ number_of why };
+
+    fn from(why: Refusal) -> usize {
+        match why {
+            Refusal::Unsound => 1,
+            Refusal::Length => 2,
+            Refusal::Malformed => 3,
+            Refusal::Conflict => 4,
+            Refusal::Early => 5,
+            Refusal::NotClosed => 6,
+            Refusal::Unknown => 7,
+            Refusal::NoRoom => 8,
+            Refusal::Exhausted => 9,
+            Refusal::Cycle => 10,
+            Refusal::Marked => 11,
+            Refusal::BadBundle => 12,
+            Refusal::HoldbackFull => 13,
+            Refusal::BadHoldback => 14,
+        }
+    }
+}
+
+// What a delivery that is not refused answers.
+#[derive(Clone, Copy, Debug, PartialEq, Eq)]
+pub enum Delivered {
     // The op was held already.
     HadIt,
     // The op is early, and held back.
     Waiting,
-    // Judging is done.
-    Done,
-    // The new file end, the entries of a path, or the bytes of a listing or a bundle.
+    // The op is added; the new file end.
     Accepted(usize),
 }
 
-// The document's number of a refusal.
-pub fn number_of(why: Refusal) -> usize
-    ensures { result ≡ number_of why }
-{
-    match why {
-        Refusal::Unsound => 1,
-        Refusal::Length => 2,
-        Refusal::Malformed => 3,
-        Refusal::Conflict => 4,
-        Refusal::Early => 5,
-        Refusal::NotClosed => 6,
-        Refusal::Unknown => 7,
-        Refusal::NoRoom => 8,
-        Refusal::Exhausted => 9,
-        Refusal::Cycle => 10,
-        Refusal::Marked => 11,
-        Refusal::BadBundle => 12,
-        Refusal::HoldbackFull => 13,
-        Refusal::BadHoldback => 14,
-    }
-}
-
-// Whether a call was accepted.
-pub fn is_accepted(answer: Answer) -> bool
-    ensures { result ≡ is_accepted (answer_of answer) }
-{
-    match answer {
-        Answer::Refused(_) => false,
-        Answer::HadIt => false,
-        Answer::Waiting => false,
-        Answer::Done => false,
-        Answer::Accepted(_) => true,
+impl Delivered {
+    // Whether the op was added.
+    pub fn is_accepted(self) -> bool
+        ensures { result ≡ is_accepted (delivered self) }
+    {
+        matches!(self, Delivered::Accepted(_))
     }
 }

@@ -1,3 +1,5 @@
+#![tactic(auto, using(crate::proofs::AccessLaws::fields))]
+
 ghost use Rattle.std.specs.Prelude.{◌≡◌, ◌+◌, ◌≤◌, length, drop};
 ghost use Rattle.rules.specs.Op.{kind_of, replica_of, node_of, parent_of, vector_of};
 

@@ -1,15 +1,19 @@
+#![tactic(auto, using(crate::proofs::ReadLaws::reading))]
+
 ghost use Rattle.std.specs.Prelude.{◌≡◌, ◌++◌, ◌+◌, ◌≤◌, length, take, drop};
 ghost use Rattle.rules.specs.Issue.{op_bytes};
 ghost use Rattle.codec.specs.Asked.{kind_fits, Origin};
 ghost use Rattle.codec.specs.Read.{read_of};
-ghost use Rattle.rules.specs.Op.{own_count};
+ghost use Rattle.rules.specs.Op.{is_replica, own_count};
 
 use crate::answer::Refusal;
 use crate::field::{kind_at, node_at, parent_at, replica_at};
-use crate::word::{put_word, widen};
+use crate::kind::{Kind, NoKind};
+use crate::word::put_word;
 
-// The fields of an op but its vector, which stays beside it: an enum holds no array.
-#[derive(Clone, Copy)]
+// The fields of an op but its vector, which is read off its bytes where a test needs it. The kind is
+// a number, as the theorem that an issued op reads back has it (`IssuedReadsBack`).
+#[derive(Clone, Copy, Debug, PartialEq, Eq)]
 pub struct Fields {
     pub kind: u8,
     pub replica: u8,
@@ -18,21 +22,22 @@ pub struct Fields {
     pub parent: u16,
 }
 
-// What the op reader answers.
-#[derive(Clone, Copy)]
-pub enum Read {
-    Op(Fields),
-    Refused(Refusal),
+// Whether a number is a replica's.
+#[tactic(auto, unfolding(rules::specs::Op::is_replica))]
+pub fn is_replica(s: u8) -> bool
+    ensures { result ≡ is_replica s }
+{
+    (1..=8).contains(&s)
 }
 
 // Whether a kind can stand with a parent: a remove has parent 0.
 pub fn kind_fits(kind: u8, parent: u16) -> bool
     ensures { result ≡ kind_fits kind parent }
 {
-    match kind {
-        1 | 3 | 4 => true,
-        2 => parent == 0,
-        0 | 5..=255 => false,
+    match Kind::try_from(kind) {
+        Ok(Kind::Remove) => parent == 0,
+        Ok(Kind::Add | Kind::Upward | Kind::Downward) => true,
+        Err(NoKind) => false,
     }
 }
 
@@ -41,39 +46,35 @@ fn own_count(bytes: &[u8], replica: u8) -> u8
     requires { Origin bytes.now replica }
     ensures { result ≡ own_count bytes.now }
 {
-    bytes[5 + widen(replica)]
+    bytes[5 + usize::from(replica)]
 }
 
 // Reads an op of a width off its bytes: numbers 2 and 3.
-pub fn read_op(bytes: &[u8], width: usize) -> Read
+pub fn read_op(bytes: &[u8], width: usize) -> Result<Fields, Refusal>
     requires { 14 ≤ width }
     ensures { result ≡ read_of width bytes.now }
 {
     if bytes.len() != width {
-        return Read::Refused(Refusal::Length);
+        return Err(Refusal::Length);
     }
     let replica = replica_at(bytes, 0);
-    if replica < 1 {
-        return Read::Refused(Refusal::Malformed);
-    }
-    if 8 < replica {
-        return Read::Refused(Refusal::Malformed);
+    if !is_replica(replica) {
+        return Err(Refusal::Malformed);
     }
     let own = own_count(bytes, replica);
     if 254 < own {
-        return Read::Refused(Refusal::Malformed);
+        return Err(Refusal::Malformed);
     }
     let kind = kind_at(bytes, 0);
     let parent = parent_at(bytes, 0);
     if !kind_fits(kind, parent) {
-        return Read::Refused(Refusal::Malformed);
+        return Err(Refusal::Malformed);
     }
-    let node = node_at(bytes, 0);
-    Read::Op(Fields {
+    Ok(Fields {
         kind,
         replica,
         sequence: own + 1,
-        node,
+        node: node_at(bytes, 0),
         parent,
     })
 }
@@ -87,15 +88,5 @@ pub fn write_op(out: &mut [u8], kind: u8, replica: u8, node: u16, parent: u16, v
     out[1] = replica;
     put_word(out, 2, node);
     put_word(out, 4, parent);
-    put_vector(out, 6, vector);
-}
-
-// Stores a vector at a place.
-fn put_vector(out: &mut [u8], at: usize, vector: [u8; 8])
-    requires { at + 8 ≤ length out.old }
-    ensures { out.new ≡ take at out.old ++ (vector ++ drop (at + 8) out.old) }
-{
-    for i in 0..8 {
-        out[at + i] = vector[i];
-    }
+    out[6..14].copy_from_slice(&vector);
 }

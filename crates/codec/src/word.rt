@@ -1,12 +1,6 @@
 ghost use Rattle.std.specs.Prelude.{◌≡◌, ◌+◌, ◌*◌, ◌<◌, ◌≤◌, ◌/◌, ◌%◌, length, set};
 ghost use Rattle.rules.specs.Bytes.{word_at};
 
-fn join(high: u8, low: u8) -> u16
-    ensures { result ≡ high * 256 + low }
-{
-    (high as u16) * 256 + (low as u16)
-}
-
 pub fn widen(x: u8) -> usize
     ensures { (result ≡ x) × (result ≤ 255) }
 {
@@ -24,7 +18,7 @@ pub fn word_at(bytes: &[u8], at: usize) -> u16
     requires { at + 1 < length bytes.now }
     ensures { result ≡ word_at bytes.now at }
 {
-    join(bytes[at], bytes[at + 1])
+    u16::from_be_bytes([bytes[at], bytes[at + 1]])
 }
 
 // Stores a two-byte number at a place, high byte first.

@@ -1,12 +1,10 @@
 -- The last test of an op, and its addition.
 use borrow.Author.Rules.{rules}
 use Rattle.delivery.specs.Adding.{Acceptable, last_test, room_test}
-use Rattle.rules.specs.Answer.{Answer, accepted, refused, require}
-use Rattle.codec.proofs.AnswerLaws.{accepted_with}
+use Rattle.rules.specs.Answer.{accepted, refused, require}
 use Rattle.rules.specs.File.{append, appended, chunks, count_at, file_end, header_counts, start_of, width}
 use Rattle.oplog.proofs.FieldLaws.{counts_in}
 use Rattle.oplog.proofs.HeaderLaws.{end_is}
-use Rattle.codec.specs.Asked.{is_accepted}
 use Rattle.soundness.proofs.SoundCases.{laid_of}
 use Rattle.rules.proofs.ReplicaLaws.{replica_high, replica_low}
 use Rattle.rules.proofs.DeliverLaws.{required}
@@ -41,11 +39,9 @@ module _ (f : List ℕ) (e : ℕ) (is : e ≡ start_of width (header_counts f) 9
   unfolding last_test room_test require
   room_for h = rw (← end_by, le-leb (e + width) (length f) h)
 
-pub has_room : (f : List ℕ) (a : Answer) → a ≡ last_test f → is_accepted a ≡ true → file_end width f + width ≤ length f
+pub has_room : (f : List ℕ) (n : ℕ) → accepted n ≡ last_test f → file_end width f + width ≤ length f
 unfolding last_test room_test
-has_room f a is h =
-    let (n, e) = accepted_with a h in
-    leb-true _ _ (required _ _ _ n (sym is ∙ e)).0
+has_room f n is = leb-true _ _ (required _ _ _ n (sym is)).0
 
 ---- an op that is added; r is its replica, widened
 

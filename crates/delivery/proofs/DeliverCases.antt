@@ -8,9 +8,11 @@ use lib.ListN.{length, take, drop}
 use lib.Dec.{leb, eqb}
 use borrow.Author.Rules.{rules}
 use borrow.Author.Tests.{eq-eqb, leb-true}
-use Rattle.rules.specs.Answer.{Answer, had_it, if_accepted, refused, require}
+use Rattle.rules.specs.Answer.{Answer, accepted, had_it, if_accepted, refused, require}
 use Rattle.lists.specs.Lists.{same}
-use Rattle.rules.specs.Deliver.{Result, is_held, held_answer, admit_answer, deliver, deliver_answer, deliver_buffer}
+use Rattle.rules.specs.Deliver.{is_held, held_answer, admit_answer, deliver, deliver_answer, deliver_buffer}
+use Rattle.rules.specs.Deliver.{Result as Handed}
+use Rattle.std.specs.Prelude.{Ok, Err}
 use Rattle.rules.specs.File.{width, appended, counts_of, header_counts, log_of, op_at, within}
 use Rattle.rules.specs.Log.{closed, covered, names_known}
 use Rattle.rules.specs.Op.{Vector, count_in, is_add, is_remove, is_replica, replica_of, seq_of, vector_of, well_formed}
@@ -24,22 +26,18 @@ use Rattle.rules.proofs.StructureLaws.{count_held}
 use Rattle.oplog.specs.Places.{Held, InFile, place_of}
 use Rattle.structure.specs.Tests.{names_by}
 use Rattle.oplog.proofs.FieldLaws.{held_of, counts_in, op_is}
-use Rattle.codec.specs.Asked.{is_accepted}
 use Rattle.codec.specs.Answers.{number_of}
 use Rattle.codec.specs.Read.{fields_of, read_of}
 use Rattle.codec.specs.declared.answer.Refusal.{Refusal}
 use Rattle.codec.specs.declared.answer.Refusal.TheVariants.{Length, Malformed}
 use Rattle.codec.specs.declared.op.Fields.{Fields}
-use Rattle.codec.specs.declared.op.Read.{Read}
-use Rattle.codec.specs.declared.op.Read.TheVariants.{Op, Refused}
-use Rattle.codec.proofs.AnswerLaws.{accepted_with, if_accepted_law, if_not_accepted}
 use Rattle.codec.proofs.ReadLaws.{reads}
 use Rattle.delivery.specs.Adding.{last_test, room_test, Acceptable}
-use Rattle.delivery.specs.Delivering.{names_in, Readable, Again, Fresh, Counting}
+use Rattle.delivery.specs.Delivering.{names_in, Readable, Again, Fresh}
 use Rattle.soundness.proofs.SoundCases.{laid_of, tallied}
 
 -- what a call hands back
-abbrev handed : Answer → (buffer : List ℕ) → Result
+abbrev handed : Answer → (buffer : List ℕ) → Handed
 handed a b = record { answer = a; buffer = b }
 
 ---- an op that reads
@@ -71,15 +69,10 @@ module _ (f op : List ℕ) (x : Fields) (d : Readable f op x) where
     pub fresh : leb x.sequence (count_in u x.replica) ≡ false → Fresh f op x u
     fresh is = record { reads = d; tallied = tallied f d.is_sound_so u h; is_new = held_by false is }
 
-    pub counting : Counting f op x u
-    counting = record { reads = d; held = h }
-
   -- it may be added if it is accepted
-  pub acceptable : (u : Vector) → u ≡ header_counts f → (a : Answer) → a ≡ deliver_answer width f op → is_accepted a ≡ true
-      → Acceptable f u x.replica op
-  acceptable u held a is h =
-      let (n, e) = accepted_with a h in
-      let t = admitted width f op n (sym is ∙ e) in
+  pub acceptable : (u : Vector) → u ≡ header_counts f → (n : ℕ) → accepted n ≡ deliver_answer width f op → Acceptable f u x.replica op
+  acceptable u held n is =
+      let t = admitted width f op n (sym is) in
       let m = t.admits in
       let i = replica_formed op m.formed in
       let q = seq_next (log_of width f) op i.0 i.1 m.new m.is_covered in
@@ -174,41 +167,43 @@ module _ (f op : List ℕ) (x : Fields) (u : Vector) (d : Fresh f op x u) (v : V
 ---- the whole
 
 module _ (f op : List ℕ) where
-  -- a is the answer
-  module _ (a : Answer) (is : a ≡ deliver_answer width f op) where
-    pub deliver_kept : is_accepted a ≡ false → handed a f ≡ deliver width f op
-    unfolding deliver_buffer
-    deliver_kept h = rw (← is, if_not_accepted (appended width f op) f a h)
+  pub deliver_refused : (n : ℕ) → refused n ≡ deliver_answer width f op → handed (refused n) f ≡ deliver width f op
+  unfolding deliver_buffer
+  deliver_refused n is = rw (← is)
 
-    pub deliver_added : is_accepted a ≡ true → (b : List ℕ) → b ≡ appended width f op → handed a b ≡ deliver width f op
-    unfolding deliver_buffer
-    deliver_added h b e = rw (← is, if_accepted_law (appended width f op) f a h, e)
+  pub deliver_had : had_it ≡ deliver_answer width f op → handed had_it f ≡ deliver width f op
+  unfolding deliver_buffer
+  deliver_had is = rw (← is)
 
-  -- r is what the reader said
-  module _ (a : sound width f ≡ true) (r : Read) (is : r ≡ read_of width op) where
-    pub readable : (x : Fields) → r ≡ Op x → Readable f op x
+  pub deliver_added : (n : ℕ) → accepted n ≡ deliver_answer width f op → (b : List ℕ) → b ≡ appended width f op
+      → handed (accepted n) b ≡ deliver width f op
+  unfolding deliver_buffer
+  deliver_added n is b e = rw (← is, e)
+
+  module _ (a : sound width f ≡ true) where
+    pub readable : (x : Fields) → Ok x ≡ read_of width op → Readable f op x
     readable x e =
-        let h = reads width op x (sym is ∙ e) in
+        let h = reads width op x (sym e) in
         record { is_sound_so = a; long = h.long; formed = h.formed; fields = h.fields }
 
-    pub unread : (why : Refusal) → r ≡ Refused why → handed (refused (number_of why)) f ≡ deliver width f op
+    pub unread : (why : Refusal) → Err why ≡ read_of width op → handed (refused (number_of why)) f ≡ deliver width f op
     unfolding deliver_answer deliver_buffer require read_of
-    unread why e = rw a (go (eqb (length op) width) (well_formed op) _ (sym is ∙ e))
+    unread why e = rw a (go (eqb (length op) width) (well_formed op) _ (sym e))
       where
-        answered : Answer → Result
+        answered : Answer → Handed
         answered t = handed t (if_accepted t (appended width f op) f)
 
         -- l and w are the tests of length and form
         go :
-            (l w : Bool) (next : Answer) → cond l (cond w (Op (fields_of op)) (Refused Malformed)) (Refused Length) ≡ Refused why →
+            (l w : Bool) (next : Answer) → cond l (cond w (Ok (fields_of op)) (Err Malformed)) (Err Length) ≡ Err why →
             handed (refused (number_of why)) f ≡ answered (require l 2 (require w 3 next))
         go true true next z = cc
         go true false next z = let m : Malformed ≡ why = cc in rw (← m)
         go false w next z = let m : Length ≡ why = cc in rw (← m)
 
 ---- what the code of delivering needs: search delivering
-pub ruleset readings = (replica_so, counting, again, fresh, acceptable, readable, unread)
+pub ruleset readings = (replica_so, again, fresh, acceptable, readable, unread)
 
 pub ruleset answers = (in_file, had_it_law, conflict, early, held_within, not_closed, unknown, last)
 
-pub ruleset delivering = (rules, tested, readings, answers, deliver_kept, deliver_added)
+pub ruleset delivering = (rules, tested, readings, answers, deliver_refused, deliver_had, deliver_added)

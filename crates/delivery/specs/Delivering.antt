@@ -1,5 +1,5 @@
 -- What the steps of delivering ask of a buffer and an op.
-use Rattle.rules.specs.File.{header_counts, Log, width, log_of}
+use Rattle.rules.specs.File.{Log, width, log_of}
 use Rattle.std.specs.Prelude.{ℕ, ◌≡◌, Bool, true, false, List, length}
 use Rattle.rules.specs.Deliver.{is_held}
 use Rattle.rules.specs.Op.{Vector, node_number, well_formed}
@@ -19,11 +19,6 @@ pub record Readable (f op : List ℕ) (x : Fields) : Type 0 where
   pub long : length op ≡ width
   pub formed : well_formed op ≡ true
   pub fields : fields_of op ≡ x
-
--- u are the held counts
-pub record Counting (f op : List ℕ) (x : Fields) (u : Vector) : Type 0 where
-  pub reads : Readable f op x
-  pub held : u ≡ header_counts f
 
 -- and its sequence is held
 pub record Again (f op : List ℕ) (x : Fields) : Type 0 where

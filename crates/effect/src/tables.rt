@@ -7,7 +7,7 @@ ghost use Rattle.effect.specs.Effects.{Applicable, Slotted, state_of, outcome_by
 
 use codec::{kind_at, node_at, parent_at};
 use schedule::Entry;
-use tree::{SLOTS, climb_to, slot_of, slot_place};
+use tree::{Climbed, SLOTS, climb_to, slot_of, slot_place};
 
 // The tables of a replay: the parent of each node, the outcome of each op, and of each node the time
 // of the applied move that placed it last.
@@ -30,11 +30,10 @@ impl Tables {
                 if self.placed[slot] == time {
                     return 2;
                 }
-                let climbed = climb_to(&self.parents, parent, node);
-                if climbed.met {
-                    return 3;
+                match climb_to(&self.parents, parent, node) {
+                    Climbed::Met(_) => 3,
+                    Climbed::Missed(_) => 1,
                 }
-                1
             }
             0..=2 | 5..=255 => 1,
         }

@@ -1,5 +1,5 @@
 -- The cases of issuing, as the code meets them.
-use mathlib.Core.Path.{◌≡◌, refl, sym, ◌∙◌, ap}
+use mathlib.Core.Path.{◌≡◌, refl, sym, ap}
 use mathlib.Core.Bool.{Bool, true, false, cond, not, and-eq-true_iff}
 use mathlib.Core.List.{List, ◌++◌}
 use Prim.Native.Nat.{ℕ, ◌+◌, ◌<◌}
@@ -9,10 +9,10 @@ use lib.Seq.{take_at}
 use lib.Dec.{ltb}
 use borrow.Author.Rules.{rules}
 use borrow.Author.Tests.{ltb-true, le-leb}
-use Rattle.rules.specs.Answer.{Answer, refused, require}
+use Rattle.rules.specs.Answer.{Answer, accepted, refused, require}
 use Rattle.rules.specs.Bytes.{word}
 use Rattle.rules.specs.Issue.{Request, add, remove, move, Issued, issue_answer, issue_buffer, issue_out, issued, op_bytes, request_clear, request_known, request_unmarked}
-use Rattle.rules.specs.Tree.{move_kind, at_or_below, depth}
+use Rattle.rules.specs.Tree.{move_kind, at_or_below}
 use Rattle.rules.specs.File.{Log, width, appended, counts_of, header_counts, log_of}
 use Rattle.rules.specs.Op.{Vector, count_in, is_replica, node_number, replica_of}
 use Rattle.rules.specs.Replay.{parents_of}
@@ -21,17 +21,13 @@ use Rattle.lists.proofs.BoolLaws.{tested}
 use Rattle.rules.proofs.FileLaws.{counts_log_of, length_counts}
 use Rattle.rules.proofs.KnownLaws.{known_reads}
 use Rattle.rules.proofs.SoundLaws.{sound_structural}
-use Rattle.codec.specs.Asked.{is_accepted}
 use Rattle.codec.specs.Answers.{number_of}
 use Rattle.codec.specs.declared.answer.Refusal.{Refusal}
 use Rattle.codec.specs.declared.answer.Refusal.TheVariants.{Unknown, Exhausted, Cycle, Marked}
-use Rattle.codec.proofs.AnswerLaws.{if_accepted_law, if_not_accepted}
-use Rattle.tree.specs.Climb.{move_or_cycle}
 use Rattle.delivery.specs.Adding.{last_test, room_test, Acceptable}
-use Rattle.issue.specs.Issuing.{bytes_of, moved_in, cleared_op, drafted, with_op, put_out, Lent, Ready, Writable, KnownRequest}
+use Rattle.issue.specs.Issuing.{Drafted, bytes_of, moved_in, cleared_op, drafted, with_op, put_out, Lent, Ready, Writable, KnownRequest}
 use Rattle.issue.specs.declared.draft.Draft.{Draft}
-use Rattle.issue.specs.declared.draft.Drafted.{Drafted}
-use Rattle.issue.specs.declared.draft.Drafted.TheVariants.{Op, Refused}
+use Rattle.std.specs.Prelude.{Ok, Err}
 use Rattle.request.specs.Requests.{request_of}
 use Rattle.request.specs.declared.request.Request.TheVariants.{Add, Remove, Move}
 use Rattle.soundness.proofs.SoundCases.{tallied_held, tallied}
@@ -53,30 +49,8 @@ known_small log n p e =
     let w = (known_reads log (counts_of log) n h.0.0).0 in
     omega (arith, w.high)
 
--- b tells whether a move closes a circle, and m is its kind
-kind_by : (b : Bool) → let m : ℕ = cond b 3 4 in m ≡ 0 → ⊥
-kind_by true e = omega arith
-kind_by false e = omega arith
-
-cycle_by : (b : Bool) (m : ℕ) (d : Draft) → (m ≡ 0 → ⊥) → cond b 0 m ≡ 0 → Refused Cycle ≡ cond b (Refused Cycle) (Op d)
-cycle_by true m d h z = refl
-cycle_by false m d h z = absurd (h z)
-
 abbrev move_draft : (k n p : ℕ) → Draft
 move_draft k n p = record { kind = k; node = n; parent = p }
-
-op_by : (b : Bool) (m n p : ℕ) → (cond b 0 m ≡ 0 → ⊥) → Op (move_draft (cond b 0 m) n p) ≡ cond b (Refused Cycle) (Op (move_draft m n p))
-op_by true m n p h = absurd (h refl)
-op_by false m n p h = refl
-
-module _ (t : List ℕ) (n p k : ℕ) (is : k ≡ move_or_cycle t n p) where
-  pub move_cycle : k ≡ 0 → Refused Cycle ≡ moved_in t n p
-  unfolding moved_in move_or_cycle move_kind
-  move_cycle e = cycle_by (at_or_below t p n) _ _ (kind_by (ltb (depth t p) (depth t n))) (sym is ∙ e)
-
-  pub move_op : (k ≡ 0 → ⊥) → Op (move_draft k n p) ≡ moved_in t n p
-  unfolding moved_in move_or_cycle
-  move_op ne = rw is (op_by (at_or_below t p n) (move_kind t n p) n p (rw is at ne))
 
 module _ (t : List ℕ) (n p : ℕ) where
   pub move_now : (log : Log) → t ≡ parents_of log → (r : Drafted) → r ≡ moved_in t n p → r ≡ moved_in (parents_of log) n p
@@ -85,11 +59,11 @@ module _ (t : List ℕ) (n p : ℕ) where
 module _ (log : Log) (s : ℕ) (q : code.Request) where
   pub add_op :
       (p : ℕ) → q ≡ Add p → (v : Vector) → v ≡ counts_of log → (n : ℕ) → n ≡ node_number s (count_in v s + 1) →
-      Op (record { kind = 1; node = n; parent = p }) ≡ cleared_op log s (request_of q)
+      Ok (record { kind = 1; node = n; parent = p }) ≡ cleared_op log s (request_of q)
   unfolding cleared_op
   add_op p h v is n e = rw (h, e, is)
 
-  pub remove_op : (n : ℕ) → q ≡ Remove n → Op (record { kind = 2; node = n; parent = 0 }) ≡ cleared_op log s (request_of q)
+  pub remove_op : (n : ℕ) → q ≡ Remove n → Ok (record { kind = 2; node = n; parent = 0 }) ≡ cleared_op log s (request_of q)
   unfolding cleared_op
   remove_op n h = rw h
 
@@ -104,12 +78,12 @@ module _ (log : Log) (s : ℕ) (q : code.Request) where
 ---- number 9, and then the others
 
 module _ (f : List ℕ) (s : ℕ) (q : Request) (v : Vector) (is : v ≡ header_counts f) where
-  pub exhausted : ltb (count_in v s) 255 ≡ false → Refused Exhausted ≡ drafted (log_of width f) s q
+  pub exhausted : ltb (count_in v s) 255 ≡ false → Err Exhausted ≡ drafted (log_of width f) s q
   unfolding drafted
   exhausted e = rw (counts_log_of width f, ← is, e)
 
   module _ (a : ltb (count_in v s) 255 ≡ true) where
-    pub unknown : request_known (log_of width f) q ≡ false → Refused Unknown ≡ drafted (log_of width f) s q
+    pub unknown : request_known (log_of width f) q ≡ false → Err Unknown ≡ drafted (log_of width f) s q
     unfolding drafted
     unknown e = rw (counts_log_of width f, ← is, a, e)
 
@@ -117,7 +91,7 @@ module _ (f : List ℕ) (s : ℕ) (q : Request) (v : Vector) (is : v ≡ header_
     known_request b r e = record { tallied = tallied f b v is; is_replica_so = r; names = e }
 
     module _ (e : request_known (log_of width f) q ≡ true) where
-      pub marked : request_unmarked (log_of width f) q ≡ false → Refused Marked ≡ drafted (log_of width f) s q
+      pub marked : request_unmarked (log_of width f) q ≡ false → Err Marked ≡ drafted (log_of width f) s q
       unfolding drafted
       marked u = rw (counts_log_of width f, ← is, a, e, u)
 
@@ -157,39 +131,37 @@ module _ (f : List ℕ) (v : Vector) (e : v ≡ header_counts f) (k s n p : ℕ)
       (b, o) ≡ with_op f out (op_bytes k s n p (header_counts f))
   all_added out m b x = rw (x, written, ← e, w, m)
 
----- the last test, 8; a is what it says
+---- the last test, 8
 
-module _ (f : List ℕ) (a : Answer) (is : a ≡ last_test f) where
-  pub put_kept : is_accepted a ≡ false → (out op : List ℕ) → handed a f out ≡ put_out f out op
+module _ (f : List ℕ) where
+  pub put_refused : (n : ℕ) → refused n ≡ last_test f → (out op : List ℕ) → handed (refused n) f out ≡ put_out f out op
   unfolding put_out
-  put_kept h out op = rw (← is, if_not_accepted (appended width f op) f a h, if_not_accepted (op ++ drop width out) out a h)
+  put_refused n is out op = rw (← is)
 
-  module _ (h : is_accepted a ≡ true) where
+  module _ (n : ℕ) (is : accepted n ≡ last_test f) where
     pub writable : (room s : ℕ) → Ready f room s → Writable f room s
-    writable room s r = record { ready = r; end = has_room f a is h }
+    writable room s r = record { ready = r; end = has_room f n is }
 
-    pub put_added : (b o out op : List ℕ) → (b, o) ≡ with_op f out op → handed a b o ≡ put_out f out op
+    pub put_added : (b o out op : List ℕ) → (b, o) ≡ with_op f out op → handed (accepted n) b o ≡ put_out f out op
     unfolding put_out
-    put_added b o out op e =
-        rw (← is, if_accepted_law (appended width f op) f a h, if_accepted_law (op ++ drop width out) out a h)
-        (ap (λ (x : List ℕ × List ℕ). handed a x.0 x.1) e)
+    put_added b o out op e = rw (← is) (ap (λ (x : List ℕ × List ℕ). handed (accepted n) x.0 x.1) e)
 
 ---- the whole
 
 -- the answer by what was drafted
 by_draft : (f : List ℕ) → Drafted → Answer
-by_draft f (Op d) = last_test f
-by_draft f (Refused why) = refused (number_of why)
+by_draft f (Ok d) = last_test f
+by_draft f (Err why) = refused (number_of why)
 
 module _ (f : List ℕ) (s : ℕ) where
   step :
       (b : Bool) (why : Refusal) (x : Answer) (y : Drafted) → x ≡ by_draft f y →
-      require b (number_of why) x ≡ by_draft f (cond (not b) (Refused why) y)
+      require b (number_of why) x ≡ by_draft f (cond (not b) (Err why) y)
   unfolding by_draft require
   step true why x y e = e
   step false why x y e = refl
 
-  move_by : (b : Bool) (d : Draft) → require (not b) 10 (last_test f) ≡ by_draft f (cond b (Refused Cycle) (Op d))
+  move_by : (b : Bool) (d : Draft) → require (not b) 10 (last_test f) ≡ by_draft f (cond b (Err Cycle) (Ok d))
   unfolding by_draft require
   move_by true d = refl
   move_by false d = refl
@@ -209,45 +181,45 @@ module _ (f : List ℕ) (s : ℕ) where
       (step (request_unmarked (log_of width f) q) Marked _ _ (cleared_by q))))
 
 -- tests that end in an op
-pub passes : (b : Bool) (why : Refusal) (y : Drafted) (d : Draft) → cond (not b) (Refused why) y ≡ Op d → (b ≡ true) × (y ≡ Op d)
+pub passes : (b : Bool) (why : Refusal) (y : Drafted) (d : Draft) → cond (not b) (Err why) y ≡ Ok d → (b ≡ true) × (y ≡ Ok d)
 passes true why y d e = (refl, e)
 passes false why y d e = let z : ◌≡◌ {A = ℕ} 0 1 = cc in absurd (omega arith)
 
-same_op : (s : ℕ) (v : Vector) (x d : Draft) → Op x ≡ Op d → bytes_of s x v ≡ bytes_of s d v
+same_op : (s : ℕ) (v : Vector) (x d : Draft) → ◌≡◌ {A = Drafted} (Ok x) (Ok d) → bytes_of s x v ≡ bytes_of s d v
 same_op s v x d e = let z : x ≡ d = cc in rw z
 
-clear : (b : Bool) (s : ℕ) (v : Vector) (x d : Draft) → cond b (Refused Cycle) (Op x) ≡ Op d → bytes_of s x v ≡ bytes_of s d v
+clear : (b : Bool) (s : ℕ) (v : Vector) (x d : Draft) → cond b (Err Cycle) (Ok x) ≡ Ok d → bytes_of s x v ≡ bytes_of s d v
 clear false s v x d e = same_op s v x d e
 clear true s v x d e = cc
 
 -- a drafted move is of its node, to its parent
-pub drafted_names : (t : List ℕ) (n p : ℕ) (d : Draft) → moved_in t n p ≡ Op d → (d.node ≡ n) × (d.parent ≡ p)
+pub drafted_names : (t : List ℕ) (n p : ℕ) (d : Draft) → moved_in t n p ≡ Ok d → (d.node ≡ n) × (d.parent ≡ p)
 unfolding moved_in
 drafted_names t n p d e = go (at_or_below t p n) e
   where
-    go : (b : Bool) → cond b (Refused Cycle) (Op (move_draft (move_kind t n p) n p)) ≡ Op d → (d.node ≡ n) × (d.parent ≡ p)
+    go : (b : Bool) → cond b (Err Cycle) (Ok (move_draft (move_kind t n p) n p)) ≡ Ok d → (d.node ≡ n) × (d.parent ≡ p)
     go false e =
         let z : d ≡ move_draft (move_kind t n p) n p = cc in
         (ap (λ (x : Draft). x.node) z, ap (λ (x : Draft). x.parent) z)
     go true e = let z : ◌≡◌ {A = ℕ} 0 1 = cc in absurd (omega arith)
 
-pub op_of : (log : Log) (s : ℕ) (q : Request) (d : Draft) → cleared_op log s q ≡ Op d → issued log s q ≡ bytes_of s d (counts_of log)
+pub op_of : (log : Log) (s : ℕ) (q : Request) (d : Draft) → cleared_op log s q ≡ Ok d → issued log s q ≡ bytes_of s d (counts_of log)
 unfolding cleared_op issued moved_in
 op_of log s (add p) d e = same_op s (counts_of log) _ d e
 op_of log s (remove n) d e = same_op s (counts_of log) _ d e
 op_of log s (move n p) d e = clear (at_or_below (parents_of log) p n) s (counts_of log) _ d e
 
 -- r is what was drafted
-module _ (f out : List ℕ) (s : ℕ) (q : Request) (l : Lent f (length out) s) (r : Drafted) (is : r ≡ drafted (log_of width f) s q) where
-  pub issue_refused : (why : Refusal) → r ≡ Refused why → handed (refused (number_of why)) f out ≡ rules.issue width f out s q
+module _ (f out : List ℕ) (s : ℕ) (q : Request) (l : Lent f (length out) s) where
+  pub issue_refused : (why : Refusal) → Err why ≡ drafted (log_of width f) s q → handed (refused (number_of why)) f out ≡ rules.issue width f out s q
   unfolding issue_buffer issue_out by_draft
-  issue_refused why e = rw (answer_by f s (length out) l q, ← is, e)
+  issue_refused why e = rw (answer_by f s (length out) l q, ← e)
 
-  module _ (d : Draft) (e : r ≡ Op d) where
-    opened : Ready f (length out) s × (cleared_op (log_of width f) s q ≡ Op d)
+  module _ (d : Draft) (e : Ok d ≡ drafted (log_of width f) s q) where
+    opened : Ready f (length out) s × (cleared_op (log_of width f) s q ≡ Ok d)
     unfolding drafted
     opened =
-        let a = passes (ltb (count_in (counts_of (log_of width f)) s) 255) Exhausted _ d (sym is ∙ e) in
+        let a = passes (ltb (count_in (counts_of (log_of width f)) s) 255) Exhausted _ d (sym e) in
         let b = passes (request_known (log_of width f) q) Unknown _ d a.1 in
         (record { lent = l; left = a.0 }, (passes (request_unmarked (log_of width f) q) Marked _ d b.1).1)
 
@@ -256,14 +228,14 @@ module _ (f out : List ℕ) (s : ℕ) (q : Request) (l : Lent f (length out) s) 
 
     pub issue_put : (x : Issued) → x ≡ put_out f out (bytes_of s d (header_counts f)) → x ≡ rules.issue width f out s q
     unfolding issue_buffer issue_out by_draft put_out
-    issue_put x h = rw (answer_by f s (length out) l q, ← is, e, op_of (log_of width f) s q d opened.1, counts_log_of width f) h
+    issue_put x h = rw (answer_by f s (length out) l q, ← e, op_of (log_of width f) s q d opened.1, counts_log_of width f) h
 
 ---- what the code of issuing needs: search issuing
-pub ruleset moves = (known_small, move_cycle, move_op, move_now, cleared_move, move_names_law)
+pub ruleset moves = (known_small, move_now, cleared_move, move_names_law)
 
 pub ruleset drafting = (moves, add_op, remove_op, exhausted, unknown, known_request, marked, drafts)
 
-pub ruleset putting = (acceptable, all_added, put_kept, writable, put_added)
+pub ruleset putting = (acceptable, all_added, put_refused, writable, put_added)
 
 pub ruleset issues = (issue_refused, ready, issue_put)
 

@@ -1,5 +1,5 @@
 -- Issuing as the code goes about it: a request is drafted as an op, which is then put out and added.
-use Rattle.std.specs.Prelude.{ℕ, ◌+◌, ◌≤◌, ◌<◌, ◌≡◌, true, cond, not, List, ◌++◌, length, drop, ltb}
+use Rattle.std.specs.Prelude.{ℕ, ◌+◌, ◌≤◌, ◌<◌, ◌≡◌, true, cond, not, List, Result, Ok, Err, ◌++◌, length, drop, ltb}
 use Rattle.rules.specs.Answer.{if_accepted}
 use Rattle.rules.specs.Issue.{Request, add, remove, move, Issued, op_bytes, request_known, request_unmarked}
 use Rattle.rules.specs.Tree.{move_kind, at_or_below, slots}
@@ -7,12 +7,15 @@ use Rattle.rules.specs.File.{Log, width, appended, counts_of, file_end, log_of}
 use Rattle.rules.specs.Op.{Op, Vector, count_in, is_replica, node_number}
 use Rattle.rules.specs.Replay.{parents_of}
 use Rattle.rules.specs.Sound.{sound}
+use Rattle.codec.specs.declared.answer.Refusal.{Refusal}
 use Rattle.codec.specs.declared.answer.Refusal.TheVariants.{Unknown, Exhausted, Cycle, Marked}
 use Rattle.delivery.specs.Adding.{last_test}
 use Rattle.soundness.specs.Asked.{Tallied}
 use Rattle.issue.specs.declared.draft.Draft.{Draft}
-use Rattle.issue.specs.declared.draft.Drafted.{Drafted}
-use Rattle.issue.specs.declared.draft.Drafted.TheVariants as drafts
+
+-- what the tests of a request say: the op to issue, or the first test that failed
+abbrev pub Drafted : Type 0
+Drafted = Result Draft Refusal
 
 -- the bytes of a drafted op
 abbrev pub bytes_of : (s : ℕ) → Draft → Vector → Op
@@ -21,20 +24,20 @@ bytes_of s d v = op_bytes d.kind s d.node d.parent v
 -- a move in a tree: number 10, or the op
 unfoldable pub moved_in : (tree : List ℕ) (n p : ℕ) → Drafted
 moved_in t n p =
-    cond (at_or_below t p n) (drafts.Refused Cycle) (drafts.Op (record { kind = move_kind t n p; node = n; parent = p }))
+    cond (at_or_below t p n) (Err Cycle) (Ok (record { kind = move_kind t n p; node = n; parent = p }))
 
 -- number 10 of a request whose names are known, or the op
 unfoldable pub cleared_op : Log → (s : ℕ) → Request → Drafted
-cleared_op log s (add p) = drafts.Op (record { kind = 1; node = node_number s (count_in (counts_of log) s + 1); parent = p })
-cleared_op log s (remove n) = drafts.Op (record { kind = 2; node = n; parent = 0 })
+cleared_op log s (add p) = Ok (record { kind = 1; node = node_number s (count_in (counts_of log) s + 1); parent = p })
+cleared_op log s (remove n) = Ok (record { kind = 2; node = n; parent = 0 })
 cleared_op log s (move n p) = moved_in (parents_of log) n p
 
 -- the tests 9, 7, 11 and 10, or the op
 unfoldable pub drafted : Log → (s : ℕ) → Request → Drafted
 drafted log s q =
-    cond (not (ltb (count_in (counts_of log) s) 255)) (drafts.Refused Exhausted)
-    (cond (not (request_known log q)) (drafts.Refused Unknown)
-    (cond (not (request_unmarked log q)) (drafts.Refused Marked) (cleared_op log s q)))
+    cond (not (ltb (count_in (counts_of log) s) 255)) (Err Exhausted)
+    (cond (not (request_known log q)) (Err Unknown)
+    (cond (not (request_unmarked log q)) (Err Marked) (cleared_op log s q)))
 
 -- the buffer with an op added, and the op in the first bytes of what is lent for it
 abbrev pub with_op : (f out : List ℕ) → Op → List ℕ × List ℕ

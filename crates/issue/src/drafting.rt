@@ -1,3 +1,5 @@
+#![tactic(auto, using(crate::proofs::IssueCases::issuing))]
+
 ghost use Rattle.std.specs.Prelude.{◌≡◌, true, ◌+◌, ltb};
 ghost use Rattle.rules.specs.File.{width, log_of};
 ghost use Rattle.rules.specs.Op.{is_replica, count_in, node_number};
@@ -5,45 +7,58 @@ ghost use Rattle.rules.specs.Replay.{parents_of};
 ghost use Rattle.request.specs.Requests.{request_of};
 ghost use Rattle.issue.specs.Issuing.{moved_in, cleared_op, drafted, Issuer, KnownRequest, Movable, InTree};
 
-use crate::draft::{Draft, Drafted};
-use codec::{Refusal, widen};
+use crate::draft::Draft;
+use codec::Refusal;
 use oplog::counts_of;
 use replay::replay_all;
 use request::{Request, knows, unmarked};
 use soundness::WIDTH;
 use tree::move_kind;
 
+// How many ops of a replica are held.
+#[tactic(auto, using(rules::proofs::ReplicaLaws::replica_low, rules::proofs::ReplicaLaws::replica_high), unfolding(rules::specs::Op::count_in))]
+fn held_of(counts: [u8; 8], replica: u8) -> u8
+    requires { is_replica replica ≡ true }
+    ensures { result ≡ count_in counts replica }
+{
+    counts[usize::from(replica) - 1]
+}
+
 // Number 9: whether a replica has an op left to issue.
 pub fn has_left(counts: [u8; 8], replica: u8) -> bool
     requires { is_replica replica ≡ true }
     ensures { result ≡ ltb (count_in counts replica) 255 }
 {
-    counts[widen(replica) - 1] < 255
+    held_of(counts, replica) < 255
 }
 
 // The node that a replica's next op makes, if it is an add.
+#[tactic(auto, using(rules::proofs::ReplicaLaws::replica_low, rules::proofs::ReplicaLaws::replica_high), unfolding(rules::specs::Op::node_number))]
 fn next_node(counts: [u8; 8], replica: u8) -> u16
     requires { is_replica replica ≡ true }
     ensures { result ≡ node_number replica (count_in counts replica + 1) }
 {
-    let s = widen(replica);
-    (256 * s + widen(counts[s - 1]) + 1) as u16
+    256 * u16::from(replica) + u16::from(held_of(counts, replica)) + 1
 }
 
 // Number 10 of a move in a tree, or the op to issue.
-pub fn draft_move(parents: &[u16], node: u16, parent: u16) -> Drafted
+#[tactic(auto, unfolding(crate::specs::Issuing::moved_in, tree::specs::Climb::move_or_cycle))]
+pub fn draft_move(parents: &[u16], node: u16, parent: u16) -> Result<Draft, Refusal>
     requires { InTree parents.now node }
     ensures { result ≡ moved_in parents.now node parent }
 {
-    let kind = move_kind(parents, node, parent);
-    if kind == 0 {
-        return Drafted::Refused(Refusal::Cycle);
+    match move_kind(parents, node, parent) {
+        None => Err(Refusal::Cycle),
+        Some(kind) => Ok(Draft {
+            kind: u8::from(kind),
+            node,
+            parent,
+        }),
     }
-    Drafted::Op(Draft { kind, node, parent })
 }
 
 // The same in the present tree.
-fn draft_move_now(file: &[u8], node: u16, parent: u16) -> Drafted
+fn draft_move_now(file: &[u8], node: u16, parent: u16) -> Result<Draft, Refusal>
     requires { Movable file.now node parent }
     ensures { result ≡ moved_in (parents_of (log_of width file.now)) node parent }
 {
@@ -52,20 +67,25 @@ fn draft_move_now(file: &[u8], node: u16, parent: u16) -> Drafted
 }
 
 // Number 10 of a request whose names are known, and the op to issue.
-fn draft_known(file: &[u8], counts: [u8; 8], replica: u8, request: Request) -> Drafted
+fn draft_known(
+    file: &[u8],
+    counts: [u8; 8],
+    replica: u8,
+    request: Request,
+) -> Result<Draft, Refusal>
     requires { KnownRequest file.now counts replica (request_of request) }
     ensures { result ≡ cleared_op (log_of width file.now) replica (request_of request) }
 {
     match request {
         Request::Add(parent) => {
             let node = next_node(counts, replica);
-            Drafted::Op(Draft {
+            Ok(Draft {
                 kind: 1,
                 node,
                 parent,
             })
         }
-        Request::Remove(node) => Drafted::Op(Draft {
+        Request::Remove(node) => Ok(Draft {
             kind: 2,
             node,
             parent: 0,
@@ -75,19 +95,19 @@ fn draft_known(file: &[u8], counts: [u8; 8], replica: u8, request: Request) -> D
 }
 
 // The tests 9, 7, 11 and 10 of a request, and the op to issue.
-pub(crate) fn draft(file: &[u8], replica: u8, request: Request) -> Drafted
+pub(crate) fn draft(file: &[u8], replica: u8, request: Request) -> Result<Draft, Refusal>
     requires { Issuer file.now replica }
     ensures { result ≡ drafted (log_of width file.now) replica (request_of request) }
 {
     let counts = counts_of(file, WIDTH);
     if !has_left(counts, replica) {
-        return Drafted::Refused(Refusal::Exhausted);
+        return Err(Refusal::Exhausted);
     }
     if !knows(file, counts, request) {
-        return Drafted::Refused(Refusal::Unknown);
+        return Err(Refusal::Unknown);
     }
     if !unmarked(file, counts, request) {
-        return Drafted::Refused(Refusal::Marked);
+        return Err(Refusal::Marked);
     }
     draft_known(file, counts, replica, request)
 }

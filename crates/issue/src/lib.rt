@@ -6,6 +6,6 @@ mod drafting;
 mod opening;
 mod putting;
 
-pub use draft::{Draft, Drafted};
+pub use draft::Draft;
 pub use drafting::{draft_move, has_left};
-pub use opening::{is_replica, issue_sound};
+pub use opening::issue_sound;

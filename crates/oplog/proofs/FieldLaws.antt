@@ -1,22 +1,22 @@
 -- Where the fields of an op stand in a laid-out file.
-use lib.Seq.{get_or-take, get_or-drop, drop-drop, take-take}
+use lib.Seq.{get_or-take, drop-drop, take-take}
 use borrow.Author.Rules.{rules}
-use mathlib.Core.Path.{◌≡◌, sym, ap, ◌∙◌}
-use mathlib.Core.Bool.{true, false}
+use mathlib.Core.Path.{◌≡◌, ap, ◌∙◌}
+use mathlib.Core.Bool.{true}
 use mathlib.Core.List.{List}
 use Prim.Native.Nat.{ℕ, ◌+◌, ◌*◌, ◌-◌, ◌^◌, ◌≤◌, ◌<◌}
 use native.Mathlib.Omega.{arith}
-use lib.ListN.{length, take, drop, get_or, length-take, length-drop}
+use lib.ListN.{length, take, drop, get_or}
 use native.Mathlib.Nat.{mul-le-mul_left, mul-add, mul-one}
 use Rattle.rules.specs.Op.{Op, Vector, count_in, kind_of, node_of, parent_of, replica_of, vector_of}
 use Rattle.rules.specs.Bytes.{word_at}
-use Rattle.lists.specs.Lists.{sum, same}
+use Rattle.lists.specs.Lists.{sum}
 use Rattle.rules.specs.File.{counts_of, op_at, start_at, start_of, file_end, log_of, ops_of, within, count_at, end_of, header_counts}
 use Rattle.rules.specs.Log.{laid}
 use Rattle.rules.proofs.StructureLaws.{Laid, laid_reads}
 use Rattle.rules.proofs.FileLaws.{counts_at, counts_log_of, ops_chunks_of, length_counts, chunk_at}
 use Rattle.rules.proofs.CausalLaws.{within_le}
-use Rattle.lists.proofs.ListLaws.{Matched, match_ends, match_fails, match_on, match_starts, sum_take, drop_take}
+use Rattle.lists.proofs.ListLaws.{sum_take, drop_take}
 use Rattle.oplog.specs.Places.{InFile, Held, place_of}
 
 -- two ops of the same fields
@@ -124,38 +124,5 @@ held_of w f v h e c = record {
   each = λ s l u. omega (arith, within_le v (header_counts f) c s l u, counts_at f s l u);
 }
 
----- comparing bytes
-
--- an op is compared with the bytes of the file from a place on
-pub record Compared (f : List ℕ) (at : ℕ) (op : List ℕ) (end i : ℕ) : Type 0 where
-  pub fits : at + length op ≤ length f
-  pub matched : Matched op (take (length op) (drop at f)) end i
-
-module _ (f : List ℕ) (at : ℕ) (op : List ℕ) where
-  abbrev part : List ℕ
-  part = take (length op) (drop at f)
-
-  part_long : at + length op ≤ length f → length op ≡ length part
-  part_long h = simp (length-take, length-drop) (omega arith)
-
-  pub same_first : at + length op ≤ length f → Compared f at op (length op) 0
-  same_first h = record { fits = h; matched = match_starts op part (part_long h) }
-
-  module _ (end i : ℕ) (t : Compared f at op end i) where
-    module _ (h : i < end) where
-      byte_there : get_or part i 0 ≡ get_or f (at + i) 0
-      byte_there = let l : i < length op = omega (arith, t.matched.whole) in rw (get_or-take, get_or-drop)
-
-      pub same_differs : (get_or op i 0 ≡ get_or f (at + i) 0 → ⊥) → false ≡ same op (take (length op) (drop at f))
-      same_differs e = match_fails op part end i t.matched h (λ z. e (z ∙ byte_there))
-
-      pub same_next : get_or op i 0 ≡ get_or f (at + i) 0 → Compared f at op end (i + 1)
-      same_next e = record { fits = t.fits; matched = match_on op part end i t.matched h (e ∙ sym byte_there) }
-
-    pub same_last : end ≤ i → true ≡ same op (take (length op) (drop at f))
-    same_last h = match_ends op part end i t.matched h
-
 ---- what the code of places needs: search placing
-pub ruleset comparing = (same_first, same_differs, same_next, same_last)
-
-pub ruleset placing = (rules, header_fits, place_size, place_sum, place_is, place_fits, comparing)
+pub ruleset placing = (rules, header_fits, place_size, place_sum, place_is, place_fits)

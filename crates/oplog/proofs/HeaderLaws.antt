@@ -5,9 +5,10 @@ use mathlib.Core.List.{List, [], ◌∷◌, map, ◌++◌, append-nil, append_as
 use Prim.Native.Nat.{ℕ, zero, suc, ◌+◌, ◌*◌, ◌-◌, ◌/◌, ◌%◌, ◌^◌, ◌≤◌, ◌<◌}
 use native.Mathlib.Omega.{arith}
 use native.Mathlib.Nat.{mul-add, mul-zero, mul-le-mul, mul-le-mul_left}
-use lib.ListN.{length, take, drop, get_or, set, length-append, length-drop, length-set}
+use lib.ListN.{length, take, drop, get_or, set, length-append, length-drop}
 use lib.Seq.{take_all, take_at, drop-drop, drop-append-add, sets-eq}
-use lib.Dec.{leb, eqb}
+use lib.Dec.{leb, eqb, lit<}
+use Rattle.std.specs.List.{range_with_len}
 use borrow.Author.Rules.{rules}
 use borrow.Author.Tests.{leb-true, eqb-true, le-leb, lt-leb}
 use Rattle.lists.specs.Lists.{up_from, concat, sum}
@@ -22,7 +23,7 @@ use Rattle.rules.specs.Bytes.{word_at, word}
 use Rattle.rules.proofs.FileLaws.{counts_at, length_counts}
 use Rattle.rules.proofs.ReplicaLaws.{pass_all, pass_turn, pass_end, replica_passes, pass_from}
 use Rattle.rules.proofs.StructureLaws.{laid_reads}
-use Rattle.vector.proofs.VectorLaws.{build_step, count_of}
+use Rattle.vector.proofs.VectorLaws.{count_of}
 use Rattle.oplog.specs.Header.{entry_right, with_entry}
 
 ---- starts by counts
@@ -171,33 +172,14 @@ low_count f i h =
     let e : count_at f (i + 1) ≡ get_or f (4 * i) 0 * 256 + get_or f (4 * i + 1) 0 = rw k in
     omega arith
 
--- the first i counts are read
-pub record CountsRead (f : List ℕ) (v : Vector) (i : ℕ) : Type 0 where
-  pub few : i ≤ 8
-  pub eight : length v ≡ 8
-  pub read : take i v ≡ take i (header_counts f)
-
-module _ (f : List ℕ) (v : Vector) where
-  pub counts_first : length v ≡ 8 → CountsRead f v 0
-  counts_first h = record { few = omega arith; eight = h; read = refl }
-
-  module _ (i : ℕ) (t : CountsRead f v i) where
-    pub counts_next : (w : ℕ) → sound_header w f ≡ true → i < 8 → CountsRead f (set v i (get_or f (4 * i + 1) 0)) (i + 1)
-    unfolding header_counts
-    counts_next w e h =
-        let b = (header_entry_law w f e (i + 1) (omega arith) (omega arith)).0 in
-        record {
-          few = omega arith;
-          eight = length-set v i _ ∙ t.eight;
-          read = build_step (count_at f) v i _ t.read h t.eight (sym (low_count f i b));
-        }
-
-    pub counts_last : 8 ≤ i → v ≡ header_counts f
-    counts_last h =
-        let e : i ≡ 8 = omega (arith, t.few) in
-        sym (take_all 8 v (omega (arith, t.eight)))
-        ∙ rw e at t.read
-        ∙ take_all 8 (header_counts f) (omega (arith, length_counts f))
+-- the counts, byte by byte
+pub counts_bytes : (w : ℕ) (f : List ℕ) → sound_header w f ≡ true
+    → map (λ i. get_or f (4 * i + 1) 0) (range_with_len 0 8) ≡ header_counts f
+unfolding header_counts replicas up_from
+counts_bytes w f e =
+    let at : (i : ℕ) → i < 8 → count_at f (i + 1) ≡ get_or f (4 * i + 1) 0 =
+    λ i h. low_count f i (header_entry_law w f e (i + 1) (omega arith) (omega arith)).0 in
+    rw (at 0 (lit< tt), at 1 (lit< tt), at 2 (lit< tt), at 3 (lit< tt), at 4 (lit< tt), at 5 (lit< tt), at 6 (lit< tt), at 7 (lit< tt))
 
 ---- writing an entry
 
@@ -258,9 +240,9 @@ module _ (w : ℕ) (counts : Vector) (a : List ℕ) where
   }
 
   module _ (b : List ℕ) (start i : ℕ) (t : HeaderWritten w counts a b start i) where
-    module _ (n : ℕ) (is : (n ≡ get_or counts i 0) × (n ≤ 255)) where
+    module _ (n : ℕ) (is : n ≡ get_or counts i 0) (small : get_or counts i 0 < 256) where
       write_few : w * n ≤ 4080
-      write_few = mul-le-mul t.narrow is.1
+      write_few = let h : n ≤ 255 = omega arith in mul-le-mul t.narrow h
 
       pub write_size : w * n < 2 ^ 64
       write_size = omega (arith, write_few)
@@ -290,7 +272,7 @@ module _ (w : ℕ) (counts : Vector) (a : List ℕ) where
               long = t.long;
               same = rw (x, length-append, length-drop, entries_length w counts (i + 1)) (omega (arith, t.long));
               few = omega arith;
-              next = start_next w counts i (omega (arith, t.eight)) ∙ rw (t.next, count_of counts i, ← is.0);
+              next = start_next w counts i (omega (arith, t.eight)) ∙ rw (t.next, count_of counts i, ← is);
               bound = omega (arith, write_few, t.bound);
               written = x;
             }
@@ -339,8 +321,6 @@ pub ruleset reading = (
   end_read,
 )
 
-pub ruleset copying = (counts_first, counts_next, counts_last)
-
 pub ruleset writing = (entry_put, write_first, write_size, write_short, write_sum, write_next, write_last)
 
-pub ruleset heading = (rules, tested, reading, copying, writing)
+pub ruleset heading = (rules, tested, reading, writing)

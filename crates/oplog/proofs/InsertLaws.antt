@@ -1,13 +1,13 @@
 -- Laws of putting ops into a buffer: bytes moved up, the ops in front of them, the header anew.
-use lib.ListN.{length-take, length-drop, length-append, length-set, get_or-append, length, take, drop, get_or, set}
-use lib.Seq.{take_all, take-length, take-suc, drop-cons, append_snoc, set_at, length-take-le, get_or-take, slice, slice-cons, slice_empty, take-take, drop-drop, take-add, drop_at}
-use mathlib.Core.List.{append-nil, List, [], ◌∷◌, ◌++◌, map, append_assoc}
+use lib.ListN.{length-take, length-drop, length-append, length-set, length, take, drop, get_or, set}
+use lib.Seq.{take_all, take-length, take-suc, drop-cons, append_snoc, set_at, length-take-le, take-take, drop-drop, take-add, drop_at}
+use mathlib.Core.List.{List, [], ◌∷◌, ◌++◌, map, append_assoc}
 use mathlib.Core.Path.{◌≡◌, refl, sym, ap, ◌∙◌}
 use mathlib.Core.Bool.{true}
 use Prim.Native.Nat.{ℕ, zero, suc, ◌+◌, ◌*◌, ◌-◌, ◌^◌, ◌≤◌, ◌<◌}
 use native.Mathlib.Omega.{arith}
 use native.Mathlib.Numerals.{add-one}
-use native.Mathlib.Nat.{le_of_suc-le-suc, mul-add, mul-zero, not-suc-le-zero, zero-add}
+use native.Mathlib.Nat.{le_of_suc-le-suc, mul-add, mul-zero, not-suc-le-zero}
 use borrow.Author.Rules.{rules}
 use Rattle.rules.specs.File.{end_of, header_counts, file_end, file_of, start_of, ops_of, Log, header_of, counts_of, log_of, chunks, chunks_of}
 use Rattle.rules.specs.Log.{laid, sound_header}
@@ -18,52 +18,6 @@ use Rattle.rules.proofs.FileLaws.{bodies_chunks_of, concat_chunks, counts_at, co
 use Rattle.rules.proofs.StructureLaws.{count_held, laid_reads}
 use Rattle.oplog.specs.Append.{Appendable, append_all, appended_all, headed_by, inserted, shifted}
 use Rattle.oplog.proofs.HeaderLaws.{end_is, laid_header, laid_long, start_within}
-
----- moving up
-
--- p, whose bytes from k up to m stand w further up too
-abbrev pub moved : ℕ → ℕ → List ℕ → ℕ → List ℕ
-moved w m p k = take (k + w) p ++ slice k m p
-
-moved_none : (w m : ℕ) (p : List ℕ) → length p ≤ m + w → p ≡ moved w m p m
-moved_none w m p h = sym (rw (take_all (m + w) p h, slice_empty m p, append-nil))
-
-moved_step : (w m : ℕ) (p : List ℕ) (j k : ℕ) → suc j ≡ k → k ≤ m → m + w ≤ length p
-    → set (moved w m p k) (j + w) (get_or (moved w m p k) j 0) ≡ moved w m p j
-moved_step w m p j k e hk hm =
-    let e' : k + w ≡ suc (j + w) = omega arith in
-    let l : length (take (k + w) p) ≡ k + w = length-take-le (k + w) p (omega arith) in
-    let r : get_or (moved w m p k) j 0 ≡ get_or p j 0 = get_or-append (take (k + w) p) (slice k m p) 0 j (omega arith)
-    ∙ get_or-take (k + w) p j 0 (omega arith) in
-    let a : take (k + w) p ≡ take (j + w) p ++ (get_or p (j + w) 0 ∷ []) = rw e' (take-suc p (j + w) 0 (omega arith)) in
-    let s : slice j m p ≡ get_or p j 0 ∷ slice k m p = slice-cons j m p 0 (omega arith) (omega arith)
-    ∙ ap (λ (x : ℕ). get_or p j 0 ∷ slice x m p) e in
-    rw (r, a, append_snoc, set_at (take (j + w) p) _ _ _ (j + w) (length-take-le (j + w) p (omega arith)), s)
-
--- part is p, whose bytes from k on are moved up by w
-pub record MovedUp (w : ℕ) (p part : List ℕ) (k : ℕ) : Type 0 where
-  pub long : w ≤ length p
-  pub few : k ≤ length p - w
-  pub same : length part ≡ length p
-  pub bytes : part ≡ moved w (length p - w) p k
-
-module _ (w : ℕ) (p : List ℕ) where
-  pub move_first : w ≤ length p → MovedUp w p p (length p - w)
-  move_first h = record { long = h; few = omega arith; same = refl; bytes = moved_none w (length p - w) p (omega arith) }
-
-  module _ (part : List ℕ) (k : ℕ) (t : MovedUp w p part k) where
-    pub move_next : (n : ℕ) → n < k → MovedUp w p (set part (k - 1 + w) (get_or part (k - 1) 0)) (k - 1)
-    move_next n h = record {
-      long = t.long;
-      few = omega (arith, t.few);
-      same = length-set part _ _ ∙ t.same;
-      bytes =
-          ap (λ (x : List ℕ). set x (k - 1 + w) (get_or x (k - 1) 0)) t.bytes
-          ∙ moved_step w (length p - w) p (k - 1) k (omega arith) t.few (omega (arith, t.long));
-    }
-
-    pub move_last : k ≤ 0 → part ≡ take w p ++ take (length p - w) p
-    move_last h = let e : k ≡ 0 = omega arith in rw (e, zero-add) at t.bytes
 
 ---- storing in front
 
@@ -270,7 +224,7 @@ module _ (w : ℕ) (f : List ℕ) (v : Vector) (s : ℕ) (r : List ℕ) (n : ℕ
           ib ∙ rw (k, is, end_there, t.long) (rw (all, many) at whole)
 
 ---- what the code of appending needs: search appending
-pub ruleset shifting = (move_first, move_next, move_last, front_first, front_next, front_last, shift_front, put_back, put_head)
+pub ruleset shifting = (shift_front, put_back, put_head)
 
 pub ruleset adding = (more_fits, more_is, append_long, append_header, append_below, place_before, ops_fit, append_all_law)
 

@@ -1,31 +1,27 @@
+#![tactic(auto, using(crate::proofs::InsertLaws::appending))]
+
 ghost use Rattle.std.specs.Prelude.{◌≡◌, ◌++◌, ◌+◌, ◌-◌, ◌≤◌, length, take, drop, set};
 ghost use Rattle.rules.specs.Op.{count_in};
 ghost use Rattle.rules.specs.File.{chunks};
 ghost use Rattle.oplog.specs.Append.{Appendable, appended_all, headed_by, inserted, shifted};
 
 use crate::header::{end_of, write_header};
-use codec::widen;
 
 // Moves the bytes of a part up by the width; what no longer fits is dropped.
 fn move_up(part: &mut [u8], width: usize)
     requires { width ≤ length part.old }
     ensures { part.new ≡ take width part.old ++ take (length part.old - width) part.old }
 {
-    let mut k = part.len() - width;
-    while 0 < k {
-        k -= 1;
-        part[k + width] = part[k];
-    }
+    let end = part.len() - width;
+    part.copy_within(..end, width);
 }
 
-// Stores bytes at the front of a part.
-pub fn put_front(part: &mut [u8], bytes: &[u8])
-    requires { length bytes.now ≤ length part.old }
-    ensures { part.new ≡ bytes.now ++ drop (length bytes.now) part.old }
+// Stores items at the front of a part.
+pub fn put_front<T: Copy>(part: &mut [T], items: &[T])
+    requires { length items.now ≤ length part.old }
+    ensures { part.new ≡ items.now ++ drop (length items.now) part.old }
 {
-    for j in 0..bytes.len() {
-        part[j] = bytes[j];
-    }
+    part[..items.len()].copy_from_slice(items);
 }
 
 // Moves the bytes of a part up by ops, and stores the ops in front.
@@ -57,12 +53,13 @@ fn put_ops(buf: &mut [u8], place: usize, end: usize, ops: &[u8], counts: [u8; 8]
 }
 
 // The counts with n ops more of a replica.
+#[tactic(auto, unfolding(rules::specs::Op::count_in))]
 pub fn with_more(counts: [u8; 8], replica: usize, n: usize) -> [u8; 8]
     requires { (1 ≤ replica) × (replica ≤ 8) × (count_in counts replica + n ≤ 255) }
     ensures { result ≡ set counts (replica - 1) (count_in counts replica + n) }
 {
     let mut more = counts;
-    let held = widen(counts[replica - 1]);
+    let held = usize::from(counts[replica - 1]);
     more[replica - 1] = (held + n) as u8;
     more
 }

@@ -1,16 +1,18 @@
+#![tactic(auto, using(crate::proofs::HeaderLaws::heading))]
+
 ghost use Rattle.std.specs.Prelude.{◌≡◌, true, ◌++◌, ◌+◌, ◌*◌, ◌≤◌, ◌<◌, length, drop};
 ghost use Rattle.rules.specs.File.{count_at, start_at, header_counts, start_of, header_of};
 ghost use Rattle.rules.specs.Log.{sound_header};
 ghost use Rattle.oplog.specs.Header.{entry_right, with_entry};
 
-use codec::{put_word, widen, widen16, word_at};
+use codec::{put_word, word_at};
 
 // The count that the header gives for replica s.
 pub fn count_at(file: &[u8], s: usize) -> usize
     requires { (32 ≤ length file.now) × (1 ≤ s) × (s ≤ 8) }
     ensures { result ≡ count_at file.now s }
 {
-    widen16(word_at(file, 4 * (s - 1)))
+    usize::from(word_at(file, 4 * (s - 1)))
 }
 
 // The start that the header gives for replica s.
@@ -18,18 +20,16 @@ pub(crate) fn start_at(file: &[u8], s: usize) -> usize
     requires { (32 ≤ length file.now) × (1 ≤ s) × (s ≤ 8) }
     ensures { (result ≡ start_at file.now s) × (result < 65536) }
 {
-    widen16(word_at(file, 4 * (s - 1) + 2))
+    usize::from(word_at(file, 4 * (s - 1) + 2))
 }
 
 // Whether the entry of replica s has a count of at most 255, and this start.
+#[tactic(auto, unfolding(crate::specs::Header::entry_right))]
 fn entry_right(file: &[u8], s: usize, start: usize) -> bool
     requires { (32 ≤ length file.now) × (1 ≤ s) × (s ≤ 8) }
     ensures { result ≡ entry_right file.now s start }
 {
-    if 255 < count_at(file, s) {
-        return false;
-    }
-    start_at(file, s) == start
+    count_at(file, s) <= 255 && start_at(file, s) == start
 }
 
 // Whether counts are at most 255 and starts are right.
@@ -61,11 +61,7 @@ pub fn counts_of(file: &[u8], width: usize) -> [u8; 8]
     requires { (32 ≤ length file.now) × (sound_header width file.now ≡ true) }
     ensures { result ≡ header_counts file.now }
 {
-    let mut counts = [0u8; 8];
-    for i in 0..8 {
-        counts[i] = file[4 * i + 1];
-    }
-    counts
+    std::array::from_fn(|i| file[4 * i + 1])
 }
 
 // Writes entry i of the header, from 0: a count and a start.
@@ -86,6 +82,6 @@ pub fn write_header(buf: &mut [u8], counts: [u8; 8], width: usize)
     for i in 0..8usize {
         let count = counts[i];
         put_entry(buf, i, count, start);
-        start += (width * widen(count)) as u16;
+        start += (width * usize::from(count)) as u16;
     }
 }

@@ -1,3 +1,5 @@
+#![tactic(auto, using(crate::proofs::MarkerLaws::stepping))]
+
 ghost use Rattle.std.specs.Prelude.{◌≡◌, ◌+◌, ◌≤◌, length, leb};
 ghost use Rattle.rules.specs.File.{count_at};
 ghost use Rattle.oplog.specs.Places.{next_marker};

@@ -1,3 +1,5 @@
+#![tactic(auto, using(crate::proofs::FieldLaws::placing))]
+
 ghost use Rattle.std.specs.Prelude.{◌≡◌, ◌+◌, ◌≤◌, length, take, drop};
 ghost use Rattle.lists.specs.Lists.{same};
 ghost use Rattle.oplog.specs.Places.{place_of, InFile};
@@ -17,10 +19,5 @@ pub fn same_op(file: &[u8], at: usize, op: &[u8]) -> bool
     requires { at + length op.now ≤ length file.now }
     ensures { result ≡ same op.now (take (length op.now) (drop at file.now)) }
 {
-    for i in 0..op.len() {
-        if op[i] != file[at + i] {
-            return false;
-        }
-    }
-    true
+    op == &file[at..at + op.len()]
 }

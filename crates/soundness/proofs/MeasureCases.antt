@@ -1,4 +1,5 @@
 -- The cases of the end and of the counts, as the code meets them.
+use Rattle.soundness.proofs.SoundCases.{end_asks, header_of}
 use Prim.Native.Nat.{◌<◌, ◌≤◌, ℕ}
 use borrow.Author.Rules.{rules}
 use borrow.Author.Tests.{le-leb, lt-leb}
@@ -48,4 +49,4 @@ module _ (f : List ℕ) where
           rw (a, le-leb 8 (length out) h, counts_log_of width f, e, eight, is)
 
 ---- what the code of the end and the counts needs: search measuring
-pub ruleset measuring = (rules, tested, end_unsound, end_sound, counts_unsound, counts_short, counts_put)
+pub ruleset measuring = (rules, tested, end_asks, header_of, end_unsound, end_sound, counts_unsound, counts_short, counts_put)

@@ -10,6 +10,7 @@ pub const WIDTH: usize = 14;
 pub const LARGEST: usize = 32 + WIDTH * 2040;
 
 // Whether a buffer holds a sound log (number 1).
+#[tactic(auto, unfolding(rules::specs::Sound::sound))]
 pub fn is_sound(file: &[u8]) -> bool
     ensures { result ≡ sound width file.now }
 {

@@ -1,34 +1,19 @@
--- Slots, climbs to the root and the kind of a move, as the code has them.
+-- Climbs to the root and the kind of a move, as the code has them.
 use mathlib.Core.Path.{◌≡◌, refl, sym, ap, ◌∙◌}
 use mathlib.Core.Bool.{Bool, true, false, cond}
 use mathlib.Core.List.{List, [], ◌∷◌, ◌++◌, append_assoc}
-use Prim.Native.Nat.{ℕ, zero, suc, ◌+◌, ◌-◌, ◌/◌, ◌≤◌, ◌<◌}
+use Prim.Native.Nat.{ℕ, zero, suc, ◌+◌, ◌-◌, ◌≤◌, ◌<◌}
 use native.Mathlib.Omega.{arith}
 use lib.ListN.{length, length-append, get_or, get_or-eq_default}
 use lib.Dec.{eqb, lit≤}
-use native.Mathlib.Decide.{ℕ_discrete}
 use borrow.Author.Tests.{eq-eqb, ne_eqb, lt-ltb, le-ltb}
 use borrow.Author.Rules.{rules}
 use Rattle.rules.specs.Tree.{Climbed, at_or_below, parent_in, slot_of, climb, climb_to, depth, path, slot, slots, no_parent, move_kind}
 use Rattle.lists.specs.Lists.{is_in, any, index_of}
 use Rattle.lists.proofs.AllLaws.{any_append}
 use Rattle.lists.proofs.MemberLaws.{index_behind}
-use Rattle.rules.proofs.ClimbToLaws.{depth_climbed}
-use Rattle.tree.specs.Climb.{climbed_of, move_or_cycle}
-use Rattle.tree.specs.declared.climb.Climbed as code
-
----- the slot of a node, as the code computes it
-
-pub slot_low : (n r : ℕ) → r ≡ n → n < 256 → r ≡ slot_of n
-unfolding slot_of slot
-slot_low n r e h = e ∙ (elim (ℕ_discrete n 0) [
-  | yes z ↦ rw z
-  | no nz ↦ rw (ne_eqb n 0 nz) (omega arith)
-])
-
-pub slot_high : (n r : ℕ) → r ≡ n - n / 256 → 256 ≤ n → r - 255 ≡ slot_of n
-unfolding slot_of slot
-slot_high n r e h = rw (e, ne_eqb n 0 (λ z. omega arith)) (omega arith)
+use Rattle.std.specs.Prelude.{Some, None}
+use Rattle.tree.specs.Climb.{move_or_cycle}
 
 ---- parents
 
@@ -97,16 +82,16 @@ module _ (t : List ℕ) (m n i at : ℕ) (c : Climbing t m n i at) where
   unfolding depth
   depth_left = rw (c.way, length-append, c.steps)
 
-  -- r is what is handed back from here
-  met_here : is_in n left ≡ true → index_of n left ≡ 0 → (r : Climbed) → r ≡ met i → r ≡ climb_to t m n
+  -- what is handed back from here
+  met_here : is_in n left ≡ true → index_of n left ≡ 0 → met i ≡ climb_to t m n
   unfolding climb_to
-  met_here e z r is = let k : i + 0 ≡ i = omega arith in is ∙ rw (met_left, e, index_left, z, k)
+  met_here e z = let k : i + 0 ≡ i = omega arith in rw (met_left, e, index_left, z, k)
 
-  missed_here : is_in n left ≡ false → (k : ℕ) → k ≡ i + length left - 1 → (r : Climbed) → r ≡ missed k → r ≡ climb_to t m n
+  missed_here : is_in n left ≡ false → (k : ℕ) → k ≡ i + length left - 1 → missed k ≡ climb_to t m n
   unfolding climb_to
-  missed_here e k so r is = is ∙ rw (met_left, e, depth_left, so)
+  missed_here e k so = rw (met_left, e, depth_left, so)
 
-  pub climb_ends : slots ≤ i → (r : Climbed) → r ≡ missed (slots - 1) → r ≡ climb_to t m n
+  pub climb_ends : slots ≤ i → missed (slots - 1) ≡ climb_to t m n
   unfolding climb is_in any
   climb_ends h =
       let e : left ≡ [] = let z : slots - i ≡ 0 = omega arith in rw z in
@@ -117,7 +102,7 @@ module _ (t : List ℕ) (m n i at : ℕ) (c : Climbing t m n i at) where
     unfolding climb
     here = let e : slots - i ≡ suc (slots - (i + 1)) = omega arith in rw e
 
-    pub climb_found : at ≡ n → (r : Climbed) → r ≡ met i → r ≡ climb_to t m n
+    pub climb_found : at ≡ n → met i ≡ climb_to t m n
     unfolding is_in any index_of
     climb_found e = met_here (rw (here, eq-eqb n at (sym e))) (rw (here, eq-eqb n at (sym e)))
 
@@ -134,7 +119,7 @@ module _ (t : List ℕ) (m n i at : ℕ) (c : Climbing t m n i at) where
     climb_less = omega (arith, within)
 
     module _ (ne : at ≡ n → ⊥) where
-      pub climb_root : at ≡ 0 → (r : Climbed) → r ≡ missed i → r ≡ climb_to t m n
+      pub climb_root : at ≡ 0 → missed i ≡ climb_to t m n
       unfolding is_in any
       climb_root z =
           let e : left ≡ at ∷ [] = rw (here, eq-eqb at 0 z) in
@@ -144,7 +129,7 @@ module _ (t : List ℕ) (m n i at : ℕ) (c : Climbing t m n i at) where
         onward : left ≡ at ∷ climb (slots - (i + 1)) t (parent_in t at)
         onward = rw (here, ne_eqb at 0 nz)
 
-        pub climb_out : n < no_parent → slots ≤ k → (r : Climbed) → r ≡ missed (slots - 1) → r ≡ climb_to t m n
+        pub climb_out : n < no_parent → slots ≤ k → missed (slots - 1) ≡ climb_to t m n
         unfolding is_in any
         climb_out s o =
             let e : left ≡ at ∷ climb (slots - (i + 1)) t no_parent = rw (onward, outside t size at (omega arith)) in
@@ -161,35 +146,33 @@ module _ (t : List ℕ) (m n i at : ℕ) (c : Climbing t m n i at) where
           way = c.way ∙ rw (onward, parent_read t at k is size (omega arith), append_assoc);
         }
 
----- a depth, and the kind of a move: c is what the climb to a node has handed back
+---- the kind of a move: what the climb to a node has handed back
 
-pub depth_is : (t : List ℕ) (n : ℕ) (c : code.Climbed) → climbed_of c ≡ climb_to t n 0 → c.steps ≡ depth t n
-depth_is t n c is = ap (λ (r : Climbed). r.steps) is ∙ depth_climbed t n
+module _ (t : List ℕ) (n p k : ℕ) where
+  pub move_cycle : met k ≡ climb_to t p n → None ≡ move_or_cycle t n p
+  unfolding climb_to move_or_cycle
+  move_cycle is = rw (← ap (λ (r : Climbed). r.met) is)
 
-module _ (t : List ℕ) (n p : ℕ) (c : code.Climbed) (is : climbed_of c ≡ climb_to t p n) where
-  pub met_is : c.met ≡ at_or_below t p n
-  unfolding climb_to
-  met_is = ap (λ (r : Climbed). r.met) is
-
-  pub move_cycle : c.met ≡ true → 0 ≡ move_or_cycle t n p
-  unfolding move_or_cycle
-  move_cycle e = rw (← met_is, e)
-
-  module _ (e : c.met ≡ false) (y : ℕ) (hy : y ≡ depth t n) where
-    steps_are : c.steps ≡ depth t p
+  module _ (is : missed k ≡ climb_to t p n) where
+    misses : at_or_below t p n ≡ false
     unfolding climb_to
-    steps_are = ap (λ (r : Climbed). r.steps) is ∙ rw (← met_is, e)
+    misses = sym (ap (λ (r : Climbed). r.met) is)
 
-    pub move_up : c.steps < y → 3 ≡ move_or_cycle t n p
-    unfolding move_or_cycle move_kind
-    move_up h = rw (← met_is, e, ← steps_are, ← hy, lt-ltb c.steps y h)
+    steps_are : k ≡ depth t p
+    unfolding climb_to
+    steps_are = ap (λ (r : Climbed). r.steps) is ∙ rw misses
 
-    pub move_down : y ≤ c.steps → 4 ≡ move_or_cycle t n p
-    unfolding move_or_cycle move_kind
-    move_down h = rw (← met_is, e, ← steps_are, ← hy, le-ltb c.steps y h)
+    module _ (y : ℕ) (hy : y ≡ depth t n) where
+      pub move_up : k < y → Some 3 ≡ move_or_cycle t n p
+      unfolding move_or_cycle move_kind
+      move_up h = rw (misses, ← steps_are, ← hy, lt-ltb k y h)
+
+      pub move_down : y ≤ k → Some 4 ≡ move_or_cycle t n p
+      unfolding move_or_cycle move_kind
+      move_down h = rw (misses, ← steps_are, ← hy, le-ltb k y h)
 
 ---- what the code of the tree needs: search climbing
 
 pub ruleset climbs = (climb_starts, climb_found, climb_root, climb_out, climb_on, climb_less, climb_ends)
 
-pub ruleset climbing = (rules, slot_low, slot_high, climbs, depth_is, move_cycle, move_up, move_down)
+pub ruleset climbing = (rules, climbs)

@@ -1,13 +1,28 @@
 -- The cases of slots and their nodes, as the code meets them.
-use Prim.Native.Nat.{◌*◌, ◌+◌, ◌<◌, ◌≤◌, ℕ}
+use Prim.Native.Nat.{◌*◌, ◌+◌, ◌<◌, ◌≤◌, ◌-◌, ◌/◌, ℕ}
 use borrow.Author.Rules.{rules}
 use borrow.Author.Tests.{eq-eqb, le-ltb, lt-ltb, ne_eqb}
 use mathlib.Core.Path.{◌≡◌, ◌∙◌}
 use mathlib.Core.List.{List}
 use lib.ListN.{length}
-use Rattle.rules.specs.Tree.{slot_of, slots}
+use Rattle.rules.specs.Tree.{slot, slot_of, slots}
+use native.Mathlib.Decide.{ℕ_discrete}
+use native.Mathlib.Omega.{arith}
 use Rattle.tree.specs.Slots.{InSlot, replica_in, sequence_in, slot_node, slot_in, slot_place}
 use Rattle.oplog.specs.Places.{InFile, place_of}
+
+---- the slot of a node, as the code computes it
+
+pub slot_low : (n r : ℕ) → r ≡ n → n < 256 → r ≡ slot_of n
+unfolding slot_of slot
+slot_low n r e h = e ∙ (elim (ℕ_discrete n 0) [
+  | yes z ↦ rw z
+  | no nz ↦ rw (ne_eqb n 0 nz) (omega arith)
+])
+
+pub slot_high : (n r : ℕ) → r ≡ n - n / 256 → 256 ≤ n → r - 255 ≡ slot_of n
+unfolding slot_of slot
+slot_high n r e h = rw (e, ne_eqb n 0 (λ z. omega arith)) (omega arith)
 
 -- k is the slot of n
 module _ (n k : ℕ) (is : k ≡ slot_of n) where
@@ -37,4 +52,4 @@ module _ (w : ℕ) (f : List ℕ) (k s q : ℕ) (hs : s ≡ replica_in k) (hq : 
   slot_starts at e = (e.0 ∙ rw (hs, hq), e.1)
 
 ---- what the code of slots needs: search slotting
-pub ruleset slotting = (rules, slot_inside, slot_outside, node_root, node_other, slot_in_file)
+pub ruleset slotting = (rules, slot_low, slot_high, slot_inside, slot_outside, node_root, node_other, slot_in_file)

@@ -1,11 +1,13 @@
+#![tactic(auto, using(crate::proofs::SlotCases::slotting))]
+
 ghost use Rattle.std.specs.Prelude.{◌≡◌, ◌+◌, ◌<◌, ◌≤◌, length};
 ghost use Rattle.rules.specs.Tree.{slots, slot_of};
 ghost use Rattle.tree.specs.Slots.{slot_in, slot_node, replica_in, sequence_in, InSlot, slot_place};
 
-use codec::widen16;
 use oplog::place;
 
-// How many slots a table has, and the parent entry of a slot without an added node.
+// How many slots a table has, and the parent entry of a slot without an added node. C lends the
+// tables, so that entry is a number and no `Option`.
 pub const SLOTS: usize = 2041;
 
 pub const NO_PARENT: u16 = 65535;
@@ -15,20 +17,19 @@ pub fn slot_of(node: u16) -> usize
     ensures { result ≡ slot_of node }
 {
     if node < 256 {
-        return widen16(node);
+        usize::from(node)
+    } else {
+        usize::from(node - node / 256) - 255
     }
-    widen16(node - node / 256) - 255
 }
 
-// The slot of a node, and 0 for a number without one: a slot that a table always has.
+// The slot of a node, and 0 for a number without one: a slot that a table always has, so that a caller
+// reads its table with no case for what no sound log names. An `Option` would add that case to each.
 pub fn slot_in(node: u16) -> usize
     ensures { (result ≡ slot_in node) × (result < slots) }
 {
     let slot = slot_of(node);
-    if slot < SLOTS {
-        return slot;
-    }
-    0
+    if slot < SLOTS { slot } else { 0 }
 }
 
 // The replica and the sequence of the op that has a slot.
@@ -60,7 +61,8 @@ pub fn slot_node(slot: usize) -> u16
     ensures { result ≡ slot_node slot }
 {
     if slot == 0 {
-        return 0;
+        0
+    } else {
+        (256 * slot_replica(slot) + slot_sequence(slot)) as u16
     }
-    (256 * slot_replica(slot) + slot_sequence(slot)) as u16
 }

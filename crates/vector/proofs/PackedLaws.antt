@@ -13,7 +13,8 @@ use Rattle.lists.specs.Lists.{all, up_from}
 use Rattle.rules.specs.Op.{Vector, count_in, replicas}
 use Rattle.rules.proofs.ReplicaLaws.{replica_cases}
 use Rattle.vector.specs.Packed.{packed_of, unit_of, EightCounts, is_step}
-use Rattle.vector.specs.Spread.{spread_of, Counts}
+use Rattle.vector.specs.Spread.{spread_of}
+use Rattle.vector.proofs.VectorLaws.{FourAt, spread_small}
 
 -- eight digits as a number
 abbrev number : (ℕ → ℕ) → ℕ
@@ -87,12 +88,6 @@ unit_shift =
 
 ---- the two halves: n and m are what was spread
 
--- n is the four counts of every second replica, from place i on
-abbrev FourAt : Vector → ℕ → ℕ → Type 0
-FourAt v i n =
-    (n ≡ spread_of (get_or v i 0) (get_or v (i + 2) 0) (get_or v (i + 4) 0) (get_or v (i + 6) 0))
-    × Counts (get_or v i 0) (get_or v (i + 2) 0) (get_or v (i + 4) 0) (get_or v (i + 6) 0)
-
 module _ (v : Vector) (n m : ℕ) (even : FourAt v 0 n) (odd : FourAt v 1 m) where
   byte_of : (s : ℕ) → 1 ≤ s → s ≤ 8 → get_or v (s - 1) 0 < 256
   byte_of =
@@ -101,12 +96,12 @@ module _ (v : Vector) (n m : ℕ) (even : FourAt v 0 n) (odd : FourAt v 1 m) whe
       replica_cases (λ s. get_or v (s - 1) 0 < 256)
       a.first b.first a.second b.second a.third b.third a.fourth b.fourth
 
-  bytes_of : EightCounts v
-  bytes_of = record { each = λ i h. let e : i + 1 - 1 ≡ i = omega arith in rw e at (byte_of (i + 1) (omega arith) (omega arith)) }
+  pub small_counts : EightCounts v
+  small_counts = record { each = λ i h. let e : i + 1 - 1 ≡ i = omega arith in rw e at (byte_of (i + 1) (omega arith) (omega arith)) }
 
-  pub halves_packed : (n + 256 * m ≡ packed_of v) × EightCounts v
+  pub halves_packed : n + 256 * m ≡ packed_of v
   unfolding packed_of
-  halves_packed = (rw (even.0, odd.0), bytes_of)
+  halves_packed = rw (even.0, odd.0)
 
----- what the code of packed vectors needs: search packing
-pub ruleset packing = (rules, unit_shift, step_sum, step_test)
+---- what the code of packed vectors needs
+pub ruleset packing = (rules, spread_small, small_counts, halves_packed, unit_shift, step_sum, step_test)

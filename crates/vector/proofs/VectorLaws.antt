@@ -154,25 +154,27 @@ within_halves v u =
     eight (reaches_at v u 0) (reaches_at v u 1) (reaches_at v u 2) (reaches_at v u 3) (reaches_at v u 4) (reaches_at v u 5) (reaches_at v u 6)
     (reaches_at v u 7)
 
----- the marks, one law for each return
+---- as the code makes them: m, n, p and q are what was spread
 
-module _ (n : ℕ) where
-  pub first_unmarked : (n / 256 % 2 ≡ 1 → ⊥) → false ≡ all_marked n
-  unfolding all_marked
-  first_unmarked h = rw (ne_eqb (n / 256 % 2) 1 h)
+-- n is the four counts of every second replica, from place i on
+abbrev pub FourAt : Vector → ℕ → ℕ → Type 0
+FourAt v i n =
+    (n ≡ spread_of (get_or v i 0) (get_or v (i + 2) 0) (get_or v (i + 4) 0) (get_or v (i + 6) 0))
+    × Counts (get_or v i 0) (get_or v (i + 2) 0) (get_or v (i + 4) 0) (get_or v (i + 6) 0)
 
-  module _ (a : n / 256 % 2 ≡ 1) where
-    pub second_unmarked : (n / 16777216 % 2 ≡ 1 → ⊥) → false ≡ all_marked n
-    unfolding all_marked
-    second_unmarked h = rw (eq-eqb (n / 256 % 2) 1 a, ne_eqb (n / 16777216 % 2) 1 h)
+pub spread_small : (v : Vector) (i n : ℕ) → FourAt v i n → n ≤ 71777214294589695
+spread_small v i n h = rw (h.0) (spread_most _ _ _ _ h.1)
 
-    module _ (b : n / 16777216 % 2 ≡ 1) where
-      pub third_unmarked : (n / 1099511627776 % 2 ≡ 1 → ⊥) → false ≡ all_marked n
-      unfolding all_marked
-      third_unmarked h = rw (eq-eqb (n / 256 % 2) 1 a, eq-eqb (n / 16777216 % 2) 1 b, ne_eqb (n / 1099511627776 % 2) 1 h)
+module _ (v u : Vector) (m n p q : ℕ) (a : FourAt u 0 m) (b : FourAt v 0 n) (c : FourAt u 1 p) (d : FourAt v 1 q) where
+  within_marked : within v u ≡ (all_marked (m + 1224980198173180160 - n) && all_marked (p + 1224980198173180160 - q))
+  unfolding even_reach odd_reach
+  within_marked = within_halves v u ∙ sym (rw (a.0, b.0, c.0, d.0) (rw (four_reach _ _ _ _ _ _ _ _ a.1 b.1, four_reach _ _ _ _ _ _ _ _ c.1 d.1)))
 
-      pub last_mark : n / 1099511627776 % 2 ≡ 1 → eqb (n / 72057594037927936 % 2) 1 ≡ all_marked n
-      unfolding all_marked
-      last_mark h = rw (eq-eqb (n / 256 % 2) 1 a, eq-eqb (n / 16777216 % 2) 1 b, eq-eqb (n / 1099511627776 % 2) 1 h)
+  pub within_if_even : all_marked (m + 1224980198173180160 - n) ≡ true → all_marked (p + 1224980198173180160 - q) ≡ within v u
+  within_if_even e = sym (within_marked ∙ rw e)
 
-pub ruleset marking = (rules, first_unmarked, second_unmarked, third_unmarked, last_mark)
+  pub without_even : all_marked (m + 1224980198173180160 - n) ≡ false → false ≡ within v u
+  without_even e = sym (within_marked ∙ rw e)
+
+---- what the comparison needs
+pub ruleset comparing = (rules, spread_small, within_if_even, without_even)

@@ -1,18 +1,12 @@
 -- `bundle::opening::open_in` meets its contract.
-use Rattle.bundle.proofs.OpenCases.{opening}
+use mathlib.Core.Path.{refl}
+use Rattle.std.proofs.lemmas.Result.{err_from_is_err_and}
+use Rattle.bundle.proofs.OpenCases.{open_refused, trial_ended, opening}
 use Rattle.bundle.proofs.opening.open_in.Goals as goal
 
-pub try_bodies-answer-requires : goal.try_bodies-answer-requires
-try_bodies-answer-requires c = search opening
-
-pub copy_back-requires : goal.copy_back-requires
-copy_back-requires c = search opening
-
-pub shape_of-buf : goal.shape_of-buf
-shape_of-buf c = search opening
-
-pub shape_of-copy : goal.shape_of-copy
-shape_of-copy c = search opening
+pub returns-in_err-end : goal.returns-in_err-end
+returns-in_err-end c = let p = err_from_is_err_and c.from_residual.result c.from_residual.ensures.1 in rw (p.1, p.2)
+    (open_refused _ _ _ _ (trial_ended _ _ _ c.requires _ _ c.in_err-end.ensures c.try_bodies.auto.copy) refl)
 
 pub returns : goal.returns
-returns c = search opening
+returns c = search (opening, c.in_ok-end.ensures)

@@ -1,27 +1,14 @@
 -- `bundle::opening::take_body` meets its contract.
-use Rattle.bundle.proofs.OpenCases.{opening, body_unread}
-use mathlib.Core.Path.{◌∙◌}
-use Rattle.delivery.proofs.DeliverCases.{delivering, unread}
+use Rattle.soundness.proofs.SoundCases.{end_asks}
+use Rattle.std.proofs.lemmas.Result.{err_from_is_err_and}
+use Rattle.bundle.proofs.OpenCases.{body_passed, body_sound, opening}
 use Rattle.bundle.proofs.opening.take_body.Goals as goal
 
-pub deliver_read-answer-requires : goal.deliver_read-answer-requires
-deliver_read-answer-requires c = search delivering
+pub returns-in_err-deliver_next : goal.returns-in_err-deliver_next
+returns-in_err-deliver_next c = let p = err_from_is_err_and c.from_residual.result c.from_residual.ensures.1 in rw (p.1, p.2) (search (opening, c.in_err-deliver_next.ensures))
 
-pub returns-in_default : goal.returns-in_default
-returns-in_default c =
-    body_unread _ _ _ (unread _ _ (search delivering) _ c.read_op-read.ensures _ (c.in_default.is ∙ c.in-Refused.is))
-
-pub read_op-read-requires : goal.read_op-read-requires
-read_op-read-requires c = search opening
-
-pub returns-in_default-read : goal.returns-in_default-read
-returns-in_default-read c = search opening
-
-pub passed-requires : goal.passed-requires
-passed-requires c = search opening
-
-pub shape_of-buf : goal.shape_of-buf
-shape_of-buf c = search opening
+pub end_of-requires : goal.end_of-requires
+end_of-requires c = end_asks _ (body_sound _ _ _ _ c.deliver_next.ensures c.requires)
 
 pub returns : goal.returns
-returns c = search opening
+returns c = body_passed _ _ _ _ c.in_ok-deliver_next.ensures _ c.end_of.ensures

@@ -4,4 +4,4 @@ use Rattle.codec.proofs.word.word_at.Goals as goal
 
 pub returns : goal.returns
 unfolding word_at
-returns c = c.join.ensures
+returns c = c.from_be_bytes.ensures

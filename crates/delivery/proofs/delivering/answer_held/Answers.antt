@@ -4,9 +4,3 @@ use Rattle.delivery.proofs.delivering.answer_held.Goals as goal
 
 pub place-at-requires : goal.place-at-requires
 place-at-requires c = search delivering
-
-pub returns-then-same_op : goal.returns-then-same_op
-returns-then-same_op c = search delivering
-
-pub returns : goal.returns
-returns c = search delivering

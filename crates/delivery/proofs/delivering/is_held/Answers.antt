@@ -6,10 +6,10 @@ use Rattle.delivery.proofs.delivering.is_held.Goals as goal
 
 pub returns : goal.returns
 unfolding count_in
-returns c = rw c.widen-replica.ensures.0
+returns c = rw c.from.ensures
 
 pub overflow_sub-result : goal.overflow_sub-result
 overflow_sub-result c = omega (arith, replica_low)
 
-pub bounds-counts-replica : goal.bounds-counts-replica
-bounds-counts-replica c = omega (arith, replica_high)
+pub bounds-counts-from : goal.bounds-counts-from
+bounds-counts-from c = omega (arith, replica_high)

@@ -8,9 +8,6 @@ end_of-place-requires c = search appending
 pub end_of-end-requires : goal.end_of-end-requires
 end_of-end-requires c = search appending
 
-pub with_more-requires : goal.with_more-requires
-with_more-requires c = search appending
-
 pub put_ops-requires : goal.put_ops-requires
 put_ops-requires c = (search appending, search appending, search appending, search appending)
 

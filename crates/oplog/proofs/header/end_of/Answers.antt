@@ -2,9 +2,6 @@
 use Rattle.oplog.proofs.HeaderLaws.{heading}
 use Rattle.oplog.proofs.header.end_of.Goals as goal
 
-pub overflow_mul-result : goal.overflow_mul-result
-overflow_mul-result c = search heading
-
 pub overflow_add-result : goal.overflow_add-result
 overflow_add-result c = search heading
 

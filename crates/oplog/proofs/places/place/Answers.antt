@@ -5,9 +5,6 @@ use Rattle.oplog.proofs.places.place.Goals as goal
 pub start_at-requires : goal.start_at-requires
 start_at-requires c = search placing
 
-pub overflow_mul-result : goal.overflow_mul-result
-overflow_mul-result c = search placing
-
 pub overflow_add-result : goal.overflow_add-result
 overflow_add-result c = search placing
 

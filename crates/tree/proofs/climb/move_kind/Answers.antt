@@ -1,18 +1,12 @@
 -- `tree::climb::move_kind` meets its contract.
-use Rattle.tree.proofs.ClimbLaws.{climbing}
+use Rattle.tree.proofs.ClimbLaws.{move_cycle, move_down, move_up}
 use Rattle.tree.proofs.climb.move_kind.Goals as goal
 
-pub climb_to-climbed-requires : goal.climb_to-climbed-requires
-climb_to-climbed-requires c = search climbing
+pub returns-in-Met : goal.returns-in-Met
+returns-in-Met c = move_cycle _ _ _ _ c.in-Met.ensures
 
-pub returns-then-climbed : goal.returns-then-climbed
-returns-then-climbed c = search climbing
+pub returns-then-depth-depth_of : goal.returns-then-depth-depth_of
+returns-then-depth-depth_of c = move_up _ _ _ _ c.in-Missed.ensures _ c.depth_of.ensures c.if-depth-depth_of.true
 
-pub depth_of-requires : goal.depth_of-requires
-depth_of-requires c = search climbing
-
-pub returns-then-climbed-depth_of : goal.returns-then-climbed-depth_of
-returns-then-climbed-depth_of c = search climbing
-
-pub returns : goal.returns
-returns c = search climbing
+pub returns-else-depth-depth_of : goal.returns-else-depth-depth_of
+returns-else-depth-depth_of c = move_down _ _ _ _ c.in-Missed.ensures _ c.depth_of.ensures c.if-depth-depth_of.false

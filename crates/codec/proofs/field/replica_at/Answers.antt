@@ -1,6 +1,0 @@
--- `codec::field::replica_at` meets its contract.
-use Rattle.codec.proofs.AccessLaws.{fields}
-use Rattle.codec.proofs.field.replica_at.Goals as goal
-
-pub returns : goal.returns
-returns c = search fields
