@@ -124,14 +124,12 @@ pub(crate) fn plan(
     let held = counts_of(file, WIDTH);
     let mut marks = [0u8; SLOTS];
     mark_ops(file, &mut marks);
-    let mut parents = [0u16; SLOTS];
-    let mut outcomes = [0u8; SLOTS];
-    replay_all(file, &mut parents, &mut outcomes, WIDTH);
+    let mut tables = replay_all(file, WIDTH);
     plan_all(
         file,
         held,
         &marks,
-        &mut parents,
+        &mut tables.parents,
         replica,
         nodes,
         parent,

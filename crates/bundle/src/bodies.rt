@@ -4,9 +4,9 @@ ghost use Rattle.rules.specs.Bundle.{ops_beyond};
 ghost use Rattle.rules.specs.File.{log_of, width};
 ghost use Rattle.bundle.specs.Bodies.{Copied, copied, BodyRoom, BodiesRoom, WholeRoom, body_of, laid_over, output, bodies_along};
 
-use codec::{widen, widen16};
+use codec::widen;
 use oplog::{counts_of, put_front};
-use schedule::{OPS, write_order};
+use schedule::{Entry, schedule_of};
 use soundness::WIDTH;
 use tree::{slot_place, slot_replica, slot_sequence};
 
@@ -36,16 +36,16 @@ fn write_body(file: &[u8], counts: [u8; 8], slot: usize, out: &mut [u8], at: usi
     at + WIDTH
 }
 
-// Writes the ops beyond the other's counts along a table of n slots.
-fn write_along(file: &[u8], counts: [u8; 8], order: &[u16], n: usize, out: &mut [u8])
-    requires { BodiesRoom file.now counts order.now n out.old }
+// Writes the ops beyond the other's counts along entries.
+#[tactic(auto, using(crate::proofs::BodyCases::along_starts, crate::proofs::BodyCases::body_asks, crate::proofs::BodyCases::along_on, crate::proofs::BodyCases::along_ends))]
+fn write_along(file: &[u8], counts: [u8; 8], entries: &[Entry], out: &mut [u8])
+    requires { BodiesRoom file.now counts entries.now out.old }
     ensures { out.new
-        ≡ bodies_along (log_of width file.now) counts order.now 0 n }
+        ≡ bodies_along (log_of width file.now) counts entries.now }
 {
     let mut at = 0;
-    for i in 0..n {
-        let slot = widen16(order[i]);
-        at = write_body(file, counts, slot, out, at);
+    for entry in entries {
+        at = write_body(file, counts, entry.slot as usize, out, at);
     }
 }
 
@@ -54,9 +54,7 @@ pub(crate) fn write_bodies(file: &[u8], counts: [u8; 8], out: &mut [u8])
     requires { WholeRoom file.now counts out.old }
     ensures { out.new ≡ concat (ops_beyond (log_of width file.now) counts) }
 {
-    let mut order = [0u16; OPS];
-    let mut times = [0u16; OPS];
     let held = counts_of(file, WIDTH);
-    let n = write_order(file, held, &mut order, &mut times, WIDTH);
-    write_along(file, counts, &order, n, out);
+    let schedule = schedule_of(file, held, WIDTH);
+    write_along(file, counts, schedule.entries(), out);
 }

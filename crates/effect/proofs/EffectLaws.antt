@@ -1,7 +1,8 @@
 -- The effect of an op, as the code has it.
 use mathlib.Core.Path.{◌≡◌, sym, ap, ◌∙◌}
 use mathlib.Core.Logic.{inr}
-use mathlib.Core.Bool.{true, false}
+use mathlib.Core.Bool.{true}
+use borrow.Author.Tests.{le-leb}
 use mathlib.Core.List.{List}
 use Prim.Native.Nat.{ℕ, ◌+◌, ◌*◌, ◌-◌, ◌/◌, ◌%◌, ◌≤◌, ◌<◌}
 use native.Mathlib.Omega.{arith}
@@ -13,12 +14,13 @@ use Rattle.rules.specs.Replay.{State, outcome_of, outcome_slot, step}
 use Rattle.rules.specs.File.{op_at, log_of}
 use Rattle.rules.specs.Log.{structural}
 use Rattle.rules.proofs.SlotLaws.{slot_below}
-use Rattle.rules.proofs.KnownLaws.{names_add, names_node, known_reads}
+use Rattle.rules.proofs.KnownLaws.{kinds, names_add, names_node, known_reads}
 use Rattle.tree.specs.Slots.{InSlot, op_in, replica_in, sequence_in, slot_place}
 use Rattle.rules.proofs.StructureLaws.{HeldOp}
 use Rattle.oplog.proofs.FieldLaws.{SameFields, fields_at, small}
 use Rattle.schedule.specs.declared.entries.Entry.{Entry}
 use Rattle.schedule.specs.Schedule.{stamped_of}
+use Rattle.codec.specs.Kind.{is_kind}
 use Rattle.effect.specs.Effects.{Applicable, Slotted, hung, noted, outcome_by}
 use Rattle.oplog.proofs.HeldLaws.{held_op}
 
@@ -70,28 +72,36 @@ module _ (w : ℕ) (f : List ℕ) (e : Entry) (x : Applicable w f e) where
   op = op_in (log_of w f) e.slot
 
   -- what the code has read are the op's fields
-  module _ (at : ℕ) (is : at ≡ slot_place w f e.slot) (n j : ℕ) (hn : n ≡ node_of (drop at f)) (hj : j ≡ slot_of n) where
+  module _ (at : ℕ) (is : at ≡ slot_place w f e.slot) where
     fields : SameFields op (drop at f)
     unfolding op_in
     fields = fields_at w f (replica_in e.slot) (sequence_in e.slot) x.in_slot.in_file at is
 
-    node_so : n ≡ node_of op
-    node_so = hn ∙ sym fields.node
+    -- its kind is one of the four
+    pub kind_known : (k : ℕ) → k ≡ kind_of (drop at f) → is_kind k ≡ true
+    unfolding op_in
+    kind_known k hk =
+        let b = kinds op (held_op w f x.is_structural (replica_in e.slot) (sequence_in e.slot) x.in_slot.in_file).formed in
+        rw (hk, ← fields.kind, le-leb 1 (kind_of op) b.0, le-leb (kind_of op) 4 b.1)
 
-    pub node_slotted : Slotted n j
-    node_slotted = record {
-      small = rw node_so (node_small w f e.slot x.is_structural x.in_slot);
-      inside = rw (hj, node_so) (named_below w f e.slot x.is_structural x.in_slot);
-    }
+    module _ (n j : ℕ) (hn : n ≡ node_of (drop at f)) (hj : j ≡ slot_of n) where
+      node_so : n ≡ node_of op
+      node_so = hn ∙ sym fields.node
 
-    module _ (k m u : ℕ) (hk : k ≡ kind_of (drop at f)) (hm : m ≡ parent_of (drop at f))
-        (st : State) (hu : u ≡ outcome_by st k n m j e.time) where
-      pub applied : (after : State) → after ≡ noted (hung st k u j m) k u j e.time
-          → record { parents = after.parents; outcomes = set after.outcomes e.slot u; placed = after.placed }
-          ≡ step st (stamped_of (log_of w f) e)
-      unfolding step outcome_of outcome_by hung noted is_add is_move stamped_of
-      applied after h =
-          let ek : k ≡ kind_of op = hk ∙ sym fields.kind in
-          let em : m ≡ parent_of op = hm ∙ sym fields.parent in
-          let g : j ≡ slot_of (node_of op) = hj ∙ ap slot_of node_so in
-          rw (h, hu, ek, em, g, node_so, slot_own w f e.slot x.is_structural x.in_slot)
+      pub node_slotted : Slotted n j
+      node_slotted = record {
+        small = rw node_so (node_small w f e.slot x.is_structural x.in_slot);
+        inside = rw (hj, node_so) (named_below w f e.slot x.is_structural x.in_slot);
+      }
+
+      module _ (k m u v : ℕ) (hk : k ≡ kind_of (drop at f)) (hm : m ≡ parent_of (drop at f)) (st : State)
+          (hu : u ≡ outcome_by st k n m j e.time) (hv : v ≡ u) where
+        pub applied : (after : State) → after ≡ noted (hung st k u j m) k u j e.time
+            → record { parents = after.parents; outcomes = set after.outcomes e.slot v; placed = after.placed }
+            ≡ step st (stamped_of (log_of w f) e)
+        unfolding step outcome_of outcome_by hung noted is_add is_move stamped_of
+        applied after h =
+            let ek : k ≡ kind_of op = hk ∙ sym fields.kind in
+            let em : m ≡ parent_of op = hm ∙ sym fields.parent in
+            let g : j ≡ slot_of (node_of op) = hj ∙ ap slot_of node_so in
+            rw (h, hv, hu, ek, em, g, node_so, slot_own w f e.slot x.is_structural x.in_slot)

@@ -5,6 +5,8 @@ use Rattle.rules.specs.Tree.{slots, no_parent, at_or_below}
 use Rattle.rules.specs.Replay.{State}
 use Rattle.tree.specs.Slots.{InSlot}
 use Rattle.schedule.specs.declared.entries.Entry.{Entry}
+use Rattle.effect.specs.declared.tables.Outcome.{Outcome}
+use Rattle.effect.specs.declared.tables.Outcome.TheVariants.{Applied, Placed, Cycle}
 use Rattle.effect.specs.declared.tables.Tables as code
 
 -- the tables as a state
@@ -22,6 +24,12 @@ pub record Applicable (w : ℕ) (f : List ℕ) (e : Entry) : Type 0 where
   pub in_slot : InSlot w f e.slot
 
 ---- what the effects are
+
+-- the document's numbers of the outcomes
+abbrev pub outcome_number : Outcome → ℕ
+outcome_number Applied = 1
+outcome_number Placed = 2
+outcome_number Cycle = 3
 
 -- the effects by the fields of an op: its outcome; an applied add or move hangs its node; an applied move is noted with its time
 abbrev pub moves : ℕ → Bool

@@ -1,11 +1,12 @@
-ghost use Rattle.std.specs.Prelude.{◌≡◌, ◌<◌};
+ghost use Rattle.std.specs.Prelude.{◌≡◌, ◌<◌, true};
+ghost use Rattle.codec.specs.Kind.{is_kind, number};
 ghost use Rattle.rules.specs.File.{log_of};
 ghost use Rattle.rules.specs.Replay.{step};
 ghost use Rattle.rules.specs.Tree.{slots};
 ghost use Rattle.schedule.specs.Schedule.{stamped_of};
-ghost use Rattle.effect.specs.Effects.{Applicable, Slotted, state_of, outcome_by, hung, noted};
+ghost use Rattle.effect.specs.Effects.{Applicable, Slotted, state_of, outcome_by, outcome_number, hung, noted};
 
-use codec::{kind_at, node_at, parent_at};
+use codec::{Kind, NoKind, kind_at, node_at, parent_at};
 use schedule::Entry;
 use tree::{Climbed, SLOTS, climb_to, slot_of, slot_place};
 
@@ -18,59 +19,95 @@ pub struct Tables {
     pub placed: [u16; SLOTS],
 }
 
+// What becomes of an op: it is applied, or it is a move that is passed over, since an applied move of
+// its timestamp has placed its node, or since its new parent is the node or lies below it.
+#[derive(Clone, Copy, Debug, PartialEq, Eq)]
+enum Outcome {
+    Applied,
+    Placed,
+    Cycle,
+}
+
+// The document's number.
+impl From<Outcome> for u8 {
+    ghost from_gives = { λ outcome n. n ≡ outcome_number outcome };
+
+    fn from(outcome: Outcome) -> u8 {
+        match outcome {
+            Outcome::Applied => 1,
+            Outcome::Placed => 2,
+            Outcome::Cycle => 3,
+        }
+    }
+}
+
+// The kind of an op of a structurally sound file.
+fn known_kind(byte: u8) -> Kind
+    requires { is_kind byte ≡ true }
+    ensures { number result ≡ byte }
+{
+    match Kind::try_from(byte) {
+        Ok(kind) => kind,
+        Err(NoKind) => unreachable!(),
+    }
+}
+
 impl Tables {
     // The outcome of an op by its fields.
     #[tactic(auto, unfolding(crate::specs::Effects::outcome_by, rules::specs::Tree::climb_to))]
-    fn outcome_of(&self, kind: u8, node: u16, parent: u16, slot: usize, time: u16) -> u8
+    fn outcome_of(&self, kind: Kind, node: u16, parent: u16, slot: usize, time: u16) -> Outcome
         requires { Slotted node slot }
-        ensures { result ≡ outcome_by (state_of self.now) kind node parent slot time }
+        ensures { outcome_number result
+            ≡ outcome_by (state_of self.now) (number kind) node parent slot time }
     {
         match kind {
-            3 | 4 => {
+            Kind::Add | Kind::Remove => Outcome::Applied,
+            Kind::Upward | Kind::Downward => {
                 if self.placed[slot] == time {
-                    return 2;
+                    return Outcome::Placed;
                 }
                 match climb_to(&self.parents, parent, node) {
-                    Climbed::Met(_) => 3,
-                    Climbed::Missed(_) => 1,
+                    Climbed::Met(_) => Outcome::Cycle,
+                    Climbed::Missed(_) => Outcome::Applied,
                 }
             }
-            0..=2 | 5..=255 => 1,
         }
     }
 
     // Hangs the node of an applied add or move.
     #[tactic(auto, unfolding(crate::specs::Effects::hung))]
-    fn hang(&mut self, kind: u8, outcome: u8, slot: usize, parent: u16)
+    fn hang(&mut self, kind: Kind, outcome: Outcome, slot: usize, parent: u16)
         requires { slot < slots }
-        ensures { state_of self.new ≡ hung (state_of self.old) kind outcome slot parent }
+        ensures { state_of self.new
+            ≡ hung (state_of self.old) (number kind) (outcome_number outcome) slot parent }
     {
-        if outcome != 1 {
+        if outcome != Outcome::Applied {
             return;
         }
         match kind {
-            1 | 3 | 4 => self.parents[slot] = parent,
-            0 | 2 | 5..=255 => {}
+            Kind::Add | Kind::Upward | Kind::Downward => self.parents[slot] = parent,
+            Kind::Remove => {}
         }
     }
 
-    #[tactic(auto, unfolding(crate::specs::Effects::noted))]
     // Notes the time of an applied move, so that a second move of this time finds its node placed.
-    fn note_time(&mut self, kind: u8, outcome: u8, slot: usize, time: u16)
+    #[tactic(auto, unfolding(crate::specs::Effects::noted))]
+    fn note_time(&mut self, kind: Kind, outcome: Outcome, slot: usize, time: u16)
         requires { slot < slots }
-        ensures { state_of self.new ≡ noted (state_of self.old) kind outcome slot time }
+        ensures { state_of self.new
+            ≡ noted (state_of self.old) (number kind) (outcome_number outcome) slot time }
     {
-        if outcome != 1 {
+        if outcome != Outcome::Applied {
             return;
         }
         match kind {
-            3 | 4 => self.placed[slot] = time,
-            0..=2 | 5..=255 => {}
+            Kind::Upward | Kind::Downward => self.placed[slot] = time,
+            Kind::Add | Kind::Remove => {}
         }
     }
 
-    #[tactic(auto, using(crate::proofs::EffectLaws::node_slotted, crate::proofs::EffectLaws::own_below, crate::proofs::EffectLaws::applied))]
     // Applies the op of an entry, and notes its outcome.
+    #[tactic(auto, using(crate::proofs::EffectLaws::node_slotted, crate::proofs::EffectLaws::own_below, crate::proofs::EffectLaws::applied))]
     pub fn apply(&mut self, file: &[u8], entry: Entry, width: usize)
         requires { Applicable width file.now entry }
         ensures { state_of self.new
@@ -78,13 +115,13 @@ impl Tables {
     {
         let slot = entry.slot as usize;
         let at = slot_place(file, slot, width);
-        let kind = kind_at(file, at);
+        let kind = known_kind(kind_at(file, at));
         let node = node_at(file, at);
         let parent = parent_at(file, at);
         let named = slot_of(node);
         let outcome = self.outcome_of(kind, node, parent, named, entry.time);
         self.hang(kind, outcome, named, parent);
         self.note_time(kind, outcome, named, entry.time);
-        self.outcomes[slot] = outcome;
+        self.outcomes[slot] = u8::from(outcome);
     }
 }

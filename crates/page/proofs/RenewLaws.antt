@@ -2,15 +2,14 @@
 use mathlib.Core.Path.{◌≡◌, refl, sym, ap, ap₂, ◌∙◌}
 use mathlib.Core.Bool.{Bool, true, false}
 use mathlib.Core.List.{List, [], ◌∷◌, ◌++◌, append_assoc, map, map-append, foldl}
-use Prim.Native.Nat.{ℕ, zero, suc, ◌-◌, ◌≤◌, ◌<◌}
+use Prim.Native.Nat.{ℕ, zero, suc, ◌+◌, ◌-◌, ◌≤◌, ◌<◌}
 use native.Mathlib.Omega.{arith}
 use lib.ListN.{drop, get_or, length, length-append, length-drop, length-map, length-replicate, replicate, set, take}
 use lib.Seq.{drop-append-le, length-take-le, take-append-le}
-use borrow.Author.Rules.{rules}
 use borrow.Author.Tests.{le-leb}
 use Rattle.lists.specs.Lists.{filter, sum, up_from}
-use Rattle.lists.proofs.ListLaws.{drop_replicate, map_drop, map_take}
-use Rattle.lists.proofs.RangeLaws.{map_get_d, map_up_from}
+use Rattle.lists.proofs.ListLaws.{map_at, map_drop, map_map, map_take}
+use Rattle.std.proofs.lemmas.List.{get_or-take, set_at, take_all, take-append-drop, take_more}
 use Rattle.rules.specs.Op.{Vector, count_in, counted}
 use Rattle.rules.specs.File.{Log, counts_of, header_counts, log_of, width}
 use Rattle.rules.specs.Log.{covered, sound_header, structural}
@@ -20,38 +19,36 @@ use Rattle.rules.specs.Tree.{most_ops, no_parent}
 use Rattle.rules.proofs.CausalLaws.{Le, le_within, total, total_sum, within_le, within_length}
 use Rattle.rules.proofs.FileLaws.{counts_at, counts_log_of}
 use Rattle.rules.proofs.IssueLaws.{counts_eight}
+use Rattle.rules.proofs.StepLaws.{Full, full_first, full_run}
 use Rattle.rules.proofs.StructureLaws.{GoodLog, counts_covered, structural_good}
-use Rattle.oplog.specs.Places.{Held}
-use Rattle.oplog.proofs.HeldLaws.{whole_closed, whole_held}
 use Rattle.order.specs.Undo.{FirstNew, Undoable, no_op, replay_keeping, step_keeping, unjudged}
 use Rattle.order.proofs.LevelLaws.{Cut, whole_cut}
 use Rattle.order.proofs.OnceLaws.{ordered_length}
 use Rattle.page_rules.proofs.PageLaws.{counted_back, old_ordered, place_within}
 use Rattle.order.proofs.PartLaws.{in_cut, ordered_part}
 use Rattle.order.proofs.UndoLaws.{replay_keeping_law}
-use Rattle.tree.specs.Slots.{replica_in, sequence_in}
-use Rattle.replay.specs.Tables.{op_along}
-use Rattle.replay.proofs.CutLaws.{whole_header, whole_sound}
-use Rattle.schedule.specs.Schedule.{Schedule, scheduled}
+use Rattle.tree.specs.Slots.{op_in, replica_in, sequence_in}
+use Rattle.schedule.specs.declared.entries.Entry.{Entry}
+use Rattle.schedule.specs.Schedule.{entry_of, scheduled, stamped_of}
 use Rattle.schedule.specs.Level.{SchedulableCut}
-use Rattle.schedule.proofs.OrderLaws.{Entered, count_is, entered, few_ops}
-use Rattle.undo.specs.Tables.{AllSized, OpThere, TimedSlotWalk, ops_along, slot_counted, timed_along, undoable}
+use Rattle.schedule.proofs.OrderLaws.{entries_are, few_ops}
+use Rattle.effect.specs.Effects.{Applicable}
+use Rattle.replay.specs.Tables.{Along, no_entry}
+use Rattle.replay.proofs.CutLaws.{along_asks, whole_asks, whole_header, whole_sound}
+use Rattle.undo.specs.Tables.{ops_along, slot_counted, timed_along}
 use Rattle.undo.specs.Carried.{Carriable, FirstBeyond, Schedules, Slots}
-use Rattle.undo.proofs.CarryLaws.{ops_are, timed_are}
-use Rattle.undo.proofs.KeepLaws.{counted_slot, kept_replay, kept_unjudged, slot_asks}
+use Rattle.undo.proofs.CarryLaws.{ops_are}
+use Rattle.undo.proofs.KeepLaws.{counted_slot, is_slot}
 use Rattle.page_tables.specs.Tables.{Comparable, FillablePage, order_without}
-use Rattle.page.specs.Renewing.{OneMore, Renewable, Took}
-use Rattle.rules.specs.Tree as trees
+use Rattle.page.specs.Renewing.{OneMore, Renewable, Took, slot_in_entry}
 
 ---- the tables of a replay
 
-state_parents : (p o l t b : List ℕ) (log : Log) (cut : Vector) → undoable p o l t b ≡ replay_keeping log cut → p ≡ (replay log cut).parents
-state_parents p o l t b log cut is =
-    ap (λ (k : Undoable). k.state.parents) is ∙ ap (λ (st : State). st.parents) (replay_keeping_law log cut)
+state_parents : (k : Undoable) (log : Log) (cut : Vector) → k ≡ replay_keeping log cut → k.state.parents ≡ (replay log cut).parents
+state_parents k log cut is = ap (λ (k : Undoable). k.state.parents) is ∙ ap (λ (st : State). st.parents) (replay_keeping_law log cut)
 
-state_outcomes : (p o l t b : List ℕ) (log : Log) (cut : Vector) → undoable p o l t b ≡ replay_keeping log cut → o ≡ (replay log cut).outcomes
-state_outcomes p o l t b log cut is =
-    ap (λ (k : Undoable). k.state.outcomes) is ∙ ap (λ (st : State). st.outcomes) (replay_keeping_law log cut)
+state_outcomes : (k : Undoable) (log : Log) (cut : Vector) → k ≡ replay_keeping log cut → k.state.outcomes ≡ (replay log cut).outcomes
+state_outcomes k log cut is = ap (λ (k : Undoable). k.state.outcomes) is ∙ ap (λ (st : State). st.outcomes) (replay_keeping_law log cut)
 
 ---- the tables of the order
 
@@ -79,7 +76,32 @@ padded_without i ys h u =
       append_assoc,
     ) (ap (λ zs. take i ys ++ (drop (suc i) ys ++ zs)) (zeros_more (most_ops - length ys)))
 
-module _ (f : List ℕ) (old all : Vector) (s times : List ℕ) (n : ℕ) (ls lp lo : List ℕ) (x : Renewable f old all s times n ls lp lo) where
+-- the loop that writes the slots of entries: i of them are written
+pub slots_more : (es : List Entry) (i : ℕ) (d : Entry) → i < length es → length es ≤ most_ops → (s : List ℕ)
+    → s ≡ padded (map slot_in_entry (take i es)) → set s i (get_or es i d).slot ≡ padded (map slot_in_entry (take (i + 1) es))
+unfolding padded
+slots_more es i d h few s is =
+    let ys : List ℕ = map slot_in_entry (take i es) in
+    let long : length ys ≡ i = length-map (take i es) slot_in_entry ∙ length-take-le i es (omega arith) in
+    let left : most_ops - length ys ≡ suc (most_ops - (length ys + 1)) = omega (arith, long) in
+    rw (is, left, set_at ys 0 (replicate (most_ops - (length ys + 1)) 0) (get_or es i d).slot i long, take_more es i d h, map-append,
+      length-append, append_assoc)
+
+pub slots_none : replicate most_ops 0 ≡ padded (map slot_in_entry [])
+unfolding padded
+slots_none = refl
+
+module _ (f : List ℕ) (old : Vector) (g : OneMore f old) where
+  pub file_header : 32 ≤ length f
+  file_header = whole_header width f g.is_structural
+
+  pub file_sound : sound_header width f ≡ true
+  file_sound = whole_sound width f g.is_structural
+
+  pub order_asks : (all : Vector) → all ≡ header_counts f → SchedulableCut width f all
+  order_asks all is = whole_asks width f all is g.is_structural (omega arith)
+
+module _ (f : List ℕ) (old all : Vector) (es : List Entry) (ls lp lo : List ℕ) (x : Renewable f old all es ls lp lo) where
   abbrev log : Log
   log = log_of width f
 
@@ -89,8 +111,8 @@ module _ (f : List ℕ) (old all : Vector) (s times : List ℕ) (n : ℕ) (ls lp
   good : GoodLog log
   good = structural_good width f st
 
-  held_all : Held width f all
-  held_all = rw x.counts (whole_held width f st (omega arith))
+  cut : SchedulableCut width f all
+  cut = order_asks f old x.grown all x.counts
 
   counts_all : counts_of log ≡ all
   counts_all = counts_log_of width f ∙ sym x.counts
@@ -98,70 +120,70 @@ module _ (f : List ℕ) (old all : Vector) (s times : List ℕ) (n : ℕ) (ls lp
   abbrev xs : List Stamped
   xs = ordered log all
 
-  entry : (i : ℕ) → i < n → Entered width f all s times i
-  entry = entered width f all _ _ s times n x.is_scheduled st held_all
-
-  count : n ≡ length xs
-  count = count_is width f all _ _ s times n x.is_scheduled
-
-  few : n ≤ most_ops
-  few = omega (arith, count, few_ops width f st all held_all (rw x.counts (whole_closed width f st)))
-
-  table : s ≡ padded (order_of log all)
-  unfolding scheduled padded order_of
-  table = ap (λ (y : Schedule). y.order) x.is_scheduled ∙ rw (drop_replicate 0 (length xs) most_ops, length-map)
-
-  table_long : length s ≡ most_ops
-  unfolding padded order_of
-  table_long = rw (table, length-append, length-replicate, length-map) (omega (arith, few, count))
-
-  times_long : length times ≡ most_ops
+  count : length es ≡ length xs
   unfolding scheduled
-  times_long =
-      rw (ap (λ (y : Schedule). y.times) x.is_scheduled, length-append, length-map, length-drop, length-replicate)
-      (omega (arith, few, count))
+  count = ap length x.is_scheduled ∙ length-map xs entry_of
 
-  named : (i : ℕ) → i < n → OpThere width f (get_or s i 0)
-  named i h = record { is_structural = st; in_slot = (entry i h).in_slot }
+  pub few : length es ≤ most_ops
+  few = omega (arith, count, few_ops width f st all cut.held cut.is_closed)
 
-  all_counted : (k : ℕ) → k < n → slot_counted all (get_or s k 0) ≡ true
+  -- the slots of all ops
+  slots_are : map slot_in_entry es ≡ order_of log all
+  unfolding scheduled order_of entry_of
+  slots_are = rw x.is_scheduled (map_map slot_in_entry entry_of xs)
+
+  table_long : (s : List ℕ) → s ≡ padded (map slot_in_entry es) → length s ≡ most_ops
+  unfolding padded
+  table_long s is = rw (is, length-append, length-replicate, length-map) (omega (arith, few))
+
+  pub along : Along width f es
+  along = along_asks width f all cut es x.is_scheduled
+
+  applicable : (i : ℕ) → i < length es → Applicable width f (get_or es i no_entry)
+  applicable i h = record { is_structural = st; in_slot = along.in_slots i no_entry h }
+
+  stamped_is : map (stamped_of log) es ≡ xs
+  stamped_is = rw x.is_scheduled (entries_are width f all st cut.held)
+
+  op_at_place : (i : ℕ) → i < length es → op_in log (get_or es i no_entry).slot ≡ (get_or xs i no_op).op
+  unfolding stamped_of
+  op_at_place i h =
+      ap (λ (y : Stamped). y.op)
+      (sym (map_at (stamped_of log) es i no_op no_entry h) ∙ ap (λ (ys : List Stamped). get_or ys i no_op) stamped_is)
+
+  all_counted : (k : ℕ) → k < length es → slot_counted all (get_or es k no_entry).slot ≡ true
   unfolding slot_counted
   all_counted k h =
-      let y = (entry k h).in_slot.in_file in
-      le-leb (sequence_in (get_or s k 0)) _ (rw (x.counts, counts_at f (replica_in (get_or s k 0)) y.low y.high) y.last)
+      let i : ℕ = (get_or es k no_entry).slot in
+      let y = (along.in_slots k no_entry h).in_file in
+      le-leb (sequence_in i) _ (rw (x.counts, counts_at f (replica_in i) y.low y.high) y.last)
 
-  pub slots_ask : Slots s n
-  slots_ask = record { order_long = omega (arith, few, table_long); each = λ i h. slot_asks width f (get_or s i 0) (named i h) }
+  pub slots_ask : Slots es
+  slots_ask = λ i d h. is_slot width f (get_or es i d) (record { is_structural = st; in_slot = along.in_slots i d h })
 
-  walk : (p o l t b : List ℕ) → AllSized p o l t b → TimedSlotWalk width f s times n p o l t b
-  walk p o l t b k = record {
-    walk = record {
-      is_structural = st;
-      few = few;
-      order_long = omega (arith, few, table_long);
-      in_slots = λ i h. (entry i h).in_slot;
-      kept = k;
-    };
-    times_long = omega (arith, few, times_long);
-  }
-
-  schedules : Schedules width f s times n all
-  unfolding covered op_along
+  schedules : Schedules width f es all
+  unfolding covered
   schedules = record {
     is_covered = le_within all (counts_of log) (λ r a c. omega (arith, ap (λ (v : Vector). count_in v r) counts_all));
-    ops =
-        ap (λ (m : ℕ). map (op_along log s times) (up_from 0 m)) count
-        ∙ map_up_from (op_along log s times) (λ i. get_or xs (i - 0) no_op) (length xs) 0 (λ i a c.
-        let e = entry i (omega (arith, count)) in
-        let z : i - 0 ≡ i = omega arith in
-        rw (z, e.op, e.time))
-        ∙ map_get_d no_op xs 0;
+    ops = stamped_is;
   }
 
-  ---- the judgement of the old ops
+  -- tables of a judgement
+  fill_so : (v : Vector) (judged : Undoable) → judged ≡ replay_keeping log v → (s : List ℕ) → s ≡ padded (map slot_in_entry es)
+      → FillablePage ls lp lo s judged.state.parents judged.state.outcomes
+  unfolding replay
+  fill_so v judged is s is' =
+      let full : Full (replay log v) = full_run (ordered log v) start full_first in
+      record {
+        lent = x.lent;
+        judged = record {
+          order = table_long s is';
+          parents = rw (state_parents judged log v is) full.parents_full;
+          outcomes = rw (state_outcomes judged log v is) full.outcomes_full;
+        };
+      }
 
-  pub judge_asks : (p o l t b : List ℕ) → undoable p o l t b ≡ unjudged → TimedSlotWalk width f s times n p o l t b
-  judge_asks p o l t b is = walk p o l t b (kept_unjudged p o l t b is)
+  ---- the judgement of the old ops
 
   old_le : Le old all
   old_le = rw x.counts (within_le old (header_counts f) x.grown.inside)
@@ -183,9 +205,9 @@ module _ (f : List ℕ) (old all : Vector) (s times : List ℕ) (n : ℕ) (ls lp
         ap sum (counts_log_of width f),
       )
 
-  count_old : suc (sum old) ≡ n
+  count_old : suc (sum old) ≡ length es
   count_old =
-      let m : n ≡ length (ordered log (counts_of log)) = count ∙ rw counts_all in
+      let m : length es ≡ length (ordered log (counts_of log)) = count ∙ rw counts_all in
       omega (
         arith,
         m,
@@ -195,117 +217,99 @@ module _ (f : List ℕ) (old all : Vector) (s times : List ℕ) (n : ℕ) (ls lp
         total_sum old x.grown.eight,
       )
 
-  module _ (p o l t b p₀ o₀ l₀ t₀ b₀ : List ℕ) (none : undoable p₀ o₀ l₀ t₀ b₀ ≡ unjudged)
-      (is : undoable p o l t b ≡ foldl step_keeping (undoable p₀ o₀ l₀ t₀ b₀) (timed_along log old s times 0 n)) where
-    judged_old : undoable p o l t b ≡ replay_keeping log old
-    unfolding replay_keeping
+  module _ (none judged : Undoable) (first_is : none ≡ unjudged) (is : judged ≡ foldl step_keeping none (timed_along log old es)) where
+    judged_old : judged ≡ replay_keeping log old
+    unfolding replay_keeping timed_along
     judged_old =
-        is ∙ rw (none, timed_are width f s times 0 n all schedules (omega arith) old)
+        is ∙ rw (first_is, stamped_is)
         (ap (foldl step_keeping unjudged) (sym (ordered_part log good old all schedules.is_covered old_le)))
 
-    module _ (i : ℕ) (first : FirstBeyond old s n i) where
-      counted_at : (k : ℕ) → k < n → slot_counted old (get_or s k 0) ≡ counted old (get_or (ordered log (counts_of log)) k no_op).op
-      counted_at k h = sym (counted_slot width f (get_or s k 0) (named k h) old) ∙ rw ((entry k h).op, counts_all)
+    module _ (i : ℕ) (first : FirstBeyond old es i) where
+      counted_at : (k : ℕ) → k < length es
+          → slot_counted old (get_or es k no_entry).slot ≡ counted old (get_or (ordered log (counts_of log)) k no_op).op
+      counted_at k h = sym (counted_slot width f (get_or es k no_entry) (applicable k h) old) ∙ rw (op_at_place k h, counts_all)
 
       first_new : FirstNew log old i
       first_new =
-          let m : length (ordered log (counts_of log)) ≡ n = rw (counts_all) (sym count) in
+          let m : length (ordered log (counts_of log)) ≡ length es = rw (counts_all) (sym count) in
           record {
             inside = omega (arith, first.inside);
             front = λ k h. sym (counted_at k (omega (arith, first.inside))) ∙ first.front k h;
             here = λ h. sym (counted_at i (omega arith)) ∙ first.here (omega arith);
           }
 
-      inside : i < n
+      inside : i < length es
       inside = rw (count, ← counts_all) (place_within log good old old_cut one i first_new)
 
-      pub shows_asks : Comparable ls lp lo s i p o
-      shows_asks =
-          let k = kept_replay log old p o l t b judged_old in
-          record {
-            fillable = record {
-              lent = x.lent;
-              judged = record { order = table_long; parents = k.sized.parents; outcomes = k.sized.outcomes };
-            };
-            inside = omega (arith, inside, few);
-          }
-
-      pub carry_asks : Carriable width f old all s times i n p o l t b
-      carry_asks = record {
-        walk = walk p o l t b (kept_replay log old p o l t b judged_old);
-        whole = all;
-        schedules = schedules;
-        ends = first.inside;
-        before_inside = le_within old all old_le;
-        after_inside = le_within all all (λ r a c. omega arith);
-        agrees = λ k h. first.front k h ∙ sym (all_counted k (omega (arith, first.inside)));
-        replayed = judged_old;
+      pub shows_asks : (s : List ℕ) → s ≡ padded (map slot_in_entry es) → Comparable ls lp lo s i judged.state.parents judged.state.outcomes
+      shows_asks s is' = record {
+        fillable = fill_so old judged judged_old s is';
+        inside = omega (arith, inside, few);
       }
 
-      old_page : page (order_without i s) p o ≡ page_at log old
+      -- what the code carries along: the slice from there on
+      abbrev rest : List Entry
+      rest = take (length es - i) (drop i es)
+
+      rest_is : rest ≡ drop i es
+      rest_is = take_all (length es - i) (drop i es) (omega (arith, length-drop i es))
+
+      pub carry_asks : Carriable width f old all rest judged
+      carry_asks =
+          let whole = take-append-drop i es in
+          record {
+            whole = all;
+            front = take i es;
+            along = rw (rest_is, whole) along;
+            schedules = rw (rest_is, whole) schedules;
+            before_inside = le_within old all old_le;
+            after_inside = le_within all all (λ r a c. omega arith);
+            agrees = λ k h.
+                let l : k < i = omega (arith, h, length-take-le i es first.inside) in
+                rw (get_or-take i es k no_entry l) (first.front k l ∙ sym (all_counted k (omega (arith, first.inside))));
+            replayed = judged_old;
+          }
+
+      old_page : (s : List ℕ) → s ≡ padded (map slot_in_entry es)
+          → page (order_without i s) judged.state.parents judged.state.outcomes ≡ page_at log old
       unfolding page_at order_of
-      old_page =
+      old_page s is' =
           let ys = order_of log all in
           let slot_of : Stamped → ℕ = λ x. outcome_slot x.op in
           let old_order : order_of log old ≡ take i ys ++ drop (suc i) ys =
           ap (map slot_of) (rw counts_all at (old_ordered log good old old_cut one i first_new))
           ∙ map-append slot_of (take i xs) (drop (suc i) xs) ∙ ap₂ ◌++◌ (map_take slot_of i xs) (map_drop slot_of (suc i) xs) in
-          let long : length ys ≡ n = length-map xs slot_of ∙ sym count in
-          rw (old_order, table, padded_without i ys (omega (arith, long, inside)) (omega (arith, long, few)))
-          (ap₂ (page (padded (take i ys ++ drop (suc i) ys))) (state_parents p o l t b log old judged_old)
-          (state_outcomes p o l t b log old judged_old))
+          let long : length ys ≡ length es = length-map xs slot_of ∙ sym count in
+          rw (old_order, is', slots_are, padded_without i ys (omega (arith, long, inside)) (omega (arith, long, few)))
+          (ap₂ (page (padded (take i ys ++ drop (suc i) ys))) (state_parents judged log old judged_old)
+          (state_outcomes judged log old judged_old))
 
-      back_count : length (ops_along log old s i n) ≡ length (drop (suc i) (order_of log (counts_of log)))
-      unfolding order_of
+      back_count : length (ops_along log old rest) ≡ length (drop (suc i) (order_of log (counts_of log)))
+      unfolding order_of timed_along
       back_count =
           let zs : List Stamped = ordered log (counts_of log) in
           let back : filter (in_cut old) (drop i xs) ≡ drop (suc i) xs =
           rw counts_all at (counted_back log good old old_cut one i first_new) in
-          let along = ops_are width f s times i n all schedules first.inside old in
-          rw (along, back, length-map, length-drop, length-drop, length-map, counts_all)
+          rw (rest_is, ops_are log old (drop i es), map_drop (stamped_of log) i es, stamped_is, back, length-map, length-drop, length-drop,
+            length-map, counts_all)
 
-      module _ (shown : Bool) (so : shown ≡ shows (page ls lp lo) (page (order_without i s) p o)) where
-        pub took_back : shown ≡ true → (r : ℕ) → r ≡ length (ops_along log old s i n) → Took log old (page ls lp lo) r
-        took_back e r is' = record { place = i; first = first_new; number = rw (← old_page, ← so, e) (is' ∙ back_count) }
+      module _ (s : List ℕ) (is' : s ≡ padded (map slot_in_entry es)) (shown : Bool)
+          (so : shown ≡ shows (page ls lp lo) (page (order_without i s) judged.state.parents judged.state.outcomes)) where
+        pub took_back : shown ≡ true → (r : ℕ) → r ≡ length (ops_along log old rest) → Took log old (page ls lp lo) r
+        took_back e r taken = record { place = i; first = first_new; number = rw (← old_page s is', ← so, e) (taken ∙ back_count) }
 
-        pub took_all : shown ≡ false → Took log old (page ls lp lo) (n - 1)
-        took_all e = record { place = i; first = first_new; number = rw (← old_page, ← so, e) (omega (arith, count_old)) }
+        pub took_all : shown ≡ false → Took log old (page ls lp lo) (length es - 1)
+        took_all e = record { place = i; first = first_new; number = rw (← old_page s is', ← so, e) (omega (arith, count_old)) }
 
   -- the whole judgement
-  module _ (p o l t b : List ℕ) (is : undoable p o l t b ≡ replay_keeping log all) where
-    pub fill_asks : FillablePage ls lp lo s p o
-    fill_asks =
-        let k = kept_replay log all p o l t b is in
-        record { lent = x.lent; judged = record { order = table_long; parents = k.sized.parents; outcomes = k.sized.outcomes } }
+  module _ (judged : Undoable) (is : judged ≡ replay_keeping log all) (s : List ℕ) (is' : s ≡ padded (map slot_in_entry es)) where
+    pub fill_asks : FillablePage ls lp lo s judged.state.parents judged.state.outcomes
+    fill_asks = fill_so all judged is s is'
 
-    pub page_new : (q : Page) → q ≡ page_filled (page ls lp lo) (page s p o) → q ≡ page_filled (page ls lp lo) (page_of log)
+    pub page_new : (q : Page) → q ≡ page_filled (page ls lp lo) (page s judged.state.parents judged.state.outcomes)
+        → q ≡ page_filled (page ls lp lo) (page_of log)
     unfolding page_of page_at
-    page_new q e = e ∙ rw (counts_all, ← table, state_parents p o l t b log all is, state_outcomes p o l t b log all is)
+    page_new q e = e ∙ rw (is', slots_are, counts_all, state_parents judged log all is, state_outcomes judged log all is)
 
-  pub some : 1 ≤ n
+  pub some : 1 ≤ length es
   some = omega (arith, count_old)
-
----- what the code of renewing needs: search renewing
-
-module _ (f : List ℕ) (old : Vector) (g : OneMore f old) where
-  pub file_header : 32 ≤ length f
-  file_header = whole_header width f g.is_structural
-
-  pub file_sound : sound_header width f ≡ true
-  file_sound = whole_sound width f g.is_structural
-
-  pub order_asks : (all : Vector) → all ≡ header_counts f → SchedulableCut width f all (replicate most_ops 0) (replicate most_ops 0)
-  order_asks all is = record {
-    is_structural = g.is_structural;
-    held = rw is (whole_held width f g.is_structural (omega arith));
-    is_closed = rw is (whole_closed width f g.is_structural);
-    order = length-replicate {A = ℕ} most_ops 0;
-    times = length-replicate {A = ℕ} most_ops 0;
-  }
-
-pub blank_tables : undoable (set (replicate trees.slots no_parent) 0 0) (replicate trees.slots 0) (replicate trees.slots 0)
-    (replicate trees.slots 0) (replicate trees.slots 0) ≡ unjudged
-unfolding unjudged start
-blank_tables = refl
-
-pub ruleset renewing = (rules, file_header, file_sound, order_asks, slots_ask, judge_asks, blank_tables)

@@ -26,7 +26,7 @@ module _ (w : ℕ) (f : List ℕ) (cut : Vector) (x : SchedulableCut w f cut) wh
   pub along_asks : (es : List Entry) → es ≡ scheduled (log_of w f) cut → Along w f es
   along_asks es is = record {
     is_structural = x.is_structural;
-    in_slots = λ i h. each_at (λ (e : Entry). InSlot w f e.slot) es no_entry i (rw is (entries_in_slots w f cut x.is_structural x.held)) h;
+    in_slots = λ k d h. each_at (λ (e : Entry). InSlot w f e.slot) es d k (rw is (entries_in_slots w f cut x.is_structural x.held)) h;
   }
 
   pub replayed : (es : List Entry) → es ≡ scheduled (log_of w f) cut → (first : State) → first ≡ start → (after : State)

@@ -1,5 +1,5 @@
 -- What applying ops along entries of a schedule asks and does.
-use Rattle.std.specs.Prelude.{ℕ, ◌<◌, ◌≡◌, true, List, length, get_or, map}
+use Rattle.std.specs.Prelude.{All, ℕ, ◌≡◌, true, List, map}
 use mathlib.Core.List.{foldl}
 use Rattle.rules.specs.File.{Log}
 use Rattle.rules.specs.Log.{structural}
@@ -19,4 +19,4 @@ applied_along log es st = foldl step st (map (stamped_of log) es)
 -- a structurally sound file has an op in the slot of each entry
 pub record Along (w : ℕ) (f : List ℕ) (es : List Entry) : Type 0 where
   pub is_structural : structural w f ≡ true
-  pub in_slots : (i : ℕ) → i < length es → InSlot w f (get_or es i no_entry).slot
+  pub in_slots : All (λ (e : Entry). InSlot w f e.slot) es

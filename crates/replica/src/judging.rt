@@ -25,7 +25,8 @@ pub fn judge(file: &[u8], parents: &mut [u16], outcomes: &mut [u8]) -> Result<()
     if outcomes.len() < SLOTS {
         return Err(Refusal::Length);
     }
-    let n = SLOTS;
-    replay_all(file, &mut parents[..n], &mut outcomes[..n], WIDTH);
+    let tables = replay_all(file, WIDTH);
+    parents[..SLOTS].copy_from_slice(&tables.parents);
+    outcomes[..SLOTS].copy_from_slice(&tables.outcomes);
     Ok(())
 }

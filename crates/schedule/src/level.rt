@@ -4,7 +4,7 @@ ghost use Rattle.rules.specs.File.{log_of};
 ghost use Rattle.oplog.specs.Places.{Held};
 ghost use Rattle.schedule.specs.Level.{HeldAt, Highest, Lowest, Idle, class_of, class_at, classes_of};
 
-use codec::{kind_at, widen};
+use codec::{Kind, NoKind, kind_at, widen};
 use oplog::place;
 
 // The class of a kind, in the order in which ops of one timestamp are judged: adds, removes,
@@ -13,12 +13,12 @@ use oplog::place;
 fn class_of(kind: u8) -> u8
     ensures { result ≡ class_of kind }
 {
-    match kind {
-        1 => 1,
-        2 => 2,
-        3 => 3,
-        4 => 4,
-        0 | 5..=255 => 0,
+    match Kind::try_from(kind) {
+        Ok(Kind::Add) => 1,
+        Ok(Kind::Remove) => 2,
+        Ok(Kind::Upward) => 3,
+        Ok(Kind::Downward) => 4,
+        Err(NoKind) => 0,
     }
 }
 

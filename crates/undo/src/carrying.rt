@@ -1,54 +1,42 @@
 ghost use Rattle.std.specs.Prelude.{◌≡◌, length};
 ghost use Rattle.rules.specs.File.{log_of};
 ghost use Rattle.order.specs.Undo.{replay_keeping};
-ghost use Rattle.undo.specs.Tables.{ops_along, undoable};
+ghost use Rattle.undo.specs.Tables.{ops_along, undoable_of};
 ghost use Rattle.undo.specs.Carried.{Carriable, FirstBeyond, Slots};
 
-use crate::along::{counts_slot, judge_along, take_back};
-use codec::widen16;
+use crate::along::counts;
+use crate::keeping::Undoable;
+use schedule::Entry;
 
-// The first place of a table of slots whose op a cut does not count, and n where it counts all.
-pub fn first_beyond(order: &[u16], n: usize, cut: [u8; 8]) -> usize
-    requires { Slots order.now n }
-    ensures { FirstBeyond cut order.now n result }
+// The first place of entries whose op a cut does not count, and their number where it counts all.
+pub fn first_beyond(entries: &[Entry], cut: [u8; 8]) -> usize
+    requires { Slots entries.now }
+    ensures { FirstBeyond cut entries.now result }
 {
-    for i in 0..n {
-        if !counts_slot(cut, widen16(order[i])) {
-            return i;
-        }
+    match entries.iter().position(|entry| !counts(cut, *entry)) {
+        Some(place) => place,
+        None => entries.len(),
     }
-    n
 }
 
-// Carries the replay of one cut on to another, along an order that has both: what the first
-// counts from a place on is taken back, and what the second counts there is judged. Before that
-// place they count the same ops. Answers how many ops it took back.
-pub fn carry(
-    file: &[u8],
-    before: [u8; 8],
-    after: [u8; 8],
-    order: &[u16],
-    times: &[u16],
-    from: usize,
-    to: usize,
-    parents: &mut [u16],
-    outcomes: &mut [u8],
-    placed: &mut [u16],
-    took: &mut [u16],
-    was: &mut [u16],
-    width: usize,
-) -> usize
-    requires { Carriable width file.now before after order.now times.now from to
-        parents.old outcomes.old placed.old took.old was.old }
-    ensures { (undoable parents.new outcomes.new placed.new took.new was.new
-        ≡ replay_keeping (log_of width file.now) after)
-        × (result ≡ length (ops_along (log_of width file.now) before order.now from to)) }
-{
-    let taken = take_back(
-        file, before, order, from, to, parents, outcomes, placed, took, was, width,
-    );
-    judge_along(
-        file, after, order, times, from, to, parents, outcomes, placed, took, was, width,
-    );
-    taken
+impl Undoable {
+    // Carries the replay of one cut on to another, along the rest of an order that has both: what
+    // the first counts there is taken back, and what the second counts there is judged. Before
+    // that rest they count the same ops. Answers how many ops it took back.
+    pub fn carry(
+        &mut self,
+        file: &[u8],
+        before: [u8; 8],
+        after: [u8; 8],
+        rest: &[Entry],
+        width: usize,
+    ) -> usize
+        requires { Carriable width file.now before after rest.now (undoable_of self.old) }
+        ensures { (undoable_of self.new ≡ replay_keeping (log_of width file.now) after)
+            × (result ≡ length (ops_along (log_of width file.now) before rest.now)) }
+    {
+        let taken = self.take_back(file, before, rest, width);
+        self.judge_along(file, after, rest, width);
+        taken
+    }
 }

@@ -2,68 +2,79 @@ ghost use Rattle.std.specs.Prelude.{◌≡◌, ◌<◌};
 ghost use Rattle.rules.specs.File.{log_of};
 ghost use Rattle.rules.specs.Op.{node_of};
 ghost use Rattle.rules.specs.Tree.{slot_of, slots};
-ghost use Rattle.order.specs.Undo.{step_keeping, undo};
+ghost use Rattle.order.specs.Undo.{step_keeping, undo, unjudged};
 ghost use Rattle.tree.specs.Slots.{op_in};
-ghost use Rattle.effect.specs.Effects.{stamped_at};
-ghost use Rattle.undo.specs.Tables.{OpThere, Keepable, undoable};
+ghost use Rattle.schedule.specs.Schedule.{stamped_of};
+ghost use Rattle.effect.specs.Effects.{Applicable};
+ghost use Rattle.undo.specs.Tables.{undoable_of};
 
 use codec::node_at;
-use effect::apply_op;
-use tree::{slot_of, slot_place};
+use effect::Tables;
+use replay::start;
+use schedule::Entry;
+use tree::{SLOTS, slot_of, slot_place};
 
-// The slot of the node that the op of a slot names.
-fn named_slot(file: &[u8], slot: usize, width: usize) -> usize
-    requires { OpThere width file.now slot }
-    ensures { (result ≡ slot_of (node_of (op_in (log_of width file.now) slot))) × (result < slots) }
+// The tables of a replay that can be taken back. For the slot of each op that was judged two more
+// keep what its node had before: its parent, and the time of the move that placed it.
+#[derive(Drop)]
+pub struct Undoable {
+    pub tables: Tables,
+    pub took: [u16; SLOTS],
+    pub was: [u16; SLOTS],
+}
+
+// The slot of the node that the op of an entry names.
+#[tactic(auto, using(crate::proofs::KeepLaws::named_is, crate::proofs::KeepLaws::named_small))]
+fn named_slot(file: &[u8], entry: Entry, width: usize) -> usize
+    requires { Applicable width file.now entry }
+    ensures { (result ≡ slot_of (node_of (op_in (log_of width file.now) entry.slot)))
+        × (result < slots) }
 {
-    let at = slot_place(file, slot, width);
+    let at = slot_place(file, entry.slot as usize, width);
     slot_of(node_at(file, at))
 }
 
-// Judges the op of a slot, and keeps what it may overwrite.
-pub fn keep_op(
-    file: &[u8],
-    slot: usize,
-    time: u16,
-    parents: &mut [u16],
-    outcomes: &mut [u8],
-    placed: &mut [u16],
-    took: &mut [u16],
-    was: &mut [u16],
-    width: usize,
-)
-    requires { Keepable width file.now slot parents.old outcomes.old placed.old took.old was.old }
-    ensures { undoable parents.new outcomes.new placed.new took.new was.new
-        ≡ step_keeping
-        (undoable parents.old outcomes.old placed.old took.old was.old)
-        (stamped_at time (op_in (log_of width file.now) slot)) }
-{
-    let named = named_slot(file, slot, width);
-    took[slot] = parents[named];
-    was[slot] = placed[named];
-    apply_op(file, slot, time, parents, outcomes, placed, width);
-}
+impl Undoable {
+    // No op is judged.
+    #[tactic(auto, unfolding(order::specs::Undo::unjudged))]
+    pub fn new() -> Self
+        ensures { undoable_of result ≡ unjudged }
+    {
+        let tables = start();
+        Undoable {
+            tables,
+            took: [0; SLOTS],
+            was: [0; SLOTS],
+        }
+    }
 
-// Takes back the op of a slot, which was judged last.
-pub fn undo_op(
-    file: &[u8],
-    slot: usize,
-    parents: &mut [u16],
-    outcomes: &mut [u8],
-    placed: &mut [u16],
-    took: &mut [u16],
-    was: &mut [u16],
-    width: usize,
-)
-    requires { Keepable width file.now slot parents.old outcomes.old placed.old took.old was.old }
-    ensures { undoable parents.new outcomes.new placed.new took.new was.new
-        ≡ undo (undoable parents.old outcomes.old placed.old took.old was.old)
-        (op_in (log_of width file.now) slot) }
-{
-    let named = named_slot(file, slot, width);
-    parents[named] = took[slot];
-    placed[named] = was[slot];
-    outcomes[slot] = 0;
-    took[slot] = 0;
-    was[slot] = 0;
+    #[tactic(auto, using(crate::proofs::KeepLaws::own_small, crate::proofs::KeepLaws::own_slot), unfolding(order::specs::Undo::step_keeping, schedule::specs::Schedule::stamped_of))]
+    // Judges the op of an entry, and keeps what it may overwrite.
+    pub(crate) fn keep(&mut self, file: &[u8], entry: Entry, width: usize)
+        requires { Applicable width file.now entry }
+        ensures { undoable_of self.new
+            ≡ step_keeping (undoable_of self.old) (stamped_of (log_of width file.now) entry) }
+    {
+        let slot = entry.slot as usize;
+        let named = named_slot(file, entry, width);
+        self.took[slot] = self.tables.parents[named];
+        self.was[slot] = self.tables.placed[named];
+        self.tables.apply(file, entry, width);
+    }
+
+    #[tactic(auto, using(crate::proofs::KeepLaws::own_small, crate::proofs::KeepLaws::own_slot), unfolding(order::specs::Undo::undo))]
+    // Takes back the op of an entry, which was judged last.
+    pub(crate) fn undo(&mut self, file: &[u8], entry: Entry, width: usize)
+        requires { Applicable width file.now entry }
+        ensures { undoable_of self.new
+            ≡ undo (undoable_of self.old) (op_in (log_of width file.now) entry.slot) }
+    {
+        let slot = entry.slot as usize;
+        let named = named_slot(file, entry, width);
+        self.tables.parents[named] = self.took[slot];
+        self.tables.placed[named] = self.was[slot];
+        self.tables.outcomes[slot] = 0;
+        self.took[slot] = 0;
+        self.was[slot] = 0;
+    }
 }

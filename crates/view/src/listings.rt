@@ -36,11 +36,9 @@ pub(crate) fn arrange_view(file: &[u8], view: View, marks: &mut [u8], order: &mu
     ensures { (marks.new ≡ marks_of (log_of width file.now))
         × (take result order.new ≡ order_of (log_of width file.now) (view_of view)) × (result ≤ slots) }
 {
-    let mut parents = [0u16; SLOTS];
-    let mut outcomes = [0u8; SLOTS];
-    replay_all(file, &mut parents, &mut outcomes, WIDTH);
+    let tables = replay_all(file, WIDTH);
     mark_ops(file, marks);
-    order_view(&parents, marks, view, order)
+    order_view(&tables.parents, marks, view, order)
 }
 
 // Writes the lines of arranged nodes into lent bytes, if they are enough.

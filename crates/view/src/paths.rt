@@ -12,7 +12,7 @@ use oplog::counts_of;
 use replay::replay_all;
 use soundness::{WIDTH, is_sound};
 use structure::known_parent;
-use tree::{SLOTS, depth_of, slot_of};
+use tree::{depth_of, slot_of};
 
 // Writes a node, its parent, and so on to the root.
 fn write_path(parents: &[u16], node: u16, steps: usize, out: &mut [u16])
@@ -48,10 +48,8 @@ fn put_path_now(file: &[u8], node: u16, out: &mut [u16]) -> Answer
     ensures { record { answer = answer_of result; out = out.new }
         ≡ path_call width file.now node out.old }
 {
-    let mut parents = [0u16; SLOTS];
-    let mut outcomes = [0u8; SLOTS];
-    replay_all(file, &mut parents, &mut outcomes, WIDTH);
-    put_path(&parents, node, out)
+    let tables = replay_all(file, WIDTH);
+    put_path(&tables.parents, node, out)
 }
 
 // Puts the path of a node into lent entries.

@@ -1,40 +1,42 @@
 -- `page::renewing::rejudge` meets its contract.
 use native.Mathlib.Omega.{arith}
-use Rattle.page.proofs.RenewLaws.{blank_tables, carry_asks, fill_asks, judge_asks, page_new, shows_asks, slots_ask, some, took_all, took_back}
+use Rattle.page.proofs.RenewLaws.{along, carry_asks, few, fill_asks, page_new, shows_asks, slots_ask, some, took_all, took_back}
 use Rattle.page.proofs.renewing.rejudge.Goals as goal
 
+pub slots_of-slots-requires : goal.slots_of-slots-requires
+slots_of-slots-requires c = few _ _ _ _ _ _ _ c.requires
+
 pub judge_along-requires : goal.judge_along-requires
-judge_along-requires c = judge_asks _ _ _ _ _ _ _ _ _ c.requires _ _ _ _ _ blank_tables
+judge_along-requires c = along _ _ _ _ _ _ _ c.requires
 
 pub first_beyond-place-requires : goal.first_beyond-place-requires
-first_beyond-place-requires c = slots_ask _ _ _ _ _ _ _ _ _ c.requires
+first_beyond-place-requires c = slots_ask _ _ _ _ _ _ _ c.requires
 
 pub shows-is_true-requires : goal.shows-is_true-requires
 shows-is_true-requires c =
-    shows_asks _ _ _ _ _ _ _ _ _ c.requires _ _ _ _ _ _ _ _ _ _ blank_tables c.judge_along.ensures _
-    c.first_beyond-place.ensures
+    shows_asks _ _ _ _ _ _ _ c.requires _ _ c.new-judged.ensures c.judge_along.ensures _ c.first_beyond-place.ensures _
+    c.slots_of-slots.ensures
 
 pub carry-taken-requires : goal.carry-taken-requires
 carry-taken-requires c =
-    carry_asks _ _ _ _ _ _ _ _ _ c.requires _ _ _ _ _ _ _ _ _ _ blank_tables c.judge_along.ensures _
-    c.first_beyond-place.ensures
+    carry_asks _ _ _ _ _ _ _ c.requires _ _ c.new-judged.ensures c.judge_along.ensures _ c.first_beyond-place.ensures
 
 pub fill-requires : goal.fill-requires
-fill-requires c = fill_asks _ _ _ _ _ _ _ _ _ c.requires _ _ _ _ _ c.carry-taken.ensures.0
+fill-requires c = fill_asks _ _ _ _ _ _ _ c.requires _ c.carry-taken.ensures.0 _ c.slots_of-slots.ensures
 
 pub returns-then-is_true : goal.returns-then-is_true
 returns-then-is_true c = (
-  page_new _ _ _ _ _ _ _ _ _ c.requires _ _ _ _ _ c.carry-taken.ensures.0 _ c.fill.ensures,
-  took_back _ _ _ _ _ _ _ _ _ c.requires _ _ _ _ _ _ _ _ _ _ blank_tables c.judge_along.ensures _
-      c.first_beyond-place.ensures _ c.shows-is_true.ensures c.if-is_true.true _ c.carry-taken.ensures.1,
+  page_new _ _ _ _ _ _ _ c.requires _ c.carry-taken.ensures.0 _ c.slots_of-slots.ensures _ c.fill.ensures,
+  took_back _ _ _ _ _ _ _ c.requires _ _ c.new-judged.ensures c.judge_along.ensures _ c.first_beyond-place.ensures _
+      c.slots_of-slots.ensures _ c.shows-is_true.ensures c.if-is_true.true _ c.carry-taken.ensures.1,
 )
 
 pub overflow_sub-result : goal.overflow_sub-result
-overflow_sub-result c = let one = some _ _ _ _ _ _ _ _ _ c.requires in omega arith
+overflow_sub-result c = let one = some _ _ _ _ _ _ _ c.requires in omega arith
 
 pub returns : goal.returns
 returns c = (
-  page_new _ _ _ _ _ _ _ _ _ c.requires _ _ _ _ _ c.carry-taken.ensures.0 _ c.fill.ensures,
-  took_all _ _ _ _ _ _ _ _ _ c.requires _ _ _ _ _ _ _ _ _ _ blank_tables c.judge_along.ensures _
-      c.first_beyond-place.ensures _ c.shows-is_true.ensures c.if-is_true.false,
+  page_new _ _ _ _ _ _ _ c.requires _ c.carry-taken.ensures.0 _ c.slots_of-slots.ensures _ c.fill.ensures,
+  took_all _ _ _ _ _ _ _ c.requires _ _ c.new-judged.ensures c.judge_along.ensures _ c.first_beyond-place.ensures _
+      c.slots_of-slots.ensures _ c.shows-is_true.ensures c.if-is_true.false,
 )

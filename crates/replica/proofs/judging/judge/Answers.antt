@@ -13,14 +13,14 @@ returns-then-parents-lt-SLOTS c = search judging
 pub returns-then-outcomes-lt-SLOTS : goal.returns-then-outcomes-lt-SLOTS
 returns-then-outcomes-lt-SLOTS c = search judging
 
-pub slice_bounds-replay_all-end-2 : goal.slice_bounds-replay_all-end-2
-slice_bounds-replay_all-end-2 c = simp length-take (omega arith)
+pub replay_all-tables-requires : goal.replay_all-tables-requires
+replay_all-tables-requires c = (omega arith, search judging)
 
-pub slice_bounds-replay_all-end-4 : goal.slice_bounds-replay_all-end-4
-slice_bounds-replay_all-end-4 c = simp length-take (omega arith)
+pub copy_from_slice-requires : goal.copy_from_slice-requires
+copy_from_slice-requires c = simp length-take (omega arith)
 
-pub replay_all-requires : goal.replay_all-requires
-replay_all-requires c = (omega arith, search judging, simp length-take (omega arith), simp length-take (omega arith))
+pub copy_from_slice-requires-2 : goal.copy_from_slice-requires-2
+copy_from_slice-requires-2 c = simp length-take (omega arith)
 
 pub returns : goal.returns
 returns c = search judging

@@ -2,14 +2,8 @@
 use Rattle.view.proofs.ListingCases.{listings}
 use Rattle.view.proofs.listings.arrange_view.Goals as goal
 
-pub slice_bounds-replay_all-end : goal.slice_bounds-replay_all-end
-slice_bounds-replay_all-end c = search listings
-
-pub slice_bounds-replay_all-end-2 : goal.slice_bounds-replay_all-end-2
-slice_bounds-replay_all-end-2 c = search listings
-
-pub replay_all-requires : goal.replay_all-requires
-replay_all-requires c = search listings
+pub replay_all-tables-requires : goal.replay_all-tables-requires
+replay_all-tables-requires c = search listings
 
 pub mark_ops-requires : goal.mark_ops-requires
 mark_ops-requires c = search listings
