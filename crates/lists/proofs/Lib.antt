@@ -7,3 +7,4 @@ pub mod EachLaws
 pub mod FilterLaws
 pub mod GreatestLaws
 pub mod MemberLaws
+pub mod LibraryLaws

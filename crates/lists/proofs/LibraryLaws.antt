@@ -1,0 +1,91 @@
+-- The library's words for lists and bytes, as this repository's.
+use Rattle.std.specs.Prelude.{Bool, true, false, cond, ◌&&◌, ◌||◌, not, List, [], ◌∷◌, ℕ, suc, ◌+◌, ◌*◌, ◌/◌, ◌%◌, ◌<◌, ◌≡◌}
+use Rattle.std.specs.Prelude.{Option, eqb, get_or, map}
+use Rattle.std.specs.List.{FoldsTo, list_all, list_any, position_or_len, sum_by}
+use Rattle.std.specs.List as library
+use Rattle.std.specs.Int.{w16, from_be_bytes, to_be_bytes}
+use Rattle.std.specs.Str.{bytes_eq}
+use Rattle.std.specs.Fn.{Called}
+use Rattle.std.specs.Iterator.{YieldsThen}
+use Rattle.std.specs.Option.{MatchOption}
+use Rattle.std.proofs.Common.{refl, sym, ap, ◌∙◌, arith}
+use Rattle.std.proofs.lemmas.List.Sums.{sum_by-cons}
+use Rattle.std.proofs.lemmas.Iterator.{YieldsList}
+use Rattle.std.proofs.lemmas.Iterator.Search.{all_from_yields_List, any_from_yields_List}
+use denote.Param.Members.{Mut}
+use Rattle.lists.specs.Lists.{all, any, filter, index_of, same, sum}
+
+pub all_is : {A : Type 0} (p : A → Bool) (xs : List A) → all p xs ≡ list_all p xs
+unfolding all
+all_is p [] = refl
+all_is p (x ∷ xs) = ap (λ (b : Bool). p x && b) (all_is p xs)
+
+pub any_is : {A : Type 0} (p : A → Bool) (xs : List A) → any p xs ≡ list_any p xs
+unfolding any
+any_is p [] = refl
+any_is p (x ∷ xs) = ap (λ (b : Bool). p x || b) (any_is p xs)
+
+pub filter_is : {A : Type 0} (p : A → Bool) (xs : List A) → filter p xs ≡ library.filter p xs
+unfolding filter
+filter_is p [] = refl
+filter_is p (x ∷ xs) = rw (filter_is p xs)
+
+pub sum_is : (xs : List ℕ) → sum xs ≡ library.sum xs
+unfolding sum
+sum_is [] = refl
+sum_is (x ∷ xs) = ap (λ (n : ℕ). x + n) (sum_is xs) ∙ sym (sum_by-cons (λ (n : ℕ). n) x xs)
+
+pub sum_by_is : {A : Type 0} (f : A → ℕ) (xs : List A) → sum (map f xs) ≡ sum_by f xs
+unfolding sum
+sum_by_is f [] = refl
+sum_by_is f (x ∷ xs) = ap (λ (n : ℕ). f x + n) (sum_by_is f xs) ∙ sym (sum_by-cons f x xs)
+
+pub index_is : (x : ℕ) (xs : List ℕ) → index_of x xs ≡ position_or_len (eqb x) xs
+unfolding index_of
+index_is x [] = refl
+index_is x (y ∷ ys) = go (eqb x y) (index_is x ys)
+  where
+    go : (b : Bool) {m n : ℕ} → m ≡ n → cond b 0 (suc m) ≡ cond (not b) (1 + n) 0
+    go true e = refl
+    go false e = omega arith
+
+-- `==` of slices of numbers
+pub same_is : (xs ys : List ℕ) → same xs ys ≡ bytes_eq xs ys
+unfolding same
+same_is [] [] = refl
+same_is [] (y ∷ ys) = refl
+same_is (x ∷ xs) [] = refl
+same_is (x ∷ xs) (y ∷ ys) = ap (λ (b : Bool). eqb x y && b) (same_is xs ys)
+
+-- two bytes, high byte first
+pub from_bytes_is : (bs : List ℕ) → from_be_bytes w16 bs ≡ get_or bs 0 0 * 256 + get_or bs 1 0
+from_bytes_is bs = refl
+
+pub to_bytes_is : (n : ℕ) → n < 65536 → to_be_bytes w16 n ≡ n / 256 ∷ n % 256 ∷ []
+to_bytes_is n h =
+    let e : n / 256 % 256 ≡ n / 256 = omega arith in
+    ap (λ (k : ℕ). k ∷ n % 256 ∷ []) e
+
+-- `all` and `any` over what gives a list: take the test, three `_`, the call's clause `ran`, that the list is given (as
+-- `YieldsList-from_slice _ cc` says, or `YieldsList-from_range 1 9 8 refl refl`), and what the closure computes, mostly
+-- `λ x b q k. search (rules, tests)`
+module _ {S A B F : Type 0} {steps : S → Option A → S → Type 0} {v : A → B} {g : Mut F (A × Unit {0}) Bool} {s : S} {given : List B} where
+  pub all_gives :
+      (test : B → Bool) (u : S) (f : F) (r : Bool)
+      → (xs : List A) × (o : Option A) × (j : F) × YieldsThen steps s xs o u
+      × FoldsTo (λ p x q. Called g p (x, tt) true q) f xs j
+      × MatchOption o (r ≡ true) (λ x. (r ≡ false) × ((h : F) × Called g j (x, tt) false h))
+      → YieldsList steps v s given
+      → ((x : A) (b : Bool) (q : F) → Called g f (x, tt) b q → (q ≡ f) × (b ≡ test (v x)))
+      → r ≡ all test given
+  all_gives test u f r ran list calls = all_from_yields_List test u f r ran list calls ∙ sym (all_is test given)
+
+  pub any_gives :
+      (test : B → Bool) (u : S) (f : F) (r : Bool)
+      → (xs : List A) × (o : Option A) × (j : F) × YieldsThen steps s xs o u
+      × FoldsTo (λ p x q. Called g p (x, tt) false q) f xs j
+      × MatchOption o (r ≡ false) (λ x. (r ≡ true) × ((h : F) × Called g j (x, tt) true h))
+      → YieldsList steps v s given
+      → ((x : A) (b : Bool) (q : F) → Called g f (x, tt) b q → (q ≡ f) × (b ≡ test (v x)))
+      → r ≡ any test given
+  any_gives test u f r ran list calls = any_from_yields_List test u f r ran list calls ∙ sym (any_is test given)
