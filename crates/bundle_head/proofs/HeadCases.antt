@@ -1,11 +1,10 @@
 -- The head of a bundle, as the code meets it.
 use Prim.Native.Nat.{ℕ, suc, ◌+◌, ◌*◌, ◌-◌, ◌/◌, ◌^◌, ◌≤◌, ◌<◌}
 use borrow.Author.Rules.{rules}
-use borrow.Author.Tests.{eq-eqb, ne_eqb}
 use lib.Count.{ones, count_trailing_zeros}
 use lib.Dec.{eqb, ltb}
 use lib.ListN.{length, length-drop, length-set, take, drop, get_or, set, replicate, take-append-drop}
-use lib.Seq.{drop-drop, drop-set-lt, get_or-drop, take-add, take_all, take-suc-set}
+use lib.Seq.{drop-drop, drop-set-lt, get_or-drop, take-add, take-suc-set}
 use mir.Val.{bool_byte}
 use mathlib.Core.Bool.{Bool, true, false, cond, not}
 use mathlib.Core.List.{List, [], ◌∷◌, ◌++◌, append_assoc}
@@ -56,11 +55,6 @@ module _ (counts : Vector) where
 
     pub sum_fits : i < 8 → (k : ℕ) → k ≤ 255 → n + k ≤ 2040
     sum_fits h k small = omega (arith, x.few)
-
-    pub sum_all : length counts ≡ 8 → 8 ≤ i → (n ≡ sum counts) × (n ≤ 2040)
-    sum_all e h =
-        let eight : i ≡ 8 = omega (arith, x.made) in
-        (x.part ∙ rw (eight, take_all 8 counts (omega arith)), omega (arith, x.few))
 
 ---- the first byte
 

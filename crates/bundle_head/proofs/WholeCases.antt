@@ -1,24 +1,22 @@
 -- The test of a bundle against its head, as the code meets it.
-use Prim.Native.Nat.{ℕ, suc, ◌+◌, ◌*◌, ◌-◌, ◌≤◌, ◌<◌}
+use Prim.Native.Nat.{ℕ, ◌+◌, ◌*◌, ◌-◌, ◌≤◌, ◌<◌}
 use borrow.Author.Rules.{rules}
-use borrow.Author.Tests.{eq-eqb, ne_eqb, le-leb, lt-leb, lt-ltb, le-ltb}
+use borrow.Author.Tests.{eq-eqb, ne_eqb, le-leb, lt-leb}
 use lib.Count.{ones}
 use lib.Dec.{leb, eqb, ltb}
 use lib.ListN.{length, length-drop, take, drop, get_or}
-use lib.Seq.{drop-drop, get_or-take, take_all}
-use mathlib.Core.Bool.{Bool, true, false, cond, ◌&&◌}
-use mathlib.Core.List.{List, ◌∷◌}
-use mathlib.Core.Path.{◌≡◌, refl, sym, ap, ◌∙◌}
-use native.Mathlib.Numerals.{add-one}
+use lib.Seq.{take_all}
+use mathlib.Core.Bool.{Bool, true, false}
+use mathlib.Core.List.{List}
+use mathlib.Core.Path.{◌≡◌, sym, ◌∙◌}
 use native.Mathlib.Omega.{arith}
-use Rattle.lists.specs.Lists.{all, filter, sum, up_from}
-use Rattle.lists.proofs.AllLaws.{PassTo, pass_starts, pass_fails, pass_on, pass_ends}
+use Rattle.lists.specs.Lists.{all, sum}
 use Rattle.lists.proofs.BoolLaws.{tested}
 use Rattle.rules.specs.Bundle.{bodies_in, head_counts, head_size, ops_by, whole_bundle}
 use Rattle.rules.specs.Bytes.{byte}
 use Rattle.rules.specs.File.{chunks, width}
-use Rattle.rules.specs.Op.{Op, Vector, count_in, replica_of, replicas}
-use Rattle.bundle_head.specs.Head.{BodiesOf, HeadEnd, WholeHead, agrees, agrees_at, filled, is_by}
+use Rattle.rules.specs.Op.{Op, Vector, count_in}
+use Rattle.bundle_head.specs.Head.{BodiesOf, HeadEnd, WholeHead, agrees, agrees_at, filled}
 
 ---- of each replica
 

@@ -30,7 +30,10 @@ fn bodies_by(bodies: &[u8], n: usize, s: usize) -> usize
     ensures { result ≡ ops_by (chunks width n bodies.now) s }
 {
     let bodies = &bodies[..WIDTH * n];
-    bodies.chunks_exact(WIDTH).filter(|body| widen(replica_at(body, 0)) == s).count()
+    bodies
+        .chunks_exact(WIDTH)
+        .filter(|body| widen(replica_at(body, 0)) == s)
+        .count()
 }
 
 // Whether of a replica there are as many bodies as the head says.

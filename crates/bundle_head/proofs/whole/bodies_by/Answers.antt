@@ -1,10 +1,10 @@
 -- `bundle_head::whole::bodies_by` meets its contract.
-use Rattle.std.proofs.Common.{rules, tests, Bool, ◌≡◌, ◌*◌, ◌≤◌, take, length, eqb, ap, sym, ◌∙◌, arith, length-take-le, le_refl}
+use Rattle.std.proofs.Common.{rules, tests, Bool, ◌*◌, take, length, eqb, ap, sym, ◌∙◌, arith, length-take-le}
 use Rattle.std.proofs.lemmas.Iterator.Consumers.{YieldsList-at, YieldsList-from_filter, count_from_yields_List}
 use Rattle.lists.specs.Lists.{filter}
 use Rattle.lists.proofs.LibraryLaws.{filter_is}
 use Rattle.rules.specs.Bundle.{ops_by}
-use Rattle.rules.specs.File.{chunks, width}
+use Rattle.rules.specs.File.{width}
 use Rattle.rules.specs.Op.{Op, replica_of}
 use Rattle.rules.proofs.BodyLaws.{YieldsList-from_bodies}
 use Rattle.rules.proofs.FrontLaws.{chunks_take}
