@@ -1,4 +1,4 @@
--- `pen::line::write_line` meets its contract.
+-- `pen::line::Pen::write_line` meets its contract.
 use mathlib.Core.Path.{◌≡◌, ◌∙◌}
 use Prim.Native.Nat.{◌+◌, ◌≤◌}
 use native.Mathlib.Omega.{arith}
@@ -6,12 +6,12 @@ use lib.ListN.{length, length-set}
 use Rattle.rules.specs.Listing.{decimal}
 use Rattle.rules.proofs.DecimalLaws.{length_line}
 use Rattle.pen.proofs.LineLaws.{line_penned, line_written}
-use Rattle.pen.proofs.line.write_line.Goals as goal
-use Rattle.pen.proofs.line.write_line.Goals.{After-put_decimal-end, After-put_decimal-space, Start}
+use Rattle.pen.proofs.line.Pen.write_line.Goals as goal
+use Rattle.pen.proofs.line.Pen.write_line.Goals.{After-put_decimal-end, After-put_decimal-space, Start}
 
 -- what is written, piece by piece, fits
 fits : (c : Start) → let a = c.args in
-    a.pen.bytes + (length (decimal a.depth) + length (decimal a.node) + 4) ≤ length a.out.now
+    a.self.bytes + (length (decimal a.depth) + length (decimal a.node) + 4) ≤ length a.out.now
 fits c = omega (arith, length_line c.args.depth c.args.node c.args.marked, c.requires.room)
 
 -- the depth, and a space
@@ -50,7 +50,7 @@ returns c =
     let x = line_written _ _ _ _ _ _ _ _ _ a.marked s.requires.room d.ensures.0 d.ensures.1 n.ensures.0 n.ensures.1
     c.mark_byte.ensures in
     let size = length_line a.depth a.node a.marked in
-    line_penned _ _ a.pen _ _ _ _ x (omega (arith, size, d.ensures.0, n.ensures.0))
+    line_penned _ _ a.self _ _ _ _ x (omega (arith, size, d.ensures.0, n.ensures.0))
 
 pub put_decimal-space-requires : goal.put_decimal-space-requires
 put_decimal-space-requires c = omega (arith, fits c.before.before)
