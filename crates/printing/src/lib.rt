@@ -35,7 +35,7 @@ fn list_empty(out: &mut [u8]) -> Result<usize, Refusal>
     ensures { record { answer = answer_of result; out = out.new } ≡ put_in (listing_of keeping empty_log) out.old }
 {
     let mut empty = [0u8; 32];
-    make(&mut empty);
+    let _made = make(&mut empty);
     listing(&empty, View::Keeping, out)
 }
 
