@@ -7,6 +7,7 @@ ghost use Rattle.batch.specs.Planning.{drafted_in, next_by, put_next};
 
 use crate::drafting::draft_next;
 use codec::{Answer, Refusal, is_accepted, widen, write_op};
+use effect::Tables;
 use issue::{Draft, Drafted};
 use marks::mark_ops;
 use oplog::{counts_of, end_of, with_more};
@@ -121,7 +122,8 @@ pub(crate) fn plan(file: &[u8], replica: u8, nodes: &[u16], parent: u16, ops: &m
     let held = counts_of(file, WIDTH);
     let mut marks = [0u8; SLOTS];
     mark_ops(file, &mut marks);
-    let mut tables = replay_all(file, WIDTH);
+    let mut tables = Tables::new();
+    replay_all(file, &mut tables, WIDTH);
     plan_all(
         file,
         held,
