@@ -25,25 +25,25 @@ use Rattle.codec.specs.declared.answer.Refusal.TheVariants.{Unknown, Exhausted, 
 use Rattle.delivery.specs.Adding.{room_test}
 use Rattle.issue.specs.Issuing.{InTree, bytes_of, moved_in}
 use Rattle.issue.specs.declared.draft.Draft.{Draft}
-use Rattle.issue.specs.declared.draft.Drafted.{Drafted}
-use Rattle.issue.specs.declared.draft.Drafted.TheVariants.{Op, Refused}
+use Rattle.issue.specs.Issuing.{Drafted}
+use Rattle.std.specs.Prelude.{Ok, Err}
 use Rattle.issue.proofs.IssueCases.{drafted_names, known_small, passes}
 use Rattle.batch.specs.Planning.{Drawable, Next, Turn, drafted_in, next_by, put_next}
 
 ---- the tests 9, 7, 11 and 10
 
 module _ (log : Log) (u : Vector) (t : List ℕ) (s n p : ℕ) where
-  pub exhausted : ltb (count_in u s) 255 ≡ false → Refused Exhausted ≡ drafted_in log u t s n p
+  pub exhausted : ltb (count_in u s) 255 ≡ false → Err Exhausted ≡ drafted_in log u t s n p
   unfolding drafted_in
   exhausted e = rw e
 
   module _ (a : ltb (count_in u s) 255 ≡ true) where
-    pub unknown : request_known log (move n p) ≡ false → Refused Unknown ≡ drafted_in log u t s n p
+    pub unknown : request_known log (move n p) ≡ false → Err Unknown ≡ drafted_in log u t s n p
     unfolding drafted_in
     unknown e = rw (a, e)
 
     module _ (b : request_known log (move n p) ≡ true) where
-      pub marked : request_unmarked log (move n p) ≡ false → Refused Marked ≡ drafted_in log u t s n p
+      pub marked : request_unmarked log (move n p) ≡ false → Err Marked ≡ drafted_in log u t s n p
       unfolding drafted_in
       marked e = rw (a, b, e)
 
@@ -55,15 +55,15 @@ pub in_tree : (t : List ℕ) → length t ≡ slots → (log : Log) (n p : ℕ) 
 in_tree t h log n p e = record { size = h; small = known_small log n p e }
 
 -- what a draft says
-module _ (log : Log) (u : Vector) (t : List ℕ) (s n p : ℕ) (d : Draft) (e : drafted_in log u t s n p ≡ Op d) where
-  opened : (request_known log (move n p) ≡ true) × (moved_in t n p ≡ Op d)
+module _ (log : Log) (u : Vector) (t : List ℕ) (s n p : ℕ) (d : Draft) (e : drafted_in log u t s n p ≡ Ok d) where
+  opened : (request_known log (move n p) ≡ true) × (moved_in t n p ≡ Ok d)
   unfolding drafted_in
   opened =
       let a = passes (ltb (count_in u s) 255) Exhausted _ d e in
       let b = passes (request_known log (move n p)) Unknown _ d a.1 in
       (b.0, (passes (request_unmarked log (move n p)) Marked _ d b.1).1)
 
-  pub draft_moved : moved_in t n p ≡ Op d
+  pub draft_moved : moved_in t n p ≡ Ok d
   draft_moved = opened.1
 
   pub draft_node : d.node ≡ n
@@ -101,20 +101,19 @@ module _ (size end : ℕ) (u : Vector) (s : ℕ) (t op : List ℕ) where
       let b : bytes ≡ bytes_of s d u = eb ∙ rw (none, append-nil) in
       rw (le-leb (end + width) size (omega arith), et, b)
 
-  module _ (r : Drafted) (x : Drafted) (is : r ≡ x) where
-    pub next_refused : (why : Refusal) → r ≡ Refused why → next (refused (number_of why)) t op ≡ next_by size end u s t op x
+  module _ (x : Drafted) where
+    pub next_refused : (why : Refusal) → Err why ≡ x → next (refused (number_of why)) t op ≡ next_by size end u s t op x
     unfolding next_by
-    next_refused why e = rw (← is, e)
+    next_refused why e = rw (← e)
 
-    pub next_put : (d : Draft) → r ≡ Op d → (y : Next) → y ≡ put_next size end u s t op d → y ≡ next_by size end u s t op x
+    pub next_put : (d : Draft) → Ok d ≡ x → (y : Next) → y ≡ put_next size end u s t op d → y ≡ next_by size end u s t op x
     unfolding next_by
-    next_put d e y h = rw (← is, e) h
+    next_put d e y h = rw (← e) h
 
 pub drawable : (f : List ℕ) (u : Vector) (marks : List ℕ) (end : ℕ) (t : List ℕ) (s : ℕ) (op : List ℕ) → Turn f u marks end t s op
-    → (v : Vector) (n p : ℕ) (r : Drafted) → r ≡ drafted_in (log_of width f) v t s n p → (d : Draft) → r ≡ Op d
-    → (size : ℕ) → size ≡ length f → Drawable t op d end size
-drawable f u marks end t s op x v n p r is d e size l = record {
-  there = rw x.ground.size (draft_slot (log_of width f) v t s n p d (sym is ∙ e));
+    → (v : Vector) (n p : ℕ) (d : Draft) → Ok d ≡ drafted_in (log_of width f) v t s n p → (size : ℕ) → size ≡ length f → Drawable t op d end size
+drawable f u marks end t s op x v n p d e size l = record {
+  there = rw x.ground.size (draft_slot (log_of width f) v t s n p d (sym e));
   bytes = x.bytes;
   inside = rw l x.inside;
 }

@@ -28,14 +28,14 @@ use Rattle.codec.proofs.AnswerLaws.{accepted_with, if_accepted_law}
 use Rattle.delivery.specs.Adding.{last_test, room_test}
 use Rattle.oplog.proofs.HeaderLaws.{end_is}
 use Rattle.issue.specs.Issuing.{Lent, bytes_of, cleared_op, drafted, put_out}
-use Rattle.issue.specs.declared.draft.Drafted.{Drafted}
-use Rattle.issue.specs.declared.draft.Drafted.TheVariants.{Op, Refused}
+use Rattle.issue.specs.Issuing.{Drafted}
+use Rattle.std.specs.Prelude.{Ok, Err}
 use Rattle.issue.proofs.IssueCases.{issue_put, issue_refused, op_of}
 use Rattle.marks.specs.Knowing.{MarkedLog}
 use Rattle.batch_rules.specs.Batch.{move_buffer, moves_answer, moves_buffer, moves_ops, most_moves}
 use Rattle.batch_rules.proofs.BatchLaws.{AllTaken, Carried, Settled, yes, no, issue_settled, ops_parts, parents_after, taken_answer, taken_both, taken_carried, taken_first}
 use Rattle.batch.specs.Planning.{Next, Planned, Prepared, Turn, drafted_in, next_by, put_next}
-use Rattle.batch.proofs.DraftCases.{draft_moved, draft_node, draft_parent}
+use Rattle.batch.proofs.DraftCases.{leaving, draft_moved, draft_node, draft_parent}
 use Rattle.batch.proofs.TakenLaws.{taken_count, taken_counts, taken_end}
 
 ---- a move is tested at f, with the counts and the tree of g, as it would be at g
@@ -58,11 +58,11 @@ module _ (f g : List ℕ) (c : Carried f g) (s : ℕ) (is : is_replica s ≡ tru
 
     answer_is : (r : Drafted) → r ≡ drafted there s (move n p) → (left r).answer ≡ issue_answer width g width s (move n p)
     unfolding next_by put_next room_test put_out last_test
-    answer_is (Refused why) e =
-        ap (λ (x : Issued). x.answer) (issue_refused g op s (move n p) lent (Refused why) e why refl)
+    answer_is (Err why) e =
+        ap (λ (x : Issued). x.answer) (issue_refused g op s (move n p) lent why e)
         ∙ ap (λ k. issue_answer width g k s (move n p)) long
-    answer_is (Op d) e =
-        rw (← c.size) (ap (λ (x : Issued). x.answer) (issue_put g op s (move n p) lent (Op d) e d refl _ refl)
+    answer_is (Ok d) e =
+        rw (← c.size) (ap (λ (x : Issued). x.answer) (issue_put g op s (move n p) lent d e _ refl)
         ∙ ap (λ k. issue_answer width g k s (move n p)) long)
 
     abbrev draft : Drafted
@@ -70,9 +70,9 @@ module _ (f g : List ℕ) (c : Carried f g) (s : ℕ) (is : is_replica s ≡ tru
 
     left_by : (r : Drafted) → draft ≡ r → is_accepted (left r).answer ≡ true
         → ((left r).op ≡ issued there s (move n p)) × ((left r).tree ≡ set (parents_of there) (slot_of n) p)
-    unfolding next_by put_next cleared_op is_accepted
-    left_by (Refused why) e a = never a
-    left_by (Op d) e a =
+    unfolding next_by put_next cleared_op
+    left_by (Err why) e a = never a
+    left_by (Ok d) e a =
         let moved = draft_moved (log_of width f) (counts_of there) (parents_of there) s n p d e in
         let node = draft_node (log_of width f) (counts_of there) (parents_of there) s n p d e in
         let parent = draft_parent (log_of width f) (counts_of there) (parents_of there) s n p d e in (
@@ -241,7 +241,7 @@ module _ (f : List ℕ) (u : Vector) (marks : List ℕ) (s : ℕ) (ns : List ℕ
       answer_here = turn_answer f here carried s x.is_replica_so node p part part_long y so
 
       pub plan_refused : is_accepted a ≡ false → (b : List ℕ) → Planned f s ns p a b
-      unfolding is_accepted unless_refused
+      unfolding unless_refused
       plan_refused h b = record {
         answered = sym (rest ∙ go (sym answer_here) (issue_settled here width s (move node p)));
         written = λ w. never (sym h ∙ w);
@@ -311,4 +311,4 @@ module _ (f : List ℕ) (u : Vector) (marks : List ℕ) (s : ℕ) (ns : List ℕ
 ---- what the code of planning needs: search planning
 pub ruleset turning = (plan_counts, plan_node, plan_part, plan_asks, plan_refused, plan_on)
 
-pub ruleset planning = (rules, tested, plan_starts, plan_inside, plan_fits, plan_end_fits, plan_small, turning, plan_ends)
+pub ruleset planning = (rules, tested, leaving, plan_starts, plan_inside, plan_fits, plan_end_fits, plan_small, turning, plan_ends)

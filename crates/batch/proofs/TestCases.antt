@@ -55,4 +55,4 @@ batch_tested f room s ns a b c = record {
 ---- what the code of the tests needs: search fitting, search testing
 pub ruleset fitting = (rules, too_many, few_enough)
 
-pub ruleset testing = (rules, tested, batch_unsound, batch_short, batch_no_replica, batch_tested)
+pub ruleset testing = (rules, tested, fitting, batch_unsound, batch_short, batch_no_replica, batch_tested)

@@ -15,8 +15,8 @@ use Rattle.codec.specs.declared.answer.Refusal.TheVariants.{Unknown, Exhausted, 
 use Rattle.delivery.specs.Adding.{room_test}
 use Rattle.issue.specs.Issuing.{bytes_of, moved_in}
 use Rattle.issue.specs.declared.draft.Draft.{Draft}
-use Rattle.issue.specs.declared.draft.Drafted.{Drafted}
-use Rattle.issue.specs.declared.draft.Drafted.TheVariants as drafts
+use Rattle.issue.specs.Issuing.{Drafted}
+use Rattle.std.specs.Prelude.{Ok, Err}
 use Rattle.marks.specs.Knowing.{MarkedLog}
 
 ---- one move
@@ -24,9 +24,9 @@ use Rattle.marks.specs.Knowing.{MarkedLog}
 -- the tests 9, 7, 11 and 10 of a move, or the op: by what a log knows, and by other counts u and another tree t
 unfoldable pub drafted_in : Log → (u : Vector) (t : List ℕ) (s n p : ℕ) → Drafted
 drafted_in log u t s n p =
-    cond (not (ltb (count_in u s) 255)) (drafts.Refused Exhausted)
-    (cond (not (request_known log (move n p))) (drafts.Refused Unknown)
-    (cond (not (request_unmarked log (move n p))) (drafts.Refused Marked) (moved_in t n p)))
+    cond (not (ltb (count_in u s) 255)) (Err Exhausted)
+    (cond (not (request_known log (move n p))) (Err Unknown)
+    (cond (not (request_unmarked log (move n p))) (Err Marked) (moved_in t n p)))
 
 -- what a move leaves: the answer, the tree and the bytes of its op
 pub record Next : Type 0 where
@@ -41,8 +41,8 @@ put_next size end u s t op d =
     record { answer = a; tree = if_accepted a (set t (slot_of d.node) d.parent) t; op = if_accepted a (bytes_of s d u) op }
 
 unfoldable pub next_by : (size end : ℕ) (u : Vector) (s : ℕ) (t op : List ℕ) → Drafted → Next
-next_by size end u s t op (drafts.Op d) = put_next size end u s t op d
-next_by size end u s t op (drafts.Refused why) = record { answer = refused (number_of why); tree = t; op = op }
+next_by size end u s t op (Ok d) = put_next size end u s t op d
+next_by size end u s t op (Err why) = record { answer = refused (number_of why); tree = t; op = op }
 
 ---- all moves
 

@@ -1,3 +1,5 @@
+#![tactic(auto, using(crate::proofs::TestCases::testing))]
+
 ghost use Rattle.std.specs.Prelude.{◌≡◌, true};
 ghost use Rattle.rules.specs.File.{width};
 ghost use Rattle.rules.specs.Sound.{sound};
@@ -6,8 +8,7 @@ ghost use Rattle.batch_rules.specs.Batch.{batch_fits};
 ghost use Rattle.batch_rules.specs.Batch as rules;
 
 use crate::putting::{MOST, issue_all};
-use codec::{Answer, Refusal};
-use issue::is_replica;
+use codec::{Refusal, is_replica};
 use soundness::{WIDTH, is_sound};
 
 // Number 2: few enough nodes, and bytes for an op of each.
@@ -21,16 +22,22 @@ fn fits(n: usize, room: usize) -> bool
 }
 
 // Issues a batch at a sound log: the tests from 2 on.
-fn issue_sound(buf: &mut [u8], replica: u8, nodes: &[u16], parent: u16, out: &mut [u8]) -> Answer
+fn issue_sound(
+    buf: &mut [u8],
+    replica: u8,
+    nodes: &[u16],
+    parent: u16,
+    out: &mut [u8],
+) -> Result<usize, Refusal>
     requires { sound width buf.old ≡ true }
     ensures { record { answer = answer_of result; buffer = buf.new; out = out.new }
         ≡ rules.issue_moves width buf.old out.old replica nodes.now parent }
 {
     if !fits(nodes.len(), out.len()) {
-        return Answer::Refused(Refusal::Length);
+        return Err(Refusal::Length);
     }
     if !is_replica(replica) {
-        return Answer::Refused(Refusal::Malformed);
+        return Err(Refusal::Malformed);
     }
     issue_all(buf, replica, nodes, parent, out)
 }
@@ -44,12 +51,12 @@ pub fn issue_moves(
     nodes: &[u16],
     parent: u16,
     out: &mut [u8],
-) -> Answer
+) -> Result<usize, Refusal>
     ensures { record { answer = answer_of result; buffer = buf.new; out = out.new }
         ≡ rules.issue_moves width buf.old out.old replica nodes.now parent }
 {
     if !is_sound(buf) {
-        return Answer::Refused(Refusal::Unsound);
+        return Err(Refusal::Unsound);
     }
     issue_sound(buf, replica, nodes, parent, out)
 }

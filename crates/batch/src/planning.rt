@@ -1,3 +1,5 @@
+#![tactic(auto, using(crate::proofs::PlanCases::planning))]
+
 ghost use Rattle.std.specs.Prelude.{◌≡◌, ◌<◌, length, set};
 ghost use Rattle.rules.specs.File.{width, log_of};
 ghost use Rattle.rules.specs.Tree.{slot_of};
@@ -6,9 +8,9 @@ ghost use Rattle.batch.specs.Planning.{Drawable, Plannable, Planned, Prepared, T
 ghost use Rattle.batch.specs.Planning.{drafted_in, next_by, put_next};
 
 use crate::drafting::draft_next;
-use codec::{Answer, Refusal, is_accepted, widen, write_op};
+use codec::{Refusal, write_op};
 use effect::Tables;
-use issue::{Draft, Drafted};
+use issue::Draft;
 use marks::mark_ops;
 use oplog::{counts_of, end_of, with_more};
 use replay::replay_all;
@@ -33,19 +35,19 @@ fn put_next(
     draft: Draft,
     parents: &mut [u16],
     op: &mut [u8],
-) -> Answer
+) -> Result<usize, Refusal>
     requires { Drawable parents.old op.old draft end size }
     ensures { record { answer = answer_of result; tree = parents.new; op = op.new }
         ≡ put_next size end counts replica parents.old op.old draft }
 {
     if size - end < WIDTH {
-        return Answer::Refused(Refusal::NoRoom);
+        return Err(Refusal::NoRoom);
     }
     let node = draft.node;
     let parent = draft.parent;
     write_op(op, draft.kind, replica, node, parent, counts);
     hang(parents, node, parent);
-    Answer::Accepted(end + WIDTH)
+    Ok(end + WIDTH)
 }
 
 // The next move of a batch: its tests in the tree that those before it leave, its op, and the tree
@@ -61,17 +63,15 @@ fn plan_next(
     node: u16,
     parent: u16,
     op: &mut [u8],
-) -> Answer
+) -> Result<usize, Refusal>
     requires { Turn file.now held marks.now end parents.old replica op.old }
     ensures { record { answer = answer_of result; tree = parents.new; op = op.new }
         ≡ next_by (length file.now) end counts replica parents.old op.old
         (drafted_in (log_of width file.now) counts parents.old replica node parent) }
 {
     let size = file.len();
-    match draft_next(file, held, marks, counts, parents, replica, node, parent) {
-        Drafted::Op(draft) => put_next(size, end, counts, replica, draft, parents, op),
-        Drafted::Refused(why) => Answer::Refused(why),
-    }
+    let draft = draft_next(file, held, marks, counts, parents, replica, node, parent)?;
+    put_next(size, end, counts, replica, draft, parents, op)
 }
 
 // The moves in turn, until one is refused. The tree is carried along.
@@ -84,17 +84,17 @@ fn plan_all(
     nodes: &[u16],
     parent: u16,
     ops: &mut [u8],
-) -> Answer
+) -> Result<usize, Refusal>
     requires { Prepared file.now held marks.now parents.old replica nodes.now ops.old }
     ensures { Planned file.now replica nodes.now parent (answer_of result) ops.new }
 {
     let start = end_of(file, 8, WIDTH);
-    let s = widen(replica);
+    let s = usize::from(replica);
     for i in 0..nodes.len() {
         let at = WIDTH * i;
         let to = at + WIDTH;
         let counts = with_more(held, s, i);
-        let answer = plan_next(
+        plan_next(
             file,
             held,
             marks,
@@ -105,17 +105,20 @@ fn plan_all(
             nodes[i],
             parent,
             &mut ops[at..to],
-        );
-        if !is_accepted(answer) {
-            return answer;
-        }
+        )?;
     }
-    Answer::Accepted(start + WIDTH * nodes.len())
+    Ok(start + WIDTH * nodes.len())
 }
 
 // Plans a batch at a sound log: its ops, or the first refusal. The log is judged once, and its marks
 // are looked up once.
-pub(crate) fn plan(file: &[u8], replica: u8, nodes: &[u16], parent: u16, ops: &mut [u8]) -> Answer
+pub(crate) fn plan(
+    file: &[u8],
+    replica: u8,
+    nodes: &[u16],
+    parent: u16,
+    ops: &mut [u8],
+) -> Result<usize, Refusal>
     requires { Plannable file.now replica nodes.now ops.old }
     ensures { Planned file.now replica nodes.now parent (answer_of result) ops.new }
 {

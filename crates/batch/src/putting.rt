@@ -1,3 +1,5 @@
+#![tactic(auto, using(crate::proofs::PutCases::putting))]
+
 ghost use Rattle.std.specs.Prelude.{◌≡◌, length};
 ghost use Rattle.rules.specs.File.{width, chunks};
 ghost use Rattle.codec.specs.Answers.{answer_of};
@@ -6,7 +8,7 @@ ghost use Rattle.batch_rules.specs.Claims.{Tested};
 ghost use Rattle.batch_rules.specs.Batch as rules;
 
 use crate::planning::plan;
-use codec::{Answer, is_accepted, widen};
+use codec::Refusal;
 use oplog::{append_ops, counts_of, end_of, put_front};
 use soundness::WIDTH;
 
@@ -22,7 +24,7 @@ fn put_all(buf: &mut [u8], replica: u8, ops: &[u8], n: usize, out: &mut [u8])
         ≡ with_ops buf.old out.old replica (chunks width n ops.now) }
 {
     let counts = counts_of(buf, WIDTH);
-    append_ops(buf, counts, widen(replica), ops, n, WIDTH);
+    append_ops(buf, counts, usize::from(replica), ops, n, WIDTH);
     put_front(out, ops);
 }
 
@@ -34,17 +36,14 @@ fn issue_some(
     parent: u16,
     ops: &mut [u8],
     out: &mut [u8],
-) -> Answer
+) -> Result<usize, Refusal>
     requires { SomeMoves buf.old replica nodes.now ops.old out.old }
     ensures { record { answer = answer_of result; buffer = buf.new; out = out.new }
         ≡ rules.issue_moves width buf.old out.old replica nodes.now parent }
 {
-    let answer = plan(buf, replica, nodes, parent, ops);
-    if !is_accepted(answer) {
-        return answer;
-    }
+    let end = plan(buf, replica, nodes, parent, ops)?;
     put_all(buf, replica, ops, nodes.len(), out);
-    answer
+    Ok(end)
 }
 
 // Issues a batch at a sound log, after the tests 1, 2 and 3. An empty one writes nothing.
@@ -54,14 +53,14 @@ pub(crate) fn issue_all(
     nodes: &[u16],
     parent: u16,
     out: &mut [u8],
-) -> Answer
+) -> Result<usize, Refusal>
     requires { Tested buf.old (length out.old) replica nodes.now }
     ensures { record { answer = answer_of result; buffer = buf.new; out = out.new }
         ≡ rules.issue_moves width buf.old out.old replica nodes.now parent }
 {
     let n = nodes.len();
     if n == 0 {
-        return Answer::Accepted(end_of(buf, 8, WIDTH));
+        return Ok(end_of(buf, 8, WIDTH));
     }
     let len = WIDTH * n;
     let mut ops = [0u8; BYTES];

@@ -5,9 +5,6 @@ use lib.Dec.{ltb, lit<}
 use lib.ListN.{length, drop, get_or, replicate}
 use mathlib.Core.List.{List, [], ◌∷◌, ◌++◌}
 use mathlib.Core.Path.{◌≡◌, refl, sym, ap, ◌∙◌}
-use borrow.Author.Rules.{Fits-under}
-use mir.Syntax.{w64}
-use mir.Val.{Fits}
 use native.Mathlib.Nat.{div-div-eq-div-mul, pow-suc, pow-succ', not-suc-le-zero, le_of_suc-le-suc}
 use native.Mathlib.Omega.{arith}
 use Rattle.lists.specs.Lists.{filter}
@@ -115,14 +112,8 @@ module _ (n : ℕ) where
   pub ones_few : n < 256 → ones n ≤ 8
   ones_few l = ones-le 8 n l
 
-  pub ones_fits : n < 256 → Fits w64 (ones n)
-  ones_fits l = Fits-under w64 (ones n) 9 (omega (arith, ones_few l)) tt
-
   pub zeros_few : count_trailing_zeros 8 n ≤ 8
   zeros_few = trailing_le 8 n
-
-  pub zeros_fit : Fits w64 (count_trailing_zeros 8 n)
-  zeros_fit = Fits-under w64 (count_trailing_zeros 8 n) 9 (omega (arith, zeros_few)) tt
 
   pub bits_above_are : n / 2 ^ count_trailing_zeros 8 n / 2 ≡ n / 2 ^ suc (count_trailing_zeros 8 n)
   bits_above_are = div-div-eq-div-mul n (2 ^ count_trailing_zeros 8 n) 2 ∙ ap (λ (x : ℕ). n / x) (sym (pow-suc 2 (count_trailing_zeros 8 n)))

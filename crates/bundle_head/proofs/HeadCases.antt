@@ -1,11 +1,12 @@
 -- The head of a bundle, as the code meets it.
 use Prim.Native.Nat.{ℕ, suc, ◌+◌, ◌*◌, ◌-◌, ◌/◌, ◌^◌, ◌≤◌, ◌<◌}
 use borrow.Author.Rules.{rules}
-use borrow.Author.Tests.{eq-eqb, ne_eqb}
 use lib.Count.{ones, count_trailing_zeros}
-use lib.Dec.{ltb}
+use lib.Dec.{eqb, ltb}
 use lib.ListN.{length, length-drop, length-set, take, drop, get_or, set, replicate, take-append-drop}
-use lib.Seq.{drop-drop, drop-set-lt, get_or-drop, take-add, take_all, take-suc-set}
+use lib.Seq.{drop-drop, drop-set-lt, get_or-drop, take-add, take-suc-set}
+use mir.Val.{bool_byte}
+use mathlib.Core.Bool.{Bool, true, false, cond, not}
 use mathlib.Core.List.{List, [], ◌∷◌, ◌++◌, append_assoc}
 use mathlib.Core.Path.{◌≡◌, refl, sym, ap, ◌∙◌}
 use native.Mathlib.Numerals.{add-one}
@@ -55,24 +56,18 @@ module _ (counts : Vector) where
     pub sum_fits : i < 8 → (k : ℕ) → k ≤ 255 → n + k ≤ 2040
     sum_fits h k small = omega (arith, x.few)
 
-    pub sum_all : length counts ≡ 8 → 8 ≤ i → (n ≡ sum counts) × (n ≤ 2040)
-    sum_all e h =
-        let eight : i ≡ 8 = omega (arith, x.made) in
-        (x.part ∙ rw (eight, take_all 8 counts (omega arith)), omega (arith, x.few))
-
 ---- the first byte
-
-module _ (n : ℕ) where
-  pub bit_none : n ≡ 0 → (0 ≡ bit_of n) × (0 ≤ 1)
-  unfolding bit_of
-  bit_none e = (rw (eq-eqb n 0 e), omega arith)
-
-  pub bit_set : (n ≡ 0 → ⊥) → (1 ≡ bit_of n) × (1 ≤ 1)
-  unfolding bit_of
-  bit_set e = (rw (ne_eqb n 0 e), omega arith)
 
 abbrev IsBit : ℕ → ℕ → Type 0
 IsBit b n = (b ≡ bit_of n) × (b ≤ 1)
+
+pub bit_is : (n r : ℕ) → r ≡ bool_byte (not (eqb n 0)) → IsBit r n
+unfolding bit_of
+bit_is n r e = go (eqb n 0) e
+  where
+    go : (b : Bool) → r ≡ bool_byte (not b) → (r ≡ cond b 0 1) × (r ≤ 1)
+    go true e = (e, omega arith)
+    go false e = (e, omega arith)
 
 pub four_are : (a b c d p q r s : ℕ) → IsBit p a → IsBit q b → IsBit r c → IsBit s d
     → (p + 2 * (q + 2 * (r + 2 * s)) ≡ head_byte (a ∷ b ∷ c ∷ d ∷ [])) × (p + 2 * (q + 2 * (r + 2 * s)) ≤ 15)

@@ -4,7 +4,7 @@ use Rattle.lists.specs.Lists.{all, filter, sum}
 use Rattle.rules.specs.Bundle.{bodies_in, head_byte, head_counts, head_size, ops_by}
 use Rattle.rules.specs.Bytes.{byte}
 use Rattle.rules.specs.File.{width}
-use Rattle.rules.specs.Op.{Op, Vector, replicas, count_in, replica_of}
+use Rattle.rules.specs.Op.{Op, Vector, replicas, count_in}
 
 -- how many ops of each replica are beyond counts, where u are held
 unfoldable pub beyond_at : (held counts : Vector) → ℕ → ℕ
@@ -26,10 +26,6 @@ pub record HeadRoom (out : List ℕ) (head : ℕ) (counts : Vector) : Type 0 whe
 pub record WholeHead (b : List ℕ) (head : ℕ) : Type 0 where
   pub is_head : head ≡ byte b 0
   pub whole : head_size b ≤ length b
-
--- 1 for an op of replica s, else 0
-unfoldable pub is_by : Op → ℕ → ℕ
-is_by r s = cond (eqb (replica_of r) s) 1 0
 
 -- of a replica there are as many ops as are counted; of each replica
 unfoldable pub agrees_at : List Op → Vector → ℕ → Bool

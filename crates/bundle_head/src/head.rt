@@ -4,36 +4,26 @@ ghost use Rattle.rules.specs.Bundle.{head_byte, head_counts};
 ghost use Rattle.bundle_head.specs.Head.{HeadRoom, WholeHead, beyond_of, bit_of};
 
 use crate::bits::{bits_above, zeros_below};
-use codec::widen;
 
-// How many ops of a replica are beyond the other's count.
-fn beyond_one(held: u8, count: u8) -> u8
-    ensures { result ≡ held - count }
-{
-    if held <= count {
-        return 0;
-    }
-    held - count
-}
-
-// How many ops of each replica are beyond the other's counts.
+// How many ops of each replica are beyond the other's counts. By index: of `from_fn` the proof did not
+// close, whose closure reads two arrays.
 pub fn beyond_counts(held: [u8; 8], counts: [u8; 8]) -> [u8; 8]
     ensures { result ≡ beyond_of held counts }
 {
     let mut beyond = [0u8; 8];
     for i in 0..8 {
-        beyond[i] = beyond_one(held[i], counts[i]);
+        beyond[i] = held[i].saturating_sub(counts[i]);
     }
     beyond
 }
 
-// The sum of eight counts.
+// The sum of eight counts. By a loop: of a chain's `sum` it is not known that it is at most 8 x 255.
 pub fn total(counts: [u8; 8]) -> usize
     ensures { (result ≡ sum counts) × (result ≤ 2040) }
 {
     let mut sum = 0;
-    for i in 0..8 {
-        sum += widen(counts[i]);
+    for count in counts {
+        sum += usize::from(count);
     }
     sum
 }
@@ -42,13 +32,11 @@ pub fn total(counts: [u8; 8]) -> usize
 fn bit_of(count: u8) -> u8
     ensures { (result ≡ bit_of count) × (result ≤ 1) }
 {
-    if count == 0 {
-        return 0;
-    }
-    1
+    u8::from(count != 0)
 }
 
-// The bits of four replicas, the first lowest.
+// The bits of four replicas, the first lowest. A fold over the counts has no bound for its number: its
+// closure does not know how many bits are in it.
 fn four_bits(a: u8, b: u8, c: u8, d: u8) -> u8
     ensures { (result ≡ head_byte (a ∷ b ∷ c ∷ d ∷ [])) × (result ≤ 15) }
 {
@@ -64,7 +52,8 @@ pub fn head_byte(counts: [u8; 8]) -> u8
     low + 16 * high
 }
 
-// Writes a count byte for each bit of the head that is set, in replica order, behind the first byte.
+// Writes a count byte for each bit of the head that is set, in replica order, behind the first byte. No
+// iterator gives the bits that are set.
 pub fn put_counts(out: &mut [u8], head: u8, counts: [u8; 8])
     requires { HeadRoom out.old head counts }
     ensures { out.new ≡ take 1 out.old
@@ -82,7 +71,8 @@ pub fn put_counts(out: &mut [u8], head: u8, counts: [u8; 8])
     }
 }
 
-// The counts that a head gives: the next count byte for each bit that is set, else 0.
+// The counts that a head gives: the next count byte for each bit that is set, else 0. No
+// iterator gives the bits that are set.
 pub fn head_counts(bundle: &[u8], head: u8) -> [u8; 8]
     requires { WholeHead bundle.now head }
     ensures { result ≡ head_counts bundle.now }

@@ -1,8 +1,8 @@
-ghost use Rattle.std.specs.Prelude.{◌≡◌, ◌+◌, ◌*◌, ◌≤◌, ltb, length, drop};
+ghost use Rattle.std.specs.Prelude.{◌≡◌, ◌*◌, ◌≤◌, ltb, length};
 ghost use Rattle.lists.specs.Lists.{all};
 ghost use Rattle.rules.specs.Bundle.{head_size, ops_by, whole_bundle};
 ghost use Rattle.rules.specs.File.{chunks, width};
-ghost use Rattle.bundle_head.specs.Head.{BodiesOf, HeadEnd, agrees, agrees_at, filled, is_by};
+ghost use Rattle.bundle_head.specs.Head.{BodiesOf, HeadEnd, agrees, agrees_at, filled};
 
 use crate::bits::head_bytes;
 use crate::head::{head_counts, total};
@@ -21,23 +21,7 @@ pub fn head_size(bundle: &[u8]) -> usize
 fn none_zero(counts: &[u8]) -> bool
     ensures { result ≡ all (ltb 0) counts.now }
 {
-    for i in 0..counts.len() {
-        if counts[i] == 0 {
-            return false;
-        }
-    }
-    true
-}
-
-// 1 if the body at a place is of a replica, else 0.
-fn by_one(bodies: &[u8], at: usize, s: usize) -> usize
-    requires { at + 14 ≤ length bodies.now }
-    ensures { (result ≡ is_by (drop at bodies.now) s) × (result ≤ 1) }
-{
-    if widen(replica_at(bodies, at)) == s {
-        return 1;
-    }
-    0
+    counts.iter().all(|count| 0 < *count)
 }
 
 // How many of n bodies are of a replica.
@@ -45,11 +29,11 @@ fn bodies_by(bodies: &[u8], n: usize, s: usize) -> usize
     requires { width * n ≤ length bodies.now }
     ensures { result ≡ ops_by (chunks width n bodies.now) s }
 {
-    let mut count = 0;
-    for i in 0..n {
-        count += by_one(bodies, WIDTH * i, s);
-    }
-    count
+    let bodies = &bodies[..WIDTH * n];
+    bodies
+        .chunks_exact(WIDTH)
+        .filter(|body| widen(replica_at(body, 0)) == s)
+        .count()
 }
 
 // Whether of a replica there are as many bodies as the head says.
@@ -65,12 +49,7 @@ fn bodies_agree(bodies: &[u8], n: usize, counts: [u8; 8]) -> bool
     requires { width * n ≤ length bodies.now }
     ensures { result ≡ agrees (chunks width n bodies.now) counts }
 {
-    for s in 1..9usize {
-        if !agrees_at(bodies, n, counts, s) {
-            return false;
-        }
-    }
-    true
+    (1..9usize).all(|s| agrees_at(bodies, n, counts, s))
 }
 
 // Whether the length and the bodies' replicas are what a head of so many bytes says.

@@ -2,7 +2,6 @@
 use Prim.Native.Nat.{ℕ, ◌≤◌, ◌<◌}
 use borrow.Author.Rules.{rules}
 use borrow.Author.Tests.{eqb-true, le-ltb, lt-ltb}
-use lib.Dec.{eqb}
 use mathlib.Core.Bool.{Bool, true, false}
 use mathlib.Core.List.{List, [], ◌∷◌, ◌++◌}
 use mathlib.Core.Path.{◌≡◌, refl, sym, ap, ◌∙◌}
@@ -18,11 +17,10 @@ use Rattle.rules.proofs.DeliverLaws.{deliver_sound, never_waiting}
 use Rattle.rules.proofs.ReleaseLaws.{early_kept}
 use Rattle.rules.proofs.SearchLaws.{search_sound}
 use Rattle.rules.proofs.VerdictLaws.{early_long}
-use Rattle.codec.specs.Answers.{answer_of, number_of}
+use Rattle.codec.specs.Answers.{number_of}
 use Rattle.codec.specs.Asked.{is_accepted}
-use Rattle.codec.specs.declared.answer.Answer.TheVariants.{Refused, HadIt, Waiting, Done, Accepted}
+use Rattle.codec.specs.declared.answer.Refusal.TheVariants.{Unsound, Length, Malformed, Conflict, Early, NotClosed, Unknown, NoRoom, Exhausted, Cycle, Marked, BadBundle, HoldbackFull, BadHoldback}
 use Rattle.codec.specs.declared.answer.Refusal.{Refusal}
-use Rattle.codec.specs.declared.answer.Answer as code
 use Rattle.codec.proofs.AnswerLaws.{accepted_with, if_not_accepted}
 use Rattle.oplog.proofs.HeaderLaws.{end_is}
 use Rattle.holdback.specs.Delivering.{EarlyResult, after_search, early_call, is_early}
@@ -38,29 +36,24 @@ handed_early a h = record { answer = a; holdback = h }
 
 ---- whether an op is early
 
-module _ (a : code.Answer) where
-  pub early_by : (why : Refusal) → a ≡ Refused why → (n : ℕ) → n ≡ number_of why → eqb n 5 ≡ is_early (answer_of a)
-  unfolding is_early
-  early_by why is n e = rw (is, e)
-
-  pub had_not : a ≡ HadIt → false ≡ is_early (answer_of a)
-  unfolding is_early
-  had_not e = rw e
-
-  pub waiting_not : a ≡ Waiting → false ≡ is_early (answer_of a)
-  unfolding is_early
-  waiting_not e = rw e
-
-  pub done_not : a ≡ Done → false ≡ is_early (answer_of a)
-  unfolding is_early
-  done_not e = rw e
-
-  pub accepted_not : (n : ℕ) → a ≡ Accepted n → false ≡ is_early (answer_of a)
-  unfolding is_early
-  accepted_not n e = rw e
+-- only 5 says that
+pub not_early : (why : Refusal) → (why ≡ Early → ⊥) → is_early (refused (number_of why)) ≡ false
+not_early Unsound n = refl
+not_early Length n = refl
+not_early Malformed n = refl
+not_early Conflict n = refl
+not_early Early n = absurd (n refl)
+not_early NotClosed n = refl
+not_early Unknown n = refl
+not_early NoRoom n = refl
+not_early Exhausted n = refl
+not_early Cycle n = refl
+not_early Marked n = refl
+not_early BadBundle n = refl
+not_early HoldbackFull n = refl
+not_early BadHoldback n = refl
 
 early_as : (a : Answer) → is_early a ≡ true → a ≡ refused 5
-unfolding is_early
 early_as (refused n) e = ap refused (eqb-true n 5 e)
 early_as had_it e = never e
 early_as waiting e = never e
@@ -156,7 +149,7 @@ module _ (f r h : List ℕ) (x : Searchable f h) where
             rw (same_buffer, early_so, early_kept width r h _ f, kept _, b_so, h_so)
 
       pub then_same : is_early a ≡ false → handed a g h ≡ deliver_holdback width f r h
-      unfolding holdback_buffer holdback_after answer_on is_early is_accepted
+      unfolding holdback_buffer holdback_after answer_on
       then_same w = rw (same_buffer, answer_on_law) (go a answer_is t w)
         where
           go : (b : Answer) → b ≡ deliver_answer width f r → is_accepted b ≡ false → is_early b ≡ false
@@ -185,12 +178,8 @@ module _ (f r h : List ℕ) where
     call_asks e = record { is_sound_so = a; is_holdback = e }
 
 ---- what the code of delivering needs: search holding, calling
-pub ruleset earlies = (early_by, had_not, waiting_not, done_not, accepted_not)
-
 pub ruleset helds = (hold_counts, held_once, held_full, held_room, held_last)
 
 pub ruleset thens = (search_leaves, search_answers, then_search, then_released, then_early, then_held, then_same)
 
-pub ruleset holding = (rules, tested, earlies, helds, thens)
-
-pub ruleset calling = (rules, tested, call_unsound, call_bad, call_asks)
+pub ruleset holding = (rules, tested, helds, thens, not_early, call_unsound, call_bad, call_asks)

@@ -1,8 +1,6 @@
 -- The search in a holdback, as the code meets it.
 use Prim.Native.Nat.{ℕ, suc, ◌+◌, ◌*◌, ◌-◌, ◌≤◌, ◌<◌}
 use borrow.Author.Rules.{rules}
-use borrow.Author.Tests.{eq-eqb, ne_eqb}
-use lib.Dec.{eqb}
 use lib.ListN.{length, length-append, length-drop, length-take, take, drop, drop_of_length-le}
 use lib.Seq.{drop_at, drop-cons, drop-drop, length-take-le, take_all, take_at, take-suc}
 use mathlib.Core.Bool.{Bool, true, false, cond}
@@ -16,21 +14,15 @@ use Rattle.rules.specs.Bytes.{byte}
 use Rattle.rules.specs.Deliver.{Result, deliver, deliver_answer, deliver_buffer}
 use Rattle.rules.specs.File.{width}
 use Rattle.rules.specs.Holdback.{Desk, holdback_of, holdback_ops, look, search, search_on, sound_holdback, stays}
-use Rattle.rules.specs.Op.{Op, well_formed}
-use Rattle.rules.specs.Sound.{sound}
+use Rattle.rules.specs.Op.{Op}
 use Rattle.rules.proofs.DeliverLaws.{deliver_length, deliver_sound, if_not}
 use Rattle.rules.proofs.FileLaws.{Wide, chunk_at, wide_both, wide_drop, wide_take}
 use Rattle.rules.proofs.HoldbackLaws.{sound_reads, ops_count, ops_wide, ops_back, holdback_back, holdback_sound}
 use Rattle.rules.proofs.SearchLaws.{look_taken, look_stays, look_drops, search_is}
-use Rattle.codec.specs.Answers.{answer_of, number_of}
-use Rattle.codec.specs.declared.answer.Answer.TheVariants.{Refused, HadIt, Waiting, Done, Accepted}
+use Rattle.codec.specs.Answers.{number_of}
 use Rattle.codec.specs.declared.answer.Refusal.{Refusal}
-use Rattle.codec.specs.declared.answer.Answer as code
-use Rattle.codec.specs.declared.answer.Refusal.TheVariants.{Length, Malformed}
-use Rattle.codec.specs.Read.{fields_of, read_of}
-use Rattle.codec.specs.declared.op.Read.{Read}
-use Rattle.codec.specs.declared.op.Read.TheVariants as read
-use Rattle.delivery.proofs.DeliverCases.{delivering, unread}
+use Rattle.codec.specs.declared.answer.Refusal.TheVariants.{Unsound, Length, Malformed, Conflict, Early, NotClosed, Unknown, NoRoom, Exhausted, Cycle, Marked, BadBundle, HoldbackFull, BadHoldback}
+use Rattle.delivery.proofs.DeliverCases.{delivering}
 use Rattle.holdback_places.specs.Places.{Occupied, without}
 use Rattle.holdback.specs.Searching.{Meet, Meetable, Searchable, LookAt, desk, left, left_by, met_of, meet_op, searched, looked_at, waiting_at}
 use Rattle.holdback.specs.declared.searching.Met.{Met}
@@ -39,43 +31,53 @@ use Rattle.holdback_places.proofs.PlaceCases.{occupied}
 
 ---- what becomes of an op
 
-module _ (n k : ℕ) (is : n ≡ k) where
-  pub stays_early : n ≡ 5 → true ≡ stays (refused k)
+-- only 5 and 8 stay
+pub stays_else : (why : Refusal) → (why ≡ Early → ⊥) → (why ≡ NoRoom → ⊥) → false ≡ stays (refused (number_of why))
+unfolding stays
+stays_else Unsound a b = refl
+stays_else Length a b = refl
+stays_else Malformed a b = refl
+stays_else Conflict a b = refl
+stays_else Early a b = absurd (a refl)
+stays_else NotClosed a b = refl
+stays_else Unknown a b = refl
+stays_else NoRoom a b = absurd (b refl)
+stays_else Exhausted a b = refl
+stays_else Cycle a b = refl
+stays_else Marked a b = refl
+stays_else BadBundle a b = refl
+stays_else HoldbackFull a b = refl
+stays_else BadHoldback a b = refl
+
+module _ (why : Refusal) where
+  pub stays_early : why ≡ Early → true ≡ stays (refused (number_of why))
   unfolding stays
-  stays_early e = rw (eq-eqb k 5 (sym is ∙ e))
+  stays_early e = rw e
 
-  pub stays_else : (n ≡ 5 → ⊥) → eqb n 8 ≡ stays (refused k)
+  pub stays_full : why ≡ NoRoom → true ≡ stays (refused (number_of why))
   unfolding stays
-  stays_else d = rw (← is, ne_eqb n 5 d)
+  stays_full e = rw e
 
-module _ (why : Refusal) (b : Bool) (is : b ≡ stays (refused (number_of why))) where
-  pub refused_stays : b ≡ true → Stays ≡ met_of (refused (number_of why))
-  unfolding met_of
-  refused_stays e = rw (← is, e)
+  module _ (b : Bool) (is : b ≡ stays (refused (number_of why))) where
+    pub refused_stays : b ≡ true → Stays ≡ met_of (refused (number_of why))
+    unfolding met_of
+    refused_stays e = rw (← is, e)
 
-  pub refused_dropped : b ≡ false → Dropped ≡ met_of (refused (number_of why))
-  unfolding met_of
-  refused_dropped e = rw (← is, e)
+    pub refused_dropped : b ≡ false → Dropped ≡ met_of (refused (number_of why))
+    unfolding met_of
+    refused_dropped e = rw (← is, e)
 
-module _ (a : code.Answer) where
-  pub met_refused : (why : Refusal) → a ≡ Refused why → (m : Met) → m ≡ met_of (refused (number_of why)) → m ≡ met_of (answer_of a)
-  met_refused why e m is = rw e is
+pub met_taken : (n : ℕ) → Taken ≡ met_of (accepted n)
+unfolding met_of
+met_taken n = refl
 
-  pub met_held : a ≡ HadIt → Dropped ≡ met_of (answer_of a)
-  unfolding met_of stays
-  met_held e = rw e
+pub met_held : Dropped ≡ met_of had_it
+unfolding met_of stays
+met_held = refl
 
-  pub met_waiting : a ≡ Waiting → Dropped ≡ met_of (answer_of a)
-  unfolding met_of stays
-  met_waiting e = rw e
-
-  pub met_done : a ≡ Done → Dropped ≡ met_of (answer_of a)
-  unfolding met_of stays
-  met_done e = rw e
-
-  pub met_taken : (n : ℕ) → a ≡ Accepted n → Taken ≡ met_of (answer_of a)
-  unfolding met_of
-  met_taken n e = rw e
+pub met_waiting : Dropped ≡ met_of waiting
+unfolding met_of stays
+met_waiting = refl
 
 -- what was met tells the answer
 data Told : Answer → Met → Type 0 where
@@ -121,21 +123,6 @@ module _ (f : List ℕ) (x : Op) where
       let answer_so : a ≡ deliver_answer width f x = ap (λ (o : Result). o.answer) e in
       let buffer_so : g ≡ deliver_buffer width f x = ap (λ (o : Result). o.buffer) e in
       rw (is, answer_so, buffer_so)
-
-  -- an op that does not read is refused with 2 or 3
-  pub meet_unread : (r : Read) → r ≡ read_of width x → sound width f ≡ true → (why : Refusal) → r ≡ read.Refused why
-      → record { met = Dropped; buffer = f } ≡ meet_op f x
-  unfolding read_of met_of stays
-  meet_unread r is s why e =
-      meet_is (refused (number_of why)) f (unread f x s r is why e) Dropped (go (eqb (length x) width) (well_formed x) (sym is ∙ e))
-    where
-      -- l and m are the tests of length and form
-      go : (l m : Bool)
-          → cond l (cond m (read.Op (fields_of x)) (read.Refused Malformed)) (read.Refused Length) ≡ read.Refused why
-          → Dropped ≡ met_of (refused (number_of why))
-      go true true z = cc
-      go true false z = let m : Malformed ≡ why = cc in rw (← m)
-      go false m z = let l : Length ≡ why = cc in rw (← l)
 
 ---- a step of the search
 
@@ -399,12 +386,10 @@ module _ (f₀ h₀ f h : List ℕ) (i : ℕ) (x : ScanTo f₀ h₀ f h i) where
     pub holdback_kept : length h ≡ length b
     holdback_kept = x.holdback_size ∙ y.holdback_size
 
----- what the code of the search rules: search meeting, meets, searching
-pub ruleset staying = (stays_early, stays_else, refused_stays, refused_dropped)
+---- what the code of the search rules: search meets, searching
+pub ruleset staying = (stays_early, stays_full, stays_else, refused_stays, refused_dropped, met_taken, met_held, met_waiting)
 
-pub ruleset meeting = (rules, tested, staying, met_refused, met_held, met_waiting, met_done, met_taken)
-
-pub ruleset meets = (delivering, meet_is, meet_unread, meet_inside, meet_place, look_kept, look_took, look_dropped)
+pub ruleset meets = (staying, delivering, meet_is, meet_inside, meet_place, look_kept, look_took, look_dropped)
 
 pub ruleset scanning = (search_starts, scan_starts, scan_counts, scan_meets, scan_stays, stays_less, scan_dropped, dropped_less)
 

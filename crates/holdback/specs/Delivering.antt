@@ -5,7 +5,7 @@ use Rattle.rules.specs.File.{file_end, width}
 use Rattle.rules.specs.Holdback.{HoldbackResult, early_answer, holdback_of, holdback_ops, put_back, search}
 use Rattle.rules.specs.Op.{Op}
 
-unfoldable pub is_early : Answer → Bool
+abbrev pub is_early : Answer → Bool
 is_early (refused n) = eqb n 5
 is_early had_it = false
 is_early waiting = false

@@ -1,18 +1,20 @@
+#![tactic(auto, using(crate::proofs::SearchCases::meets))]
+
 ghost use Rattle.std.specs.Prelude.{◌≡◌, true};
 ghost use Rattle.rules.specs.Answer.{refused};
 ghost use Rattle.rules.specs.File.{width};
 ghost use Rattle.rules.specs.Holdback as rules;
 ghost use Rattle.rules.specs.Sound.{sound};
-ghost use Rattle.codec.specs.Answers.{answer_of, number_of};
+ghost use Rattle.codec.specs.Answers.{delivery_of, number_of};
 ghost use Rattle.holdback.specs.Searching.{met_of, meet_op, waiting_at, looked_at, Meetable, Searchable, desk, searched};
 
-use codec::{Answer, Read, Refusal, number_of, read_op};
-use delivery::deliver_read;
+use codec::{Delivered, Refusal};
+use delivery::deliver_next;
 use holdback_places::{count, free_place};
 use soundness::WIDTH;
 
 // What becomes of an op that the search meets.
-#[derive(Clone, Copy)]
+#[derive(Clone, Copy, Debug, PartialEq, Eq)]
 pub(crate) enum Met {
     Taken,
     Stays,
@@ -23,11 +25,11 @@ pub(crate) enum Met {
 fn stays(why: Refusal) -> bool
     ensures { result ≡ rules.stays (refused (number_of why)) }
 {
-    let n = number_of(why);
-    if n == 5 {
-        return true;
+    match why {
+        Refusal::Early => true,
+        Refusal::NoRoom => true,
+        _ => false,
     }
-    n == 8
 }
 
 fn met_refused(why: Refusal) -> Met
@@ -39,27 +41,24 @@ fn met_refused(why: Refusal) -> Met
     Met::Dropped
 }
 
-fn met_with(answer: Answer) -> Met
-    ensures { result ≡ met_of (answer_of answer) }
+// What becomes of an op that is answered so.
+fn met_with(answer: Result<Delivered, Refusal>) -> Met
+    ensures { result ≡ met_of (delivery_of answer) }
 {
     match answer {
-        Answer::Refused(why) => met_refused(why),
-        Answer::HadIt => Met::Dropped,
-        Answer::Waiting => Met::Dropped,
-        Answer::Done => Met::Dropped,
-        Answer::Accepted(_) => Met::Taken,
+        Ok(Delivered::Accepted(_)) => Met::Taken,
+        Ok(Delivered::HadIt) => Met::Dropped,
+        Ok(Delivered::Waiting) => Met::Dropped,
+        Err(why) => met_refused(why),
     }
 }
 
-// Delivers an op that waits to a sound log. One that does not read is dropped.
+// Delivers an op that waits to a sound log.
 fn meet(buf: &mut [u8], op: &[u8]) -> Met
     requires { sound width buf.old ≡ true }
     ensures { record { met = result; buffer = buf.new } ≡ meet_op buf.old op.now }
 {
-    let Read::Op(fields) = read_op(op, WIDTH) else {
-        return Met::Dropped;
-    };
-    met_with(deliver_read(buf, fields, op))
+    met_with(deliver_next(buf, op))
 }
 
 // Delivers the op that waits at place i.

@@ -6,7 +6,6 @@ ghost use Rattle.rules.specs.Holdback.{holdback_ops, holdback_of, sound_holdback
 ghost use Rattle.holdback_places.specs.Places.{Roomy, Occupied, Compared, close_at, put_at, without};
 
 use codec::widen;
-use oplog::{put_front, same_op};
 use soundness::WIDTH;
 
 // How many ops can wait.
@@ -16,12 +15,7 @@ pub const PLACES: usize = 32;
 fn all_zero(bytes: &[u8]) -> bool
     ensures { result ≡ all (eqb 0) bytes.now }
 {
-    for i in 0..bytes.len() {
-        if bytes[i] != 0 {
-            return false;
-        }
-    }
-    true
+    bytes.iter().all(|byte| *byte == 0)
 }
 
 // Number 14: whether bytes are a holdback.
@@ -52,13 +46,8 @@ pub fn is_waiting(holdback: &[u8], op: &[u8]) -> bool
     requires { Compared holdback.now op.now }
     ensures { result ≡ waits width op.now holdback.now }
 {
-    let n = count(holdback);
-    for i in 0..n {
-        if same_op(holdback, 1 + WIDTH * i, op) {
-            return true;
-        }
-    }
-    false
+    let ops = &holdback[1..1 + WIDTH * count(holdback)];
+    ops.chunks_exact(WIDTH).any(|waiting| waiting == op)
 }
 
 // Stores an op at a place of a holdback.
@@ -66,7 +55,7 @@ fn put_at(holdback: &mut [u8], at: usize, op: &[u8])
     requires { at + length op.now ≤ length holdback.old }
     ensures { holdback.new ≡ put_at holdback.old at op.now }
 {
-    put_front(&mut holdback[at..], op);
+    holdback[at..at + op.len()].copy_from_slice(op);
 }
 
 // Puts an op into the first free place.
@@ -81,26 +70,14 @@ pub fn put_last(holdback: &mut [u8], op: &[u8])
     holdback[0] = n + 1;
 }
 
-// Moves the bytes of a part down by the width; the last ones stay.
-fn move_down(part: &mut [u8], width: usize)
-    requires { width ≤ length part.old }
-    ensures { part.new ≡ drop width part.old ++ drop (length part.old - width) part.old }
-{
-    let end = part.len() - width;
-    for k in 0..end {
-        part[k] = part[k + width];
-    }
-}
-
 // Moves the bytes of a part down by an op; those at the end become zero.
 fn close_up(part: &mut [u8])
     requires { width ≤ length part.old }
     ensures { part.new ≡ drop width part.old ++ replicate width 0 }
 {
-    move_down(part, WIDTH);
     let end = part.len() - WIDTH;
-    let zeros = [0u8; WIDTH];
-    put_front(&mut part[end..], &zeros);
+    part.copy_within(WIDTH.., 0);
+    part[end..].fill(0);
 }
 
 // Closes up the bytes of a holdback from a place on.

@@ -3,4 +3,4 @@
 
 mod answer;
 
-pub use answer::{number, page_number};
+pub use answer::{Reply, number, page_number};

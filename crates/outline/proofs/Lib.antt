@@ -1,2 +1,1 @@
-pub mod ReadCases
 pub mod TextCases

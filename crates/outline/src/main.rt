@@ -4,9 +4,9 @@
 #![tactic(auto)]
 
 ghost use Rattle.std.specs.Prelude.{◌≤◌, ◌<◌, ◌≡◌, length, take};
+ghost use Rattle.std.specs.Result.{IfOk};
 ghost use Rattle.rules.specs.File.{largest, width};
 ghost use Rattle.codec.specs.Answers.{answer_of};
-ghost use Rattle.outline.specs.Reading.{Within};
 ghost use Rattle.outline.specs.Text as texts;
 
 use codec::Answer;
@@ -18,26 +18,19 @@ use std::io::{Print, Read};
 // One byte more than the largest log, so that longer input shows.
 const INPUT: usize = LARGEST + 1;
 
-// What came of reading: so many bytes, or a read that failed, which is not an empty input.
-#[derive(Drop)]
-enum Input {
-    Bytes(usize),
-    Failed(io::Error),
-}
-
-// Reads until the input ends or the buffer is full.
-fn read_all<R: Read>(reader: &mut R, buf: &mut [u8]) -> Input
-    ensures { Within result (length buf.new) }
+// Reads until the input ends or the buffer is full. `read_exact` refuses a shorter input, and
+// `read_to_end` needs a heap.
+fn read_all<R: Read>(reader: &mut R, buf: &mut [u8]) -> io::Result<usize>
+    ensures { IfOk result (λ n. n ≤ length buf.new) }
 {
     let mut done: usize = 0;
     while done < buf.len() {
-        match reader.read(&mut buf[done..]) {
-            Ok(0) => break,
-            Ok(more) => done += more,
-            Err(cause) => return Input::Failed(cause),
+        match reader.read(&mut buf[done..])? {
+            0 => break,
+            more => done += more,
         }
     }
-    Input::Bytes(done)
+    Ok(done)
 }
 
 // Tells on standard error what failed, and why. Where that fails too, nothing is left to do.
@@ -88,11 +81,11 @@ fn run<R: Read>(
     requires { (largest width < length input.old) × (24492 ≤ length out.old) }
 {
     match read_all(reader, input) {
-        Input::Bytes(n) => {
+        Ok(n) => {
             let size = text(input, n, out);
             print(output, errors, out, size);
         }
-        Input::Failed(cause) => tell(errors, "cannot read the input", cause),
+        Err(cause) => tell(errors, "cannot read the input", cause),
     }
 }
 

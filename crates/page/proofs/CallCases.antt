@@ -120,15 +120,13 @@ abbrev handed : Answer → ℕ → (buffer : List ℕ) → Page → PageResult
 handed a t f p = record { answer = a; taken = t; buffer = f; page = p }
 
 module _ (f op ls lp lo : List ℕ) where
-  pub deliver_unsound : sound width f ≡ false → (a : Answer) (t : ℕ) → a ≡ refused 1 → t ≡ 0
-      → handed a t f (page ls lp lo) ≡ deliver_page width f op (page ls lp lo)
+  pub deliver_unsound : sound width f ≡ false → handed (refused 1) 0 f (page ls lp lo) ≡ deliver_page width f op (page ls lp lo)
   unfolding deliver_page_answer with_page taken_with page_with require
-  deliver_unsound e a t ea et = rw (e, ea, et)
+  deliver_unsound e = rw e
 
-  pub deliver_short : sound width f ≡ true → long_enough (page ls lp lo) ≡ false → (a : Answer) (t : ℕ) → a ≡ refused 2 → t ≡ 0
-      → handed a t f (page ls lp lo) ≡ deliver_page width f op (page ls lp lo)
+  pub deliver_short : sound width f ≡ true → long_enough (page ls lp lo) ≡ false → handed (refused 2) 0 f (page ls lp lo) ≡ deliver_page width f op (page ls lp lo)
   unfolding deliver_page_answer with_page taken_with page_with require
-  deliver_short s e a t ea et = rw (s, e, ea, et)
+  deliver_short s e = rw (s, e)
 
   module _ (x : PageReady f ls lp lo) (a : Answer) (f' : List ℕ)
       (is : ◌≡◌ {A = Result} (record { answer = a; buffer = f' }) (deliver width f op)) where
@@ -178,15 +176,13 @@ module _ (f out : List ℕ) (s : ℕ) (q : Request) (ls lp lo : List ℕ) where
   abbrev op : Op
   op = issued (log_of width f) s q
 
-  pub issue_unsound : sound width f ≡ false → (a : Answer) (t : ℕ) → a ≡ refused 1 → t ≡ 0
-      → handed_out a t f out (page ls lp lo) ≡ issue_page width f out s q (page ls lp lo)
+  pub issue_unsound : sound width f ≡ false → handed_out (refused 1) 0 f out (page ls lp lo) ≡ issue_page width f out s q (page ls lp lo)
   unfolding issue_page_answer with_page taken_with page_with require
-  issue_unsound e a t ea et = rw (e, ea, et)
+  issue_unsound e = rw e
 
-  pub issue_short : sound width f ≡ true → long_enough (page ls lp lo) ≡ false → (a : Answer) (t : ℕ) → a ≡ refused 2 → t ≡ 0
-      → handed_out a t f out (page ls lp lo) ≡ issue_page width f out s q (page ls lp lo)
+  pub issue_short : sound width f ≡ true → long_enough (page ls lp lo) ≡ false → handed_out (refused 2) 0 f out (page ls lp lo) ≡ issue_page width f out s q (page ls lp lo)
   unfolding issue_page_answer with_page taken_with page_with require
-  issue_short h e a t ea et = rw (h, e, ea, et)
+  issue_short h e = rw (h, e)
 
   module _ (x : PageReady f ls lp lo) (a : Answer) (f' out' : List ℕ)
       (is : ◌≡◌ {A = Issued} (record { answer = a; buffer = f'; out = out' }) (issue width f out s q)) where

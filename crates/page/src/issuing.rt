@@ -1,3 +1,5 @@
+#![tactic(auto, using(crate::proofs::CallCases::issuing))]
+
 ghost use Rattle.std.specs.Prelude.{◌≡◌};
 ghost use Rattle.rules.specs.File.{width};
 ghost use Rattle.rules.specs.Issue.{add, move, remove};
@@ -6,9 +8,9 @@ ghost use Rattle.request.specs.Requests.{request_of};
 ghost use Rattle.page.specs.Answers.{issued_of};
 ghost use Rattle.page.specs.Renewing.{PageReady};
 
-use crate::answer::{Paged, refused};
+use crate::answer::Paged;
 use crate::renewing::renew;
-use codec::{Refusal, is_accepted};
+use codec::Refusal;
 use issue::issue_sound;
 use oplog::counts_of;
 use page_tables::long_enough;
@@ -24,19 +26,16 @@ fn issue_ready(
     order: &mut [u16],
     parents: &mut [u16],
     outcomes: &mut [u8],
-) -> Paged
+) -> Result<Paged<usize>, Refusal>
     requires { PageReady buf.old order.old parents.old outcomes.old }
     ensures { issued_of result buf.new out.new (page order.new parents.new outcomes.new)
         ≡ issue_page width buf.old out.old replica (request_of request)
         (page order.old parents.old outcomes.old) }
 {
     let old = counts_of(buf, WIDTH);
-    let answer = issue_sound(buf, replica, request, out);
-    if !is_accepted(answer) {
-        return Paged { answer, taken: 0 };
-    }
+    let answer = issue_sound(buf, replica, request, out)?;
     let taken = renew(buf, old, order, parents, outcomes);
-    Paged { answer, taken }
+    Ok(Paged { answer, taken })
 }
 
 // Issues what is asked for.
@@ -48,16 +47,16 @@ fn issue(
     order: &mut [u16],
     parents: &mut [u16],
     outcomes: &mut [u8],
-) -> Paged
+) -> Result<Paged<usize>, Refusal>
     ensures { issued_of result buf.new out.new (page order.new parents.new outcomes.new)
         ≡ issue_page width buf.old out.old replica (request_of request)
         (page order.old parents.old outcomes.old) }
 {
     if !is_sound(buf) {
-        return refused(Refusal::Unsound);
+        return Err(Refusal::Unsound);
     }
     if !long_enough(order, parents, outcomes) {
-        return refused(Refusal::Length);
+        return Err(Refusal::Length);
     }
     issue_ready(buf, replica, request, out, order, parents, outcomes)
 }
@@ -71,7 +70,7 @@ pub fn issue_add(
     order: &mut [u16],
     parents: &mut [u16],
     outcomes: &mut [u8],
-) -> Paged
+) -> Result<Paged<usize>, Refusal>
     ensures { issued_of result buf.new out.new (page order.new parents.new outcomes.new)
         ≡ issue_page width buf.old out.old replica (add parent)
         (page order.old parents.old outcomes.old) }
@@ -96,7 +95,7 @@ pub fn issue_remove(
     order: &mut [u16],
     parents: &mut [u16],
     outcomes: &mut [u8],
-) -> Paged
+) -> Result<Paged<usize>, Refusal>
     ensures { issued_of result buf.new out.new (page order.new parents.new outcomes.new)
         ≡ issue_page width buf.old out.old replica (remove node)
         (page order.old parents.old outcomes.old) }
@@ -122,7 +121,7 @@ pub fn issue_move(
     order: &mut [u16],
     parents: &mut [u16],
     outcomes: &mut [u8],
-) -> Paged
+) -> Result<Paged<usize>, Refusal>
     ensures { issued_of result buf.new out.new (page order.new parents.new outcomes.new)
         ≡ issue_page width buf.old out.old replica (move node parent)
         (page order.old parents.old outcomes.old) }

@@ -6,11 +6,6 @@ use Rattle.rules.specs.Tree.{most_ops, slots}
 unfoldable pub order_without : ℕ → List ℕ → List ℕ
 order_without i xs = take i xs ++ (drop (suc i) xs ++ (0 ∷ []))
 
-pub record OrderEntry (order : List ℕ) (place j : ℕ) : Type 0 where
-  pub whole : length order ≡ most_ops
-  pub inside : place < most_ops
-  pub entry : j < most_ops
-
 pub record OrderLent (lent order : List ℕ) (place : ℕ) : Type 0 where
   pub room : most_ops ≤ length lent
   pub whole : length order ≡ most_ops

@@ -1,15 +1,15 @@
-ghost use Rattle.std.specs.Prelude.{◌≡◌, ◌++◌, ◌≤◌, drop, get_or, length, take};
+ghost use Rattle.std.specs.Prelude.{◌≡◌, take};
 ghost use Rattle.lists.specs.Lists.{same};
 ghost use Rattle.page_rules.specs.Page.{page_filled, page};
 ghost use Rattle.rules.specs.Tree.{most_ops};
 ghost use Rattle.page_rules.specs.Page as rules;
-ghost use Rattle.page_tables.specs.Tables.{Comparable, OrderEntry, FillablePage, OrderLent, order_without};
+ghost use Rattle.page_tables.specs.Tables.{Comparable, FillablePage, OrderLent, order_without};
 
-use oplog::{put_front, same_op};
 use schedule::OPS;
 use tree::SLOTS;
 
 // Whether lent tables have room for every page.
+#[tactic(auto, unfolding(page_rules::specs::Page::long_enough))]
 pub fn long_enough(order: &[u16], parents: &[u16], outcomes: &[u8]) -> bool
     ensures { result ≡ rules.long_enough (page order.now parents.now outcomes.now) }
 {
@@ -22,57 +22,20 @@ pub fn long_enough(order: &[u16], parents: &[u16], outcomes: &[u8]) -> bool
     SLOTS <= outcomes.len()
 }
 
-// Whether two tables of one length are the same.
-fn same_words(a: &[u16], b: &[u16]) -> bool
-    requires { length a.now ≡ length b.now }
-    ensures { result ≡ same a.now b.now }
-{
-    for i in 0..a.len() {
-        if a[i] != b[i] {
-            return false;
-        }
-    }
-    true
-}
-
-// Stores words at the front of a table.
-fn put_words(table: &mut [u16], words: &[u16])
-    requires { length words.now ≤ length table.old }
-    ensures { table.new ≡ words.now ++ drop (length words.now) table.old }
-{
-    for j in 0..words.len() {
-        table[j] = words[j];
-    }
-}
-
-// Entry j of an order without the one at a place: those behind it move up, and 0 is the last.
-fn entry_without(order: &[u16], place: usize, j: usize) -> u16
-    requires { OrderEntry order.now place j }
-    ensures { result ≡ get_or (order_without place order.now) j 0 }
-{
-    if j < place {
-        return order[j];
-    }
-    if j < OPS - 1 {
-        return order[j + 1];
-    }
-    0
-}
-
-// Whether a lent order is this one without the entry at a place.
+// Whether a lent order is this one without the entry at a place: those behind it move up, and 0 is the last.
 fn order_shows(lent: &[u16], order: &[u16], place: usize) -> bool
     requires { OrderLent lent.now order.now place }
     ensures { result ≡ same (take most_ops lent.now) (order_without place order.now) }
 {
-    for j in 0..OPS {
-        if lent[j] != entry_without(order, place, j) {
-            return false;
-        }
+    let last = OPS - 1;
+    if lent[..place] != order[..place] {
+        return false;
     }
-    true
+    lent[place..last] == order[place + 1..] && lent[last] == 0
 }
 
 // Whether lent tables show a page: its order is this one without the entry at a place.
+#[tactic(auto, using(lists::proofs::LibraryLaws::same_is), unfolding(page_rules::specs::Page::shows))]
 pub fn shows(
     order: &[u16],
     parents: &[u16],
@@ -89,11 +52,7 @@ pub fn shows(
     if !order_shows(order, slots, place) {
         return false;
     }
-    let n = SLOTS;
-    if !same_words(&parents[..n], tree) {
-        return false;
-    }
-    same_op(outcomes, 0, results)
+    &parents[..SLOTS] == tree && &outcomes[..SLOTS] == results
 }
 
 // Puts a page into the first entries of lent tables.
@@ -110,7 +69,7 @@ pub fn fill(
         ≡ page_filled (page order.old parents.old outcomes.old)
         (page slots.now tree.now results.now) }
 {
-    put_words(order, slots);
-    put_words(parents, tree);
-    put_front(outcomes, results);
+    order[..slots.len()].copy_from_slice(slots);
+    parents[..tree.len()].copy_from_slice(tree);
+    outcomes[..results.len()].copy_from_slice(results);
 }

@@ -73,9 +73,3 @@ pub line_penned : (o x : List ℕ) (h : Pen) (d n b : ℕ) (marked : Bool) → x
     → ◌≡◌ {A = Penned} (record { out = x; pen = record { bytes = b; lines = h.lines + 1 } }) (penned o h (line_of d n marked))
 unfolding penned
 line_penned o x h d n b marked ex eb = rw (ex, eb)
-
-abbrev pub Wants : List ℕ → Pen → ℕ → ℕ → Bool → Type 0
-Wants ys h d n t = Asked ys h (line_of d n t)
-
-abbrev pub Said : List ℕ → Pen → ℕ → ℕ → Bool → List ℕ → Pen → Type 0
-Said ys h d n t zs r = ◌≡◌ {A = Penned} (record { out = zs; pen = r }) (penned ys h (line_of d n t))

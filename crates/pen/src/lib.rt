@@ -4,4 +4,4 @@
 mod decimal;
 mod line;
 
-pub use line::{Pen, lend_line, line_size, write_line, write_line_with};
+pub use line::{Pen, line_size};

@@ -27,38 +27,40 @@ fn mark_byte(marked: bool) -> u8
     b'k'
 }
 
-// Writes a line behind what is written, and hands the pen back with the line counted.
-pub fn write_line(out: &mut [u8], pen: Pen, depth: u16, node: u16, marked: bool) -> Pen
-    requires { Asked out.old pen (line_of depth node marked) }
-    ensures { record { out = out.new; pen = result } ≡ penned out.old pen (line_of depth node marked) }
-{
-    let at = pen.bytes;
-    let space = put_decimal(out, at, depth);
-    out[space] = b' ';
-    let end = put_decimal(out, space + 1, node);
-    out[end] = b' ';
-    out[end + 1] = mark_byte(marked);
-    out[end + 2] = b'\n';
-    let bytes = end + 3;
-    let lines = pen.lines + 1;
-    Pen { bytes, lines }
-}
+impl Pen {
+    // Writes a line behind what is written, and hands the pen back with the line counted.
+    pub fn write_line(self, out: &mut [u8], depth: u16, node: u16, marked: bool) -> Pen
+        requires { Asked out.old self (line_of depth node marked) }
+        ensures { record { out = out.new; pen = result } ≡ penned out.old self (line_of depth node marked) }
+    {
+        let at = self.bytes;
+        let space = put_decimal(out, at, depth);
+        out[space] = b' ';
+        let end = put_decimal(out, space + 1, node);
+        out[end] = b' ';
+        out[end + 1] = mark_byte(marked);
+        out[end + 2] = b'\n';
+        let bytes = end + 3;
+        let lines = self.lines + 1;
+        Pen { bytes, lines }
+    }
 
-// The thin line writer: the pen is lent, and changed by the line.
-pub fn write_line_with(out: &mut [u8], pen: &mut Pen, depth: u16, node: u16, marked: bool)
-    requires { Asked out.old pen.old (line_of depth node marked) }
-    ensures { record { out = out.new; pen = pen.new }
-        ≡ penned out.old pen.old (line_of depth node marked) }
-{
-    *pen = write_line(out, *pen, depth, node, marked);
-}
+    // The thin line writer: the pen is lent, and changed by the line.
+    pub fn write_line_with(&mut self, out: &mut [u8], depth: u16, node: u16, marked: bool)
+        requires { Asked out.old self.old (line_of depth node marked) }
+        ensures { record { out = out.new; pen = self.new }
+            ≡ penned out.old self.old (line_of depth node marked) }
+    {
+        *self = self.write_line(out, depth, node, marked);
+    }
 
-// A line by a pen that the caller holds by value: the pen is lent to the line, and handed back.
-pub fn lend_line(out: &mut [u8], pen: Pen, depth: u16, node: u16, marked: bool) -> Pen
-    requires { Asked out.old pen (line_of depth node marked) }
-    ensures { record { out = out.new; pen = result } ≡ penned out.old pen (line_of depth node marked) }
-{
-    let mut lent = pen;
-    write_line_with(out, &mut lent, depth, node, marked);
-    lent
+    // A line by a pen that the caller holds by value: the pen is lent to the line, and handed back.
+    pub fn lend_line(self, out: &mut [u8], depth: u16, node: u16, marked: bool) -> Pen
+        requires { Asked out.old self (line_of depth node marked) }
+        ensures { record { out = out.new; pen = result } ≡ penned out.old self (line_of depth node marked) }
+    {
+        let mut lent = self;
+        lent.write_line_with(out, depth, node, marked);
+        lent
+    }
 }

@@ -1,8 +1,7 @@
 -- The cases of the program's output, as the code meets them.
 use Prim.Native.Nat.{ℕ, ◌<◌, ◌≤◌}
 use borrow.Author.Rules.{rules}
-use lib.ListN.{length, replicate}
-use lib.Seq.{sets, sets-eq}
+use lib.ListN.{drop, length, replicate}
 use mathlib.Core.Bool.{false, true}
 use mathlib.Core.List.{List, [], ◌++◌}
 use mathlib.Core.Path.{ap, sym, ◌∙◌, ◌≡◌}
@@ -24,17 +23,15 @@ use Rattle.printing.proofs.OutlineLaws.{outline_listed, outline_long, outline_no
 
 ---- the line of a refused input
 
-refused_written : (out : List ℕ) → 10 ≤ length out → sets out 0 refused_line ≡ put_front refused_line out
-unfolding refused_line put_front
-refused_written out h = sets-eq refused_line out 0 h
-
 module _ (out : List ℕ) where
   pub refuse_short : length out < 10 → ◌≡◌ {A = Written} (record { answer = refused 8; out = out }) (put_in refused_line out)
   refuse_short h = put_short refused_line out 10 (sym refused_size) h
 
   pub refuse_put :
-      10 ≤ length out → ◌≡◌ {A = Written} (record { answer = accepted 10; out = sets out 0 refused_line }) (put_in refused_line out)
-  refuse_put h = put_all refused_line out 10 (sym refused_size) h _ (refused_written out h)
+      10 ≤ length out → (line : List ℕ) → line ≡ refused_line →
+      ◌≡◌ {A = Written} (record { answer = accepted 10; out = line ++ drop 10 out }) (put_in refused_line out)
+  unfolding put_front
+  refuse_put h line e = put_all refused_line out 10 (sym refused_size) h _ (rw (e, refused_size))
 
 ---- the log without ops
 

@@ -26,16 +26,7 @@ fn refuse(out: &mut [u8]) -> Answer
     if out.len() < 10 {
         return Answer::Refused(Refusal::NoRoom);
     }
-    out[0] = b'r';
-    out[1] = b'e';
-    out[2] = b'f';
-    out[3] = b'u';
-    out[4] = b's';
-    out[5] = b'e';
-    out[6] = b'd';
-    out[7] = b' ';
-    out[8] = b'1';
-    out[9] = b'\n';
+    out[..10].copy_from_slice(b"refused 1\n");
     Answer::Accepted(10)
 }
 

@@ -41,7 +41,7 @@ module _ (n : ℕ) (f : List ℕ) (l : 32 ≤ n) where
       all_alike_from _ _ 8 1
       (λ s a b. rw (words_front (4 * (s - 1)) (omega arith), words_front (4 * (s - 1) + 2) (omega arith), counts_front))
 
-chunks_take : (w k m : ℕ) (bs : List ℕ) → w * k ≤ m → chunks w k (take m bs) ≡ chunks w k bs
+pub chunks_take : (w k m : ℕ) (bs : List ℕ) → w * k ≤ m → chunks w k (take m bs) ≡ chunks w k bs
 unfolding chunks
 chunks_take w zero m bs h = refl
 chunks_take w (suc k) m bs h =

@@ -30,3 +30,4 @@ pub mod VerdictLaws
 pub mod ReleaseLaws
 pub mod DecimalLaws
 pub mod TableTheorem
+pub mod BodyLaws

@@ -1,52 +1,31 @@
 -- The tests of an op against a log, as the code makes them.
 use mathlib.Core.Path.{◌≡◌, refl, sym, ◌∙◌}
-use mathlib.Core.Logic.{◌⊎◌, ⊎_elim}
-use mathlib.Core.Bool.{Bool, true, false, not, ◌&&◌, and-eq-true_iff}
+use mathlib.Core.Bool.{Bool, true, false, ◌&&◌, and-eq-true_iff}
 use mathlib.Core.List.{List}
 use Prim.Native.Nat.{ℕ, ◌+◌, ◌*◌, ◌-◌, ◌/◌, ◌%◌, ◌^◌, ◌≤◌, ◌<◌}
 use native.Mathlib.Omega.{arith}
 use native.Mathlib.Decide.{ℕ_discrete}
 use lib.ListN.{length, drop, get_or, replicate}
-use lib.Dec.{leb, eqb}
+use lib.Dec.{eqb}
 use borrow.Author.Rules.{rules}
-use borrow.Author.Tests.{leb-true, le-leb, lt-leb, lt-ltb, le-ltb, eq-eqb, ne_eqb}
+use borrow.Author.Tests.{leb-true, le-leb, lt-ltb, eq-eqb, ne_eqb}
 use Rattle.lists.proofs.BoolLaws.{and_true, and_false, and_left, and_right, and_regroup, tested}
 use Rattle.rules.specs.File.{Log, header_counts, log_of, op_at, within}
-use Rattle.rules.specs.Log.{closed, closed_at, known_parent, laid, sound_header, sound_log, sound_op, structural, names_known, covered}
+use Rattle.rules.specs.Log.{closed, closed_at, laid, sound_header, sound_op, names_known, covered}
 use Rattle.rules.specs.Marks.{is_known, knowledge, node_within}
 use Rattle.rules.specs.Op.{Op, Vector, replica_of, count_in, seq_of, is_replica, own_count, is_add, vector_of, well_formed, is_remove, kind_of, node_number, parent_of, node_of}
 use Rattle.rules.proofs.FileLaws.{counts_log_of}
-use Rattle.rules.proofs.ReplicaLaws.{pass_from, pass_all, pass_turn, pass_end}
 use Rattle.codec.specs.Asked.{kind_fits}
-use Rattle.vector.specs.Packed.{is_step}
 use Rattle.oplog.specs.Places.{InFile, Held, place_of}
-use Rattle.structure.specs.Tests.{LaidOut, OpHere, names_by, move_names, passes_by, vector_by, sound_at, own_alone, change_closed, changes_closed, risen}
+use Rattle.structure.specs.Tests.{LaidOut, OpHere, names_by, passes_by, vector_by, sound_at, own_alone, changes_closed, risen}
 use Rattle.oplog.proofs.FieldLaws.{SameFields, counts_in, held_of, fields_at, small, in_file_of, op_fits}
 use Rattle.structure.proofs.RiseLaws.{before_few, closed_risen, closed_since_none, alone_passes}
 use Rattle.oplog.proofs.HeaderLaws.{laid_fits, laid_header, laid_long, laid_short, laid_wrong}
-use Rattle.rules.proofs.KnownLaws.{Known, known_is}
+use Rattle.rules.proofs.KnownLaws.{known_is}
 
 ---- known nodes: s and q are the replica and the sequence of node n
 
 module _ (v : Vector) (n s q : ℕ) (is : s ≡ n / 256) (iq : q ≡ n % 256) where
-  pub within_low : s < 1 → false ≡ node_within v n
-  unfolding node_within is_replica
-  within_low h = rw (← is, lt-leb 1 s h)
-
-  module _ (l : 1 ≤ s) where
-    pub within_high : 8 < s → false ≡ node_within v n
-    unfolding node_within is_replica
-    within_high h = rw (← is, le-leb 1 s l, lt-leb s 8 h)
-
-    module _ (u : s ≤ 8) where
-      pub within_first : q < 1 → false ≡ node_within v n
-      unfolding node_within is_replica
-      within_first h = rw (← is, ← iq, le-leb 1 s l, le-leb s 8 u, lt-leb 1 q h)
-
-      pub within_last : 1 ≤ q → (k : ℕ) → k ≡ get_or v (s - 1) 0 → leb q k ≡ node_within v n
-      unfolding node_within is_replica count_in
-      within_last h k e = rw (← is, ← iq, le-leb 1 s l, le-leb s 8 u, le-leb 1 q h, e)
-
   -- an op that a counted vector counts is there
   module _ (w : ℕ) (f : List ℕ) (c : Held w f v) (e : node_within v n ≡ true) where
     pub node_there : InFile w f s q
@@ -67,52 +46,6 @@ module _ (log : Log) (v : Vector) (n : ℕ) where
   pub known_without : node_within v n ≡ false → false ≡ is_known (knowledge log v n)
   known_without e = rw (known_is log v n, e)
 
-  pub parent_root : n ≡ 0 → true ≡ known_parent log v n
-  unfolding known_parent
-  parent_root e = rw (eq-eqb n 0 e)
-
-  pub parent_node : (n ≡ 0 → ⊥) → (b : Bool) → b ≡ is_known (knowledge log v n) → b ≡ known_parent log v n
-  unfolding known_parent
-  parent_node e b h = rw (ne_eqb n 0 e) h
-
----- what an op names (number 7)
-
-module _ (log : Log) (v : Vector) (node parent : ℕ) where
-  pub move_node : is_known (knowledge log v node) ≡ false → false ≡ move_names log v node parent
-  unfolding move_names
-  move_node e = rw e
-
-  module _ (e : Known log v node) where
-    pub move_parent : known_parent log v parent ≡ false → false ≡ move_names log v node parent
-    unfolding move_names
-    move_parent h = rw (e, h)
-
-    pub move_apart : known_parent log v parent ≡ true → not (eqb parent node) ≡ move_names log v node parent
-    unfolding move_names
-    move_apart h = rw (e, h)
-
-  module _ (kind own : ℕ) where
-    pub add_parent : kind ≡ 1 → known_parent log v parent ≡ false → false ≡ names_by log v kind node parent own
-    unfolding names_by
-    add_parent e h = rw (e, h)
-
-    pub add_node : kind ≡ 1 → known_parent log v parent ≡ true → eqb node own ≡ names_by log v kind node parent own
-    unfolding names_by
-    add_node e h = rw (e, h)
-
-    module _ (b : Bool) where
-      pub remove_names : kind ≡ 2 → b ≡ is_known (knowledge log v node) → b ≡ names_by log v kind node parent own
-      unfolding names_by
-      remove_names e h = h ∙ sym (rw e (and_true _))
-
-      -- any other kind is read as a move
-      pub move_names_law : (kind < 1) ⊎ (2 < kind) → b ≡ move_names log v node parent → b ≡ names_by log v kind node parent own
-      unfolding names_by move_names
-      move_names_law h e =
-          let x : kind ≡ 1 → ⊥ = ⊎_elim (λ l e. omega arith) (λ l e. omega arith) h in
-          let y : kind ≡ 2 → ⊥ = ⊎_elim (λ l e. omega arith) (λ l e. omega arith) h in
-          rw (ne_eqb kind 1 x, ne_eqb kind 2 y) e
-
 ---- closed vectors: k is the count of replica s
 
 module _ (w : ℕ) (f : List ℕ) (v : Vector) (s k : ℕ) (e : k ≡ get_or v (s - 1) 0) where
@@ -131,64 +64,10 @@ module _ (w : ℕ) (f : List ℕ) (v : Vector) (s k : ℕ) (e : k ≡ get_or v (
     unfolding closed_at count_in
     closed_by at p o i b h = rw (← e, ne_eqb k 0 z, (fields_at w f s k last_there at p).vector, ← i) h
 
----- a test of each replica: the first i pass
-
-pub record PassedTo (whole : Bool) (p : ℕ → Bool) (i : ℕ) : Type 0 where
-  pub few : i ≤ 8
-  pub left : whole ≡ pass_from p i
-
-module _ (whole : Bool) (p : ℕ → Bool) (i : ℕ) (t : PassedTo whole p i) where
-  module _ (h : i < 8) where
-    pub each_not : p (i + 1) ≡ false → false ≡ whole
-    each_not e = sym (t.left ∙ pass_turn p i h ∙ rw e)
-
-    pub each_next : p (i + 1) ≡ true → PassedTo whole p (i + 1)
-    each_next e = record { few = omega arith; left = t.left ∙ pass_turn p i h ∙ rw e }
-
-  pub each_last : 8 ≤ i → true ≡ whole
-  each_last h = sym (t.left ∙ pass_end p i h)
-
 ---- what has changed since the vector before
-
-module _ (log : Log) (before v : Vector) (own : ℕ) where
-  module _ (s : ℕ) where
-    pub change_own : s ≡ own → true ≡ change_closed log before v own s
-    unfolding change_closed
-    change_own e = rw (eq-eqb s own e)
-
-    module _ (n : s ≡ own → ⊥) where
-      pub change_none : get_or v (s - 1) 0 ≡ get_or before (s - 1) 0 → true ≡ change_closed log before v own s
-      unfolding change_closed count_in
-      change_none e = rw (ne_eqb s own n, eq-eqb _ _ e)
-
-      pub change_some : (get_or v (s - 1) 0 ≡ get_or before (s - 1) 0 → ⊥) → (b : Bool) → b ≡ closed_at log v s
-          → b ≡ change_closed log before v own s
-      unfolding change_closed count_in
-      change_some e b h = rw (ne_eqb s own n, ne_eqb _ _ e) h
-
-  pub changes_first : PassedTo (changes_closed log before v own) (change_closed log before v own) 0
-  unfolding changes_closed
-  changes_first = record { few = omega arith; left = pass_all (change_closed log before v own) }
-
-  pub risen_not : within before v ≡ false → false ≡ risen log before v own
-  unfolding risen
-  risen_not e = rw e
-
-  pub risen_changes : within before v ≡ true → (b : Bool) → b ≡ changes_closed log before v own → b ≡ risen log before v own
-  unfolding risen
-  risen_changes e b h = rw e h
 
 pub closed_changes : (log : Log) (v : Vector) (b : Bool) → b ≡ changes_closed log (replicate 8 0) v 0 → b ≡ closed log v
 closed_changes log v b e = e ∙ sym (closed_since_none log v)
-
-module _ (before v : Vector) (s q : ℕ) where
-  pub alone_first : q < 2 → false ≡ own_alone before v s q
-  unfolding own_alone
-  alone_first h = rw (le-ltb 1 q (omega arith))
-
-  pub alone_later : 2 ≤ q → (b : Bool) → b ≡ is_step before v s → b ≡ own_alone before v s q
-  unfolding own_alone
-  alone_later h b e = rw (lt-ltb 1 q h) e
 
 ---- the vector of an op: k is its own count
 
@@ -203,10 +82,10 @@ module _ (w : ℕ) (f : List ℕ) (counts before : Vector) (s q : ℕ) (x : OpHe
     unfolding covered
     covers b h = rw (counts_log_of w f, ← x.held) h
 
-    pub vector_alone : own_alone before v s q ≡ true → true ≡ vector_by (log_of w f) v s q
-    vector_alone e =
+    pub vector_alone : (b : Bool) → b ≡ own_alone before v s q → b ≡ true → b ≡ vector_by (log_of w f) v s q
+    vector_alone b is e =
         let t = x.there in
-        sym (alone_passes (log_of w f) s q before x.last t.low t.high v e
+        e ∙ sym (alone_passes (log_of w f) s q before x.last t.low t.high v (sym is ∙ e)
         (omega (arith, counts_in w f s t.low t.high, t.last)))
 
     pub vector_held : within v counts ≡ true → Held w f v
@@ -227,9 +106,9 @@ module _ (w : ℕ) (f : List ℕ) (counts before : Vector) (s q : ℕ) (x : OpHe
         unfolding count_in
         number = omega (arith, x.there.first)
 
-        pub vector_early : within v counts ≡ false → false ≡ vector_by (log_of w f) v s q
+        pub vector_early : (b : Bool) → b ≡ within v counts → b ≡ false → b ≡ vector_by (log_of w f) v s q
         unfolding vector_by
-        vector_early h = rw (eq-eqb (count_in v s + 1) q number, covers false h)
+        vector_early b is h = h ∙ rw (eq-eqb (count_in v s + 1) q number, covers false (sym is ∙ h))
 
         pub vector_risen : within v counts ≡ true → (b : Bool) → b ≡ risen (log_of w f) before v s → b ≡ vector_by (log_of w f) v s q
         unfolding vector_by
@@ -242,16 +121,6 @@ module _ (w : ℕ) (f : List ℕ) (counts before : Vector) (s q : ℕ) (x : OpHe
             ) i
 
 ---- one op, by its fields
-
-module _ (log : Log) (v : Vector) (kind node parent own : ℕ) where
-  pub kind_unfit : kind_fits kind parent ≡ false → false ≡ passes_by log v kind node parent own
-  unfolding passes_by
-  kind_unfit e = rw e
-
-  pub passes_names : kind_fits kind parent ≡ true → (b : Bool) → b ≡ names_by log v kind node parent own
-      → b ≡ passes_by log v kind node parent own
-  unfolding passes_by
-  passes_names e b i = rw e i
 
 -- all tests, by the fields
 module _ (log : Log) (s q : ℕ) (r : Op) where
@@ -311,15 +180,7 @@ module _ (w : ℕ) (f : List ℕ) (counts before : Vector) (s q : ℕ) (x : OpHe
 ---- the whole file
 
 module _ (w : ℕ) (f : List ℕ) where
-  pub not_laid : laid w f ≡ false → false ≡ structural w f
-  unfolding structural
-  not_laid e = rw e
-
   module _ (e : laid w f ≡ true) where
-    pub laid_ops : (b : Bool) → b ≡ sound_log (log_of w f) → b ≡ structural w f
-    unfolding structural
-    laid_ops b h = rw e h
-
     pub laid_out : 14 ≤ w → (counts : Vector) → counts ≡ header_counts f → LaidOut w f counts
     laid_out h counts i = record { wide = h; is_laid = e; held = i }
 
@@ -327,18 +188,14 @@ module _ (w : ℕ) (f : List ℕ) where
     header_of = (laid_long w f e, laid_header w f e)
 
 ---- what the code of the tests needs: search testing
-pub ruleset knowing = (within_low, within_high, within_first, within_last, node_there, known_kind, known_without, parent_root, parent_node)
+pub ruleset knowing = (node_there, known_kind, known_without)
 
-pub ruleset naming = (move_node, move_parent, move_apart, add_parent, add_node, remove_names, move_names_law)
-
-pub ruleset closing = (closed_none, last_there, closed_by, closed_changes, each_not, each_next, each_last)
-
-pub ruleset rising = (change_own, change_none, change_some, changes_first, risen_not, risen_changes, alone_first, alone_later)
+pub ruleset closing = (closed_none, last_there, closed_by, closed_changes)
 
 pub ruleset vectors = (vector_alone, vector_held, passed_held, vector_other, vector_early, vector_risen)
 
-pub ruleset owning = (kind_unfit, passes_names, own_size, own_short, op_there, op_other, op_vector, op_passes)
+pub ruleset owning = (own_size, own_short, op_there, op_other, op_vector, op_passes)
 
-pub ruleset laying = (laid_short, laid_wrong, laid_fits, not_laid, laid_ops, laid_out)
+pub ruleset laying = (laid_short, laid_wrong, laid_fits, laid_out)
 
-pub ruleset testing = (rules, tested, knowing, naming, closing, rising, vectors, owning, laying)
+pub ruleset testing = (rules, tested, knowing, closing, vectors, owning, laying)

@@ -167,13 +167,14 @@ next_replica_at w f s q l u e =
     rw (z, mul-zero) (omega (arith, start_after w f s l u))
 
 module _ (w : ℕ) (f : List ℕ) (m : Marker) where
-  pub walk_first : (m.replica ≡ 1) × (m.sequence ≡ 1) → Walked w f m 32 (replicate 8 0)
-  walk_first e = record {
+  pub walk_first : (p : ℕ) (before : Vector) → (m.replica ≡ 1) × (m.sequence ≡ 1) × (p ≡ 32) × (before ≡ replicate 8 0)
+      → Walked w f m p before
+  walk_first p before (s, q, at, none) = record {
     at = record { first = omega arith; last = omega arith; low = omega arith; high = omega arith };
     most = omega arith;
-    place = rw (e.0, e.1, mul-zero) (omega (arith, start_first w (header_counts f)));
-    last = rw (e.0, e.1) (none_before (log_of w f) 1);
-    rest = rw (e.0, e.1) (left_sound (log_of w f));
+    place = at ∙ rw (s, q, mul-zero) (omega (arith, start_first w (header_counts f)));
+    last = rw (s, q, none) (none_before (log_of w f) 1);
+    rest = rw (s, q) (left_sound (log_of w f));
   }
 
   module _ (p : ℕ) (before : Vector) (t : Walked w f m p before) where

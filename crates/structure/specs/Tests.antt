@@ -8,7 +8,7 @@ use Rattle.rules.specs.Marks.{is_known, knowledge}
 use Rattle.codec.specs.Asked.{kind_fits}
 use Rattle.vector.specs.Packed.{is_step}
 use Rattle.oplog.specs.Places.{InFile, next_marker, next_place}
-use Rattle.structure.specs.declared.sound.Turn.{Turn}
+use Rattle.structure.specs.declared.turn.Turn.{Turn}
 use Rattle.oplog.specs.declared.marker.Marker.{Marker}
 
 -- a laid-out file and its counts

@@ -5,6 +5,7 @@
 mod closed;
 mod names;
 mod sound;
+mod turn;
 
 pub use closed::closed_in;
 pub use names::{known_in, known_parent, names_known};

@@ -1,10 +1,11 @@
 -- The tour of linked nodes is their preorder.
-use Rattle.std.proofs.Common.{◌≡◌, ℕ, zero, suc, ◌+◌, ◌*◌, ◌/◌, ◌%◌, ◌<◌, ◌≤◌, List, [], ◌∷◌, ◌++◌, map, length, sym, refl, ap, ◌∙◌, append_assoc, append-nil, le_of_suc-le-suc, not-suc-le-zero, arith, eq-eqb, ne_eqb}
+use Rattle.std.proofs.Common.{◌≡◌, ℕ, zero, suc, ◌+◌, ◌%◌, ◌<◌, ◌≤◌, List, [], ◌∷◌, ◌++◌, map, length, sym, refl, ap, ◌∙◌, append_assoc, append-nil, le_of_suc-le-suc, not-suc-le-zero, arith, eq-eqb, ne_eqb}
 use Rattle.lists.specs.Lists.{concat}
 use Rattle.rules.specs.Tree.{slots}
 use Rattle.lists.proofs.EachLaws.{Each}
 use Rattle.tour.proofs.LinkLaws.{Chain, kids}
-use Rattle.tour.specs.Tables.{Links, entry_of, push, tour, tour_of, visited}
+use Rattle.tour.specs.Tables.{Links, push, tour, tour_of, visit, visited}
+use Rattle.tour.specs.declared.touring.Visit.{Visit}
 use Rattle.tree.specs.Slots.{at_node}
 
 ---- trees given by their children
@@ -15,25 +16,25 @@ pre kids zero n = []
 pre kids (suc k) n = n ∷ concat (map (pre kids k) (kids n))
 
 -- the first of some siblings on a stack
-abbrev top : ℕ → List ℕ → List ℕ → List ℕ
+abbrev top : ℕ → List ℕ → List Visit → List Visit
 top d [] stack = stack
-top d (x ∷ xs) stack = entry_of x d ∷ stack
+top d (x ∷ xs) stack = visit x d ∷ stack
 
 -- siblings that are left
 record Group : Type 0 where
   depth : ℕ
   members : List ℕ
 
-module _ (l : Links) (kids : ℕ → List ℕ) (T : ℕ → ℕ → List ℕ) (Good : ℕ → ℕ → Type 0)
+module _ (l : Links) (kids : ℕ → List ℕ) (T : ℕ → ℕ → List Visit) (Good : ℕ → ℕ → Type 0)
     (chain : (d n : ℕ) → Good d n → Chain l.next (at_node l.first n) (kids n))
-    (opens : (d n : ℕ) → Good d n → T d n ≡ entry_of n d ∷ concat (map (T (suc d)) (kids n)))
+    (opens : (d n : ℕ) → Good d n → T d n ≡ visit n d ∷ concat (map (T (suc d)) (kids n)))
     (below : (d n : ℕ) → Good d n → Each (Good (suc d)) (kids n))
     (small : (d n : ℕ) → Good d n → d < 65535) where
-  abbrev heads : List Group → List ℕ
+  abbrev heads : List Group → List Visit
   heads [] = []
   heads (g ∷ gs) = top g.depth g.members (heads gs)
 
-  abbrev flat : List Group → List ℕ
+  abbrev flat : List Group → List Visit
   flat [] = []
   flat (g ∷ gs) = concat (map (T g.depth) g.members) ++ flat gs
 
@@ -49,16 +50,10 @@ module _ (l : Links) (kids : ℕ → List ℕ) (T : ℕ → ℕ → List ℕ) (G
   fine_of d y [] a c = tt
   fine_of d y (x ∷ xs) (g, a) (e, nz, c) = (g, a, c)
 
-  push_top : (d y : ℕ) (ys stack : List ℕ) → Chain l.next y ys → top d ys stack ≡ push y d stack
+  push_top : (d y : ℕ) (ys : List ℕ) (stack : List Visit) → Chain l.next y ys → top d ys stack ≡ push y d stack
   unfolding push
   push_top d y [] stack e = rw (eq-eqb y 0 e)
   push_top d y (x ∷ xs) stack (e, nz, c) = rw (e, ne_eqb x 0 nz)
-
-  node_back : (x d : ℕ) → d < 65535 → (x * 65536 + d) / 65536 ≡ x
-  node_back x d h = omega arith
-
-  depth_back : (x d : ℕ) → d < 65535 → (x * 65536 + d) % 65536 ≡ d
-  depth_back x d h = omega arith
 
   depth_next : (d : ℕ) → d < 65535 → (d + 1) % 65536 ≡ suc d
   depth_next d h = omega arith
@@ -78,18 +73,18 @@ module _ (l : Links) (kids : ℕ → List ℕ) (T : ℕ → ℕ → List ℕ) (G
     heads_after = push_top (suc d) (at_node l.first x) (kids x) (top d xs (heads gs)) (chain d x good)
         ∙ ap (push (at_node l.first x) (suc d)) (push_top d (at_node l.next x) xs (heads gs) c)
 
-    flat_after : concat (map (T d) (x ∷ xs)) ++ flat gs ≡ entry_of x d ∷ flat after
+    flat_after : concat (map (T d) (x ∷ xs)) ++ flat gs ≡ visit x d ∷ flat after
     unfolding concat
-    flat_after = rw (opens d x good) (ap (λ ys. entry_of x d ∷ ys) (append_assoc (concat (map (T (suc d)) (kids x))) (concat (map (T d) xs))
+    flat_after = rw (opens d x good) (ap (λ ys. visit x d ∷ ys) (append_assoc (concat (map (T (suc d)) (kids x))) (concat (map (T d) xs))
         (flat gs)))
 
-    tour_step : tour (suc k) l (entry_of x d ∷ heads gs) ≡ entry_of x d ∷ tour k l (heads after)
+    tour_step : tour (suc k) l (visit x d ∷ heads gs) ≡ visit x d ∷ tour k l (heads after)
     unfolding tour visited
-    tour_step = rw (node_back x d (small d x good), depth_back x d (small d x good), depth_next d (small d x good), heads_after)
+    tour_step = rw (depth_next d (small d x good), heads_after)
 
     tour_one : length (concat (map (T d) (x ∷ xs)) ++ flat gs) ≤ suc k
-        → tour (suc k) l (entry_of x d ∷ heads gs) ≡ concat (map (T d) (x ∷ xs)) ++ flat gs
-    tour_one h = let h' : suc (length (flat after)) ≤ suc k = rw flat_after at h in tour_step ∙ ap (λ ys. entry_of x d ∷ ys)
+        → tour (suc k) l (visit x d ∷ heads gs) ≡ concat (map (T d) (x ∷ xs)) ++ flat gs
+    tour_one h = let h' : suc (length (flat after)) ≤ suc k = rw flat_after at h in tour_step ∙ ap (λ ys. visit x d ∷ ys)
         (ih after right_after (le_of_suc-le-suc h')) ∙ sym flat_after
 
   none : (d : ℕ) (gs : List Group) (k : ℕ) → (length (flat gs) ≤ suc k → tour (suc k) l (heads gs) ≡ flat gs)
@@ -112,7 +107,7 @@ module _ (l : Links) (kids : ℕ → List ℕ) (T : ℕ → ℕ → List ℕ) (G
   unfolding tour
   tour_all zero gs r h = empty (flat gs) h
     where
-      empty : (xs : List ℕ) → length xs ≤ 0 → [] ≡ xs
+      empty : (xs : List Visit) → length xs ≤ 0 → [] ≡ xs
       empty [] h = refl
       empty (x ∷ xs) h = absurd (not-suc-le-zero h)
   tour_all (suc k) gs r h = tour_suc k (λ gs r h. tour_all k gs r h) gs r h

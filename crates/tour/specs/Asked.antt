@@ -1,6 +1,7 @@
 -- What the steps of a tour ask.
 use Rattle.std.specs.Prelude.{◌≡◌, ℕ, ◌<◌, ◌≤◌, List, length}
 use Rattle.rules.specs.Tree.{slots}
+use Rattle.tour.specs.declared.touring.Visit.{Visit}
 
 ---- what is hidden
 
@@ -29,7 +30,7 @@ pub record LinkableAt (parents marks first next : List ℕ) (k : ℕ) : Type 0 w
   pub inside : k < slots
 
 -- a stack that grows towards its front has room
-pub record Pushable (stack : List ℕ) (top : ℕ) : Type 0 where
+pub record Pushable (stack : List Visit) (top : ℕ) : Type 0 where
   pub room : 0 < top
   pub within : top ≤ length stack
 
@@ -37,12 +38,12 @@ pub record LinksSized (first next : List ℕ) : Type 0 where
   pub first_size : length first ≡ slots
   pub next_size : length next ≡ slots
 
--- a stack with an entry, and room for one more than that
-pub record Visitable (first next stack : List ℕ) (top : ℕ) : Type 0 where
+-- a stack with a visit, and room for one more than that
+pub record Visitable (first next : List ℕ) (stack : List Visit) (top : ℕ) : Type 0 where
   pub links_size : LinksSized first next
   pub room : 0 < top
   pub within : top < length stack
 
-pub record Tourable (first next order : List ℕ) : Type 0 where
+pub record Tourable (first next : List ℕ) (order : List Visit) : Type 0 where
   pub links_size : LinksSized first next
   pub order_size : length order ≡ slots

@@ -1,10 +1,11 @@
 -- The tables from which a tour of a tree is made, as the code fills them.
-use Rattle.std.specs.Prelude.{ℕ, zero, suc, ◌+◌, ◌-◌, ◌*◌, ◌/◌, ◌%◌, cond, List, [], ◌∷◌, replicate, ◌==◌, slice_index, slice_set}
+use Rattle.std.specs.Prelude.{ℕ, zero, suc, ◌+◌, ◌-◌, ◌%◌, cond, List, [], ◌∷◌, replicate, ◌==◌, slice_index, slice_set}
 use mathlib.Core.List.{foldl}
 use Rattle.lists.specs.Lists.{up_from, down_from}
 use Rattle.rules.specs.Tree.{slots, no_parent}
 use Rattle.rules.specs.Views.{View, keeping, skipping}
 use Rattle.tree.specs.Slots.{slot_in, slot_node, at_node}
+use Rattle.tour.specs.declared.touring.Visit.{Visit}
 
 ---- what is hidden from the keeping view: not 0
 
@@ -52,33 +53,25 @@ links_of parents hidden = foldl (link_slot parents hidden) no_links (down_from (
 
 ---- the tour: nodes with their depths
 
-abbrev pub entry_of : ℕ → ℕ → ℕ
-entry_of n d = n * 65536 + d
+abbrev pub visit : ℕ → ℕ → Visit
+visit n d = record { node = n; depth = d }
 
-abbrev pub node_in : ℕ → ℕ
-node_in e = e / 65536
-
-abbrev pub depth_in : ℕ → ℕ
-depth_in e = e % 65536
-
-unfoldable pub push : ℕ → ℕ → List ℕ → List ℕ
-push n d stack = cond (n == 0) stack (entry_of n d ∷ stack)
+unfoldable pub push : ℕ → ℕ → List Visit → List Visit
+push n d stack = cond (n == 0) stack (visit n d ∷ stack)
 
 -- after a node come its first child and what is below it, then its next sibling
-unfoldable pub visited : Links → ℕ → List ℕ → List ℕ
-visited l e stack =
-    push (at_node l.first (node_in e)) ((depth_in e + 1) % 65536) (push (at_node l.next (node_in e)) (depth_in e) stack)
+unfoldable pub visited : Links → Visit → List Visit → List Visit
+visited l e stack = push (at_node l.first e.node) ((e.depth + 1) % 65536) (push (at_node l.next e.node) e.depth stack)
 
--- each entry of the stack is the first of some siblings that are left
-unfoldable pub tour : ℕ → Links → List ℕ → List ℕ
+-- each visit of the stack is the first of some siblings that are left
+unfoldable pub tour : ℕ → Links → List Visit → List Visit
 tour zero l stack = []
 tour (suc k) l [] = []
-tour (suc k) l (e ∷ stack) =
-    e ∷ tour k l (visited l e stack)
+tour (suc k) l (e ∷ stack) = e ∷ tour k l (visited l e stack)
 
-unfoldable pub tour_of : Links → List ℕ
-tour_of l = tour slots l (0 ∷ [])
+unfoldable pub tour_of : Links → List Visit
+tour_of l = tour slots l (visit 0 0 ∷ [])
 
 -- what a view shows of a tree with marks, in preorder
-unfoldable pub order_by : (parents marks : List ℕ) → View → List ℕ
+unfoldable pub order_by : (parents marks : List ℕ) → View → List Visit
 order_by parents marks view = tour_of (links_of parents (hidden_of parents marks view))

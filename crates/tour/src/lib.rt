@@ -7,4 +7,4 @@ mod touring;
 
 pub use hiding::reveal_all;
 pub use linking::link;
-pub use touring::{depth_in, node_in, tour};
+pub use touring::{Visit, tour};

@@ -4,12 +4,11 @@ use std::io::Print;
 
 // The nodes of a line, two bytes each, put into a table; answers how many there are.
 fn load_nodes(line: &[u8], nodes: &mut [u16]) -> usize {
-    let n = line.len() / 2;
-    for i in 0..n {
-        if nodes.len() <= i {
-            return i;
+    let n = (line.len() / 2).min(nodes.len());
+    for (node, pair) in nodes.iter_mut().zip(line.chunks_exact(2)) {
+        if let [high, low] = pair {
+            *node = u16::from_be_bytes([*high, *low]);
         }
-        nodes[i] = word_at(line, 2 * i);
     }
     n
 }

@@ -271,21 +271,15 @@ fn outline(rt: &impl Print, input: &[u8]) {
 
 // Copies bytes to the front of the buffer, and answers their number.
 fn load(buf: &mut [u8], bytes: &[u8]) -> usize {
-    for i in 0..bytes.len() {
-        if buf.len() <= i {
-            return i;
-        }
-        buf[i] = bytes[i];
-    }
-    bytes.len()
+    let n = bytes.len().min(buf.len());
+    buf[..n].copy_from_slice(&bytes[..n]);
+    n
 }
 
 fn fill(buf: &mut [u8], from: usize, to: usize) {
-    for i in from..to {
-        if buf.len() <= i {
-            return;
-        }
-        buf[i] = 165;
+    let end = to.min(buf.len());
+    if from < end {
+        buf[from..end].fill(165);
     }
 }
 

@@ -19,6 +19,7 @@ struct State {
     len: usize,
 }
 
+// A digit of the lines; 0 for any other character. `to_digit` takes capital letters too.
 fn nibble(c: u8) -> u8
     ensures { result < 16 }
 {
@@ -61,64 +62,50 @@ fn step(rt: &impl Print, c: u8, line: &mut [u8], buf: &mut [u8], state: State) -
 
 fn feed(rt: &impl Print, chunk: &[u8], line: &mut [u8], buf: &mut [u8], state: State) -> State {
     let mut now = state;
-    for i in 0..chunk.len() {
-        let next = step(rt, chunk[i], line, buf, now);
-        now = next;
+    for c in chunk {
+        now = step(rt, *c, line, buf, now);
     }
     now
 }
 
-// What a turn leaves, and whether there was more to read.
-#[derive(Clone, Copy)]
-struct Turn {
-    more: bool,
-    state: State,
-}
-
-// Fills a buffer as far as the input goes, and answers how many bytes that is.
+// Fills a buffer as far as the input goes, and answers how many bytes that is. `read_exact` does not
+// say how many came before the end.
 fn read_full<R: Read>(reader: &mut R, buf: &mut [u8]) -> usize
     ensures { result ≤ length buf.new }
 {
     let mut done: usize = 0;
     while done < buf.len() {
         match reader.read(&mut buf[done..]) {
-            Ok(0) => break,
+            Ok(0) | Err(_) => break,
             Ok(more) => done += more,
-            Err(_) => break,
         }
     }
     done
 }
 
-// Reads some of the input and runs its lines.
+// Reads some of the input and runs its lines; none if there was no more to read.
 fn read_some<R: Read>(
     rt: &impl Print,
     reader: &mut R,
     line: &mut [u8],
     buf: &mut [u8],
     state: State,
-) -> Turn {
+) -> Option<State> {
     let mut chunk = [0u8; 65536];
     let n = read_full(reader, &mut chunk);
     if n == 0 {
-        return Turn { more: false, state };
+        return None;
     }
-    let next = feed(rt, &chunk[..n], line, buf, state);
-    Turn {
-        more: true,
-        state: next,
-    }
+    Some(feed(rt, &chunk[..n], line, buf, state))
 }
 
 fn run_all<R: Read>(rt: &impl Print, reader: &mut R, line: &mut [u8], buf: &mut [u8]) {
     let mut state = State { digits: 0, len: 0 };
-    for turn in 0..10000u32 {
-        let t = read_some(rt, reader, line, buf, state);
-        if !t.more {
-            return;
+    for _ in 0..10000u32 {
+        match read_some(rt, reader, line, buf, state) {
+            Some(next) => state = next,
+            None => return,
         }
-        let next = t.state;
-        state = next;
     }
 }
 

@@ -12,14 +12,11 @@ struct Table {
 
 // Puts a run of one value behind the first entries, and answers how many there are then.
 fn put_run(table: &mut [u16], first: usize, n: usize, value: u16) -> usize {
-    let mut end = first;
-    for i in 0..n {
-        if table.len() <= end {
-            return end;
-        }
-        table[end] = value;
-        end += 1;
+    let end = first.saturating_add(n).min(table.len());
+    if end <= first {
+        return first;
     }
+    table[first..end].fill(value);
     end
 }
 
@@ -35,7 +32,7 @@ fn load_table(line: &[u8], at: usize, table: &mut [u16]) -> Table {
     }
     let runs = widen16(word_at(line, at));
     let mut next = at + 2;
-    for i in 0..runs {
+    for _ in 0..runs {
         if len < 4 {
             return Table { entries, next: len };
         }
@@ -51,11 +48,8 @@ fn load_table(line: &[u8], at: usize, table: &mut [u16]) -> Table {
 
 // The low bytes of a table.
 fn narrow(words: &[u16], bytes: &mut [u8]) {
-    for i in 0..words.len() {
-        if bytes.len() <= i {
-            return;
-        }
-        bytes[i] = (words[i] % 256) as u8;
+    for (byte, word) in bytes.iter_mut().zip(words) {
+        *byte = (*word % 256) as u8;
     }
 }
 

@@ -35,24 +35,11 @@ pub fn answered(rt: &impl Print, answer: Answer) {
     }
 }
 
-fn digit(n: u8) -> u8 {
-    let low = n % 16;
-    if low < 10 { 48 + low } else { 87 + low }
-}
-
-// The bytes in hexadecimal, of which there are at most 64.
+// The bytes in hexadecimal.
 fn hex(rt: &impl Print, bytes: &[u8]) {
-    let mut out = [0u8; 128];
-    let mut n: usize = 0;
-    for i in 0..bytes.len() {
-        if 126 < n {
-            return;
-        }
-        out[n] = digit(bytes[i] / 16);
-        out[n + 1] = digit(bytes[i]);
-        n += 2;
+    for byte in bytes {
+        let _written = print!(rt; "{byte:02x}");
     }
-    front(rt, &out, n);
 }
 
 // Writes the first n bytes.
@@ -67,16 +54,10 @@ fn digest(bytes: &[u8]) -> u64
     ensures { result < 4294967291 }
 {
     let mut h: u64 = 0;
-    for i in 0..bytes.len() {
-        h = mixed(h, wide(bytes[i]));
+    for byte in bytes {
+        h = mixed(h, *byte);
     }
     h
-}
-
-fn wide(b: u8) -> u64
-    ensures { result < 256 }
-{
-    b as u64
 }
 
 // Lent memory after a call: its digest, and its bytes if they are few.
@@ -90,23 +71,11 @@ pub fn memory(rt: &impl Print, bytes: &[u8]) {
 }
 
 // A digest step for one byte.
-fn mixed(h: u64, b: u64) -> u64
-    requires { (h < 4294967291) × (b < 256) }
+fn mixed(h: u64, byte: u8) -> u64
+    requires { h < 4294967291 }
     ensures { result < 4294967291 }
 {
-    (h * 257 + b + 1) % 4294967291
-}
-
-fn high(n: u16) -> u64
-    ensures { result < 256 }
-{
-    (n / 256) as u64
-}
-
-fn low(n: u16) -> u64
-    ensures { result < 256 }
-{
-    (n % 256) as u64
+    (h * 257 + u64::from(byte) + 1) % 4294967291
 }
 
 // The same of the first n bytes.
@@ -119,15 +88,11 @@ pub fn memory_front(rt: &impl Print, bytes: &[u8], n: usize) {
 // The digest of two-byte numbers, high byte first.
 fn digest_words(words: &[u16]) -> u64 {
     let mut h: u64 = 0;
-    for i in 0..words.len() {
-        h = mixed(mixed(h, high(words[i])), low(words[i]));
+    for word in words {
+        let [high, low] = word.to_be_bytes();
+        h = mixed(mixed(h, high), low);
     }
     h
-}
-
-fn word(rt: &impl Print, n: u16) {
-    let bytes = [(n / 256) as u8, (n % 256) as u8];
-    hex(rt, &bytes);
 }
 
 // Lent two-byte numbers after a call, as `memory`.
@@ -141,7 +106,7 @@ pub fn numbers(rt: &impl Print, words: &[u16]) {
 }
 
 fn each_word(rt: &impl Print, words: &[u16]) {
-    for i in 0..words.len() {
-        word(rt, words[i]);
+    for word in words {
+        let _written = print!(rt; "{word:04x}");
     }
 }

@@ -23,19 +23,20 @@ use Rattle.view.proofs.PutCases.{put_all, put_short}
 use Rattle.view.specs.Answers.{put_answer, put_in}
 use Rattle.view.specs.Asked.{Arrangeable, Arranged, Orderable, Printable}
 use Rattle.tour.specs.Asked.{Tourable}
-use Rattle.tour.specs.Tables.{hidden_of, link_slot, links, links_of, no_links, order_by, tour_of}
+use Rattle.tour.specs.Tables.{hidden_of, link_slot, links, links_of, no_links, order_by, tour_of, visit}
+use Rattle.tour.specs.declared.touring.Visit.{Visit}
 use Rattle.view.specs.Tables.{lines_of, order_of, put_front}
 use Rattle.marks.specs.Marking.{marks_of}
 use Rattle.marks.proofs.MarkingCases.{fresh_marks, unmarked_size}
 
 ---- the nodes that a view shows
 
-module _ (p m o₀ : List ℕ) (a : Orderable p m o₀) (f n : List ℕ) where
+module _ (p m : List ℕ) (o₀ : List Visit) (a : Orderable p m o₀) (f n : List ℕ) where
   pub links_ask : length f ≡ slots → length n ≡ slots → Tourable f n o₀
   links_ask ef en = record { links_size = record { first_size = ef; next_size = en }; order_size = a.order_size }
 
   -- o has the tour in its first r entries
-  module _ (o : List ℕ) (same : length o ≡ length o₀) (r : ℕ) (is : r ≡ length (tour_of (links f n)))
+  module _ (o : List Visit) (same : length o ≡ length o₀) (r : ℕ) (is : r ≡ length (tour_of (links f n)))
       (e : o ≡ tour_of (links f n) ++ drop r o₀) where
     pub order_few : r ≤ slots
     order_few =
@@ -50,35 +51,33 @@ module _ (p m o₀ : List ℕ) (a : Orderable p m o₀) (f n : List ℕ) where
 
 ---- of a sound buffer
 
-pub fresh_asks : (f : List ℕ) → sound width f ≡ true → Arrangeable f (replicate slots 0) (replicate slots 0)
-fresh_asks f a = record { markable = fresh_marks f a; order_size = length-replicate {A = ℕ} slots 0 }
+pub fresh_asks : (f : List ℕ) → sound width f ≡ true → Arrangeable f (replicate slots 0) (replicate slots (visit 0 0))
+fresh_asks f a = record { markable = fresh_marks f a; order_size = length-replicate slots (visit 0 0) }
 
-module _ (f m o : List ℕ) (a : Arrangeable f m o) where
+module _ (f m : List ℕ) (o : List Visit) (a : Arrangeable f m o) where
   -- m' are the marks
   module _ (m' : List ℕ) where
     pub order_asks : (p : List ℕ) → length p ≡ slots → length m' ≡ length m → Orderable p m' o
     order_asks p lp lm = record { parents_size = lp; marks_size = lm ∙ unmarked_size f m a.markable; order_size = a.order_size }
 
     pub order_of_law : m' ≡ marks_of (log_of width f) → (p : List ℕ) → p ≡ parents_of (log_of width f)
-        → (v : View) (t : List ℕ) → t ≡ order_by p m' v → t ≡ order_by (parents_of (log_of width f)) (marks_of (log_of width f)) v
+        → (v : View) (t : List Visit) → t ≡ order_by p m' v → t ≡ order_by (parents_of (log_of width f)) (marks_of (log_of width f)) v
     order_of_law em p ep v t e = e ∙ rw (ep, em)
 
 ---- the lines of arranged nodes
 
-module _ (marks order : List ℕ) (count size : ℕ) (is : (m : List ℕ) → size ≡ length (lines_of m (take count order))) (out : List ℕ) where
+module _ (marks : List ℕ) (order : List Visit) (size : ℕ) (is : (m : List ℕ) → size ≡ length (lines_of m order)) (out : List ℕ) where
   pub lines_short :
-      length out < size →
-      ◌≡◌ {A = Written} (record { answer = refused 8; out = out }) (put_in (lines_of marks (take count order)) out)
-  lines_short h = put_short (lines_of marks (take count order)) out size (is marks) h
+      length out < size → ◌≡◌ {A = Written} (record { answer = refused 8; out = out }) (put_in (lines_of marks order) out)
+  lines_short h = put_short (lines_of marks order) out size (is marks) h
 
-  pub lines_ask : Arranged order count marks → size ≤ length out → Printable order count marks out
+  pub lines_ask : Arranged order marks → size ≤ length out → Printable order marks out
   lines_ask a h = record { arranged = a; room = rw (← is marks) h }
 
   pub lines_put :
-      size ≤ length out → (o : List ℕ) →
-      o ≡ put_front (lines_of marks (take count order)) out →
-      ◌≡◌ {A = Written} (record { answer = accepted size; out = o }) (put_in (lines_of marks (take count order)) out)
-  lines_put h o e = put_all (lines_of marks (take count order)) out size (is marks) h o e
+      size ≤ length out → (o : List ℕ) → o ≡ put_front (lines_of marks order) out →
+      ◌≡◌ {A = Written} (record { answer = accepted size; out = o }) (put_in (lines_of marks order) out)
+  lines_put h o e = put_all (lines_of marks order) out size (is marks) h o e
 
 ---- the whole
 
@@ -93,7 +92,7 @@ module _ (f out : List ℕ) (view : View) where
     listing_put = rw a
 
     pub listing_now :
-        (marks t : List ℕ) → marks ≡ marks_of (log_of width f) → t ≡ order_of (log_of width f) view →
+        (marks : List ℕ) (t : List Visit) → marks ≡ marks_of (log_of width f) → t ≡ order_of (log_of width f) view →
         (x : Written) → x ≡ put_in (lines_of marks t) out → x ≡ listing width f view out
     listing_now marks t m o x e =
         e ∙ rw (m, o, listing_is (log_of width f) (sound_good width f a) view) (sym listing_put)

@@ -1,5 +1,5 @@
 -- The tables of a log give its listing.
-use Prim.Native.Nat.{◌%◌, ◌*◌, ◌+◌, ◌-◌, ◌/◌, suc, ℕ, ◌≤◌}
+use Prim.Native.Nat.{◌-◌, suc, ℕ, ◌≤◌}
 use lib.Dec.{eqb}
 use lib.ListN.{get_or, length, length-map}
 use mathlib.Core.Bool.{◌&&◌, Bool, not}
@@ -35,7 +35,8 @@ use Rattle.tree.proofs.SlotLaws.{slot_in_node, slot_in_valid}
 use Rattle.tour.proofs.TourLaws.{pre, tour_root}
 use Rattle.order.proofs.TreePathLaws.{Under, children_under}
 use Rattle.order.proofs.ViewLaws.{keeping_child, root_shown, skipping_child}
-use Rattle.tour.specs.Tables.{Links, entry_of, hidden_of, links_of, order_by, tour_of}
+use Rattle.tour.specs.Tables.{Links, hidden_of, links_of, order_by, tour_of, visit}
+use Rattle.tour.specs.declared.touring.Visit.{Visit}
 use Rattle.tree.specs.Slots.{at_node, slot_node}
 use Rattle.view.specs.Tables.{line_for, lines_of, order_of}
 use Rattle.marks.specs.Marking.{marks_of}
@@ -105,10 +106,10 @@ module _ (log : Log) (good : GoodLog log) where
 
     ---- the tour
 
-    abbrev with_depth : ℕ → ℕ
-    with_depth n = entry_of n (depth P n)
+    abbrev with_depth : ℕ → Visit
+    with_depth n = visit n (depth P n)
 
-    abbrev tree : ℕ → ℕ → List ℕ
+    abbrev tree : ℕ → ℕ → List Visit
     tree d n = map with_depth (pre kids_of (slots - d) n)
 
     record Good (d n : ℕ) : Type 0 where
@@ -121,7 +122,7 @@ module _ (log : Log) (good : GoodLog log) where
     depth_is d n g = let e : length (climb slots P n) ≡ suc d = climb_length P slots d n (omega (arith, g.low)) g.deep.root
         g.deep.first in omega arith
 
-    opens : (d n : ℕ) → Good d n → tree d n ≡ entry_of n d ∷ concat (map (tree (suc d)) (kids_of n))
+    opens : (d n : ℕ) → Good d n → tree d n ≡ visit n d ∷ concat (map (tree (suc d)) (kids_of n))
     opens d n g =
         let e : slots - d ≡ suc (slots - suc d) = omega (arith, g.low) in
         rw (e, pre_turn kids_of (slots - suc d) n, depth_is d n g, map_concat with_depth (pre kids_of (slots - suc d)) (kids_of n))
@@ -149,11 +150,7 @@ module _ (log : Log) (good : GoodLog log) where
     line_is : (n : ℕ) → Node n → line_for marks (with_depth n) ≡ line log P n
     unfolding line_for line
     line_is n w =
-        let (j, b, d) = has_depth log good n w in
-        let e : depth P n ≡ j = depth_is j n (record { node = w; deep = d; low = b }) in
-        let x : (n * 65536 + depth P n) / 65536 ≡ n = omega arith in
-        let y : (n * 65536 + depth P n) % 65536 ≡ depth P n = omega arith in
-        rw (x, y, marks_say log good n (node_is_valid n w))
+        rw (marks_say log good n (node_is_valid n w))
 
     pub listing_is : lines_of marks (order_of log view) ≡ listing_of view log
     unfolding order_by lines_of listing_of listing_in

@@ -1,6 +1,6 @@
 -- The cases of a listing's size, as the code meets them.
 use Prim.Native.Nat.{ℕ}
-use lib.ListN.{length, take}
+use lib.ListN.{length}
 use mathlib.Core.Bool.{false, true}
 use mathlib.Core.List.{List}
 use mathlib.Core.Path.{◌≡◌}
@@ -13,6 +13,7 @@ use Rattle.rules.specs.Views.{View}
 use Rattle.view.proofs.ListingCases.{listings}
 use Rattle.view.proofs.ListingLaws.{listing_is}
 use Rattle.marks.specs.Marking.{marks_of}
+use Rattle.tour.specs.declared.touring.Visit.{Visit}
 use Rattle.view.specs.Tables.{lines_of, order_of}
 
 module _ (f : List ℕ) (view : View) where
@@ -21,10 +22,10 @@ module _ (f : List ℕ) (view : View) where
   size_unsound e = rw e
 
   pub size_now :
-      sound width f ≡ true → (order : List ℕ) (count size : ℕ) → ((m : List ℕ) → size ≡ length (lines_of m (take count order))) →
-      take count order ≡ order_of (log_of width f) view → accepted size ≡ listing_size width f view
+      sound width f ≡ true → (order : List Visit) (size : ℕ) → ((m : List ℕ) → size ≡ length (lines_of m order)) →
+      order ≡ order_of (log_of width f) view → accepted size ≡ listing_size width f view
   unfolding listing_size require
-  size_now a order count size is o =
+  size_now a order size is o =
       rw (a, is (marks_of (log_of width f)), o, listing_is (log_of width f) (sound_good width f a) view)
 
 ---- what the code of sizes needs: search sizing

@@ -1,10 +1,11 @@
 -- What the inner functions of the views ask.
-use Rattle.std.specs.Prelude.{ℕ, ◌+◌, ◌<◌, ◌≤◌, ◌≡◌, true, List, length, get_or, take}
+use Rattle.std.specs.Prelude.{ℕ, ◌+◌, ◌<◌, ◌≤◌, ◌≡◌, true, List, length, get_or}
 use Rattle.rules.specs.File.{width, counts_of, log_of}
 use Rattle.rules.specs.Log.{known_parent}
 use Rattle.rules.specs.Sound.{sound}
 use Rattle.rules.specs.Tree.{slot_of, slots, parent_in, path}
 use Rattle.marks.specs.Marking.{Markable}
+use Rattle.tour.specs.declared.touring.Visit.{Visit}
 use Rattle.view.specs.Tables.{lines_of}
 
 ---- paths
@@ -29,27 +30,22 @@ pub record WayOut (parents : List ℕ) (n steps : ℕ) (out : List ℕ) : Type 0
 
 ---- lines
 
--- the first entries of a tour
-pub record Toured (order : List ℕ) (count : ℕ) : Type 0 where
-  pub within : count ≤ length order
-  pub few : count ≤ slots
-
--- with marks
-pub record Arranged (order : List ℕ) (count : ℕ) (marks : List ℕ) : Type 0 where
-  pub toured : Toured order count
+-- a tour, with marks
+pub record Arranged (order : List Visit) (marks : List ℕ) : Type 0 where
+  pub few : length order ≤ slots
   pub marks_size : length marks ≡ slots
 
--- and room for their lines
-pub record Printable (order : List ℕ) (count : ℕ) (marks out : List ℕ) : Type 0 where
-  pub arranged : Arranged order count marks
-  pub room : length (lines_of marks (take count order)) ≤ length out
+-- and room for its lines
+pub record Printable (order : List Visit) (marks out : List ℕ) : Type 0 where
+  pub arranged : Arranged order marks
+  pub room : length (lines_of marks order) ≤ length out
 
 -- the tables that a view is arranged in, and those that it is arranged from
-pub record Orderable (parents marks order : List ℕ) : Type 0 where
+pub record Orderable (parents marks : List ℕ) (order : List Visit) : Type 0 where
   pub parents_size : length parents ≡ slots
   pub marks_size : length marks ≡ slots
   pub order_size : length order ≡ slots
 
-pub record Arrangeable (f marks order : List ℕ) : Type 0 where
+pub record Arrangeable (f marks : List ℕ) (order : List Visit) : Type 0 where
   pub markable : Markable f marks
   pub order_size : length order ≡ slots

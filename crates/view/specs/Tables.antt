@@ -7,18 +7,19 @@ use Rattle.rules.specs.Views.{View}
 use Rattle.rules.specs.Listing.{line_of}
 use Rattle.tree.specs.Slots.{at_node}
 use Rattle.marks.specs.Marking.{marks_of}
-use Rattle.tour.specs.Tables.{depth_in, node_in, order_by}
+use Rattle.tour.specs.Tables.{order_by}
+use Rattle.tour.specs.declared.touring.Visit.{Visit}
 
 -- what a view shows of a log, in preorder
-abbrev pub order_of : Log → View → List ℕ
+abbrev pub order_of : Log → View → List Visit
 order_of log view = order_by (parents_of log) (marks_of log) view
 
 ---- the lines
 
-unfoldable pub line_for : List ℕ → ℕ → List ℕ
-line_for marks e = line_of (depth_in e) (node_in e) (not (eqb (at_node marks (node_in e)) 0))
+unfoldable pub line_for : List ℕ → Visit → List ℕ
+line_for marks e = line_of e.depth e.node (not (eqb (at_node marks e.node) 0))
 
-unfoldable pub lines_of : List ℕ → List ℕ → List ℕ
+unfoldable pub lines_of : List ℕ → List Visit → List ℕ
 lines_of marks es = concat (map (line_for marks) es)
 
 ---- lent memory with a text, or the entries of a path, in front

@@ -17,11 +17,11 @@ use effect::Tables;
 use marks::mark_ops;
 use replay::replay_all;
 use soundness::{WIDTH, is_sound};
-use tour::tour;
+use tour::{Visit, tour};
 use tree::SLOTS;
 
 // Arranges the nodes that a view shows of a tree with marks.
-fn order_view(parents: &[u16], marks: &[u8], view: View, order: &mut [u32]) -> usize
+fn order_view(parents: &[u16], marks: &[u8], view: View, order: &mut [Visit]) -> usize
     requires { Orderable parents.now marks.now order.old }
     ensures { (take result order.new ≡ order_by parents.now marks.now (view_of view)) × (result ≤ slots) }
 {
@@ -32,7 +32,7 @@ fn order_view(parents: &[u16], marks: &[u8], view: View, order: &mut [u32]) -> u
 }
 
 // Arranges the nodes that a view shows, and marks those that ops remove.
-pub(crate) fn arrange_view(file: &[u8], view: View, marks: &mut [u8], order: &mut [u32]) -> usize
+pub(crate) fn arrange_view(file: &[u8], view: View, marks: &mut [u8], order: &mut [Visit]) -> usize
     requires { Arrangeable file.now marks.old order.old }
     ensures { (marks.new ≡ marks_of (log_of width file.now))
         × (take result order.new ≡ order_of (log_of width file.now) (view_of view)) × (result ≤ slots) }
@@ -44,16 +44,16 @@ pub(crate) fn arrange_view(file: &[u8], view: View, marks: &mut [u8], order: &mu
 }
 
 // Writes the lines of arranged nodes into lent bytes, if they are enough.
-fn put_lines(order: &[u32], count: usize, marks: &[u8], out: &mut [u8]) -> Answer
-    requires { Arranged order.now count marks.now }
+fn put_lines(order: &[Visit], marks: &[u8], out: &mut [u8]) -> Answer
+    requires { Arranged order.now marks.now }
     ensures { record { answer = answer_of result; out = out.new }
-        ≡ put_in (lines_of marks.now (take count order.now)) out.old }
+        ≡ put_in (lines_of marks.now order.now) out.old }
 {
-    let size = size_of(order, count);
+    let size = size_of(order);
     if out.len() < size {
         return Answer::Refused(Refusal::NoRoom);
     }
-    write_lines(order, count, marks, out);
+    write_lines(order, marks, out);
     Answer::Accepted(size)
 }
 
@@ -66,7 +66,7 @@ pub fn listing(file: &[u8], view: View, out: &mut [u8]) -> Answer
         return Answer::Refused(Refusal::Unsound);
     }
     let mut marks = [0u8; SLOTS];
-    let mut order = [0u32; SLOTS];
+    let mut order = [Visit::ROOT; SLOTS];
     let count = arrange_view(file, view, &mut marks, &mut order);
-    put_lines(&order, count, &marks, out)
+    put_lines(&order[..count], &marks, out)
 }

@@ -15,7 +15,8 @@ use soundness::{WIDTH, is_sound};
 use structure::known_parent;
 use tree::{depth_of, slot_of};
 
-// Writes a node, its parent, and so on to the root.
+// Writes a node, its parent, and so on to the root. By index: of a loop over `&mut out[..steps]` a proof
+// does not learn what the entries before the turn's have.
 fn write_path(parents: &[u16], node: u16, steps: usize, out: &mut [u16])
     requires { WayOut parents.now node steps out.old }
     ensures { out.new ≡ put_front (tree.path parents.now node) out.old }

@@ -9,6 +9,7 @@ use crate::lines::size_of;
 use crate::listings::arrange_view;
 use codec::{Answer, Refusal};
 use soundness::is_sound;
+use tour::Visit;
 use tree::SLOTS;
 
 // How many bytes the listing of a view has.
@@ -19,7 +20,7 @@ pub fn listing_size(file: &[u8], view: View) -> Answer
         return Answer::Refused(Refusal::Unsound);
     }
     let mut marks = [0u8; SLOTS];
-    let mut order = [0u32; SLOTS];
+    let mut order = [Visit::ROOT; SLOTS];
     let count = arrange_view(file, view, &mut marks, &mut order);
-    Answer::Accepted(size_of(&order, count))
+    Answer::Accepted(size_of(&order[..count]))
 }

@@ -3,10 +3,4 @@ use Rattle.batch.proofs.DraftCases.{drafting}
 use Rattle.batch.proofs.planning.plan_next.Goals as goal
 
 pub put_next-requires : goal.put_next-requires
-put_next-requires c = search drafting
-
-pub returns-in-Op : goal.returns-in-Op
-returns-in-Op c = search drafting
-
-pub returns-in-Refused : goal.returns-in-Refused
-returns-in-Refused c = search drafting
+put_next-requires c = search (drafting, c.in_ok-draft.ensures)

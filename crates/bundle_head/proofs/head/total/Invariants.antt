@@ -1,10 +1,6 @@
--- `bundle_head::head::total`: what its loops keep.
+-- `bundle_head::head::total`: what its loop keeps.
 use Rattle.bundle_head.proofs.HeadCases.{Summed}
-use Prim.Native.Nat.{◌-◌}
 use Rattle.bundle_head.proofs.head.total.Given as goal
 
-abbrev pub invariant-loop-i : goal.invariant-loop-i
-invariant-loop-i l = Summed l.counts l.sum l.i
-
-abbrev pub decreases-loop-i : goal.decreases-loop-i
-decreases-loop-i l = 8 - l.i
+abbrev pub invariant-loop-count : goal.invariant-loop-count
+invariant-loop-count l = Summed l.fn.counts l.sum l.count-index

@@ -1,24 +1,15 @@
 -- `bundle_head::whole::bodies_agree` meets its contract.
-use Rattle.bundle_head.proofs.WholeCases.{testing}
+use Rattle.std.proofs.Common.{rules, tests, refl}
+use Rattle.std.proofs.lemmas.Iterator.{YieldsList-from_range}
+use Rattle.lists.specs.Lists.{up_from}
+use Rattle.lists.proofs.LibraryLaws.{all_gives}
+use Rattle.rules.specs.File.{chunks, width}
+use Rattle.rules.specs.Op.{replicas}
+use Rattle.bundle_head.specs.Head.{agrees, agrees_at}
 use Rattle.bundle_head.proofs.whole.bodies_agree.Goals as goal
 
-pub loop-s-init : goal.loop-s-init
-loop-s-init c = search testing
-
-pub agrees_at-requires : goal.agrees_at-requires
-agrees_at-requires c = search testing
-
-pub returns-then-not-agrees_at : goal.returns-then-not-agrees_at
-returns-then-not-agrees_at c = search testing
-
-pub overflow_step-s : goal.overflow_step-s
-overflow_step-s c = search testing
-
-pub loop-s-smaller : goal.loop-s-smaller
-loop-s-smaller c = search testing
-
-pub loop-s-preserved : goal.loop-s-preserved
-loop-s-preserved c = search testing
-
 pub returns : goal.returns
-returns c = search testing
+unfolding agrees replicas up_from
+returns c =
+    all_gives (agrees_at (chunks width c.args.n c.args.bodies.now) c.args.counts) _ _ c.all.result c.all.ensures.ran
+    (YieldsList-from_range 1 9 8 refl refl) (λ x b q k. search (rules, tests))

@@ -4,9 +4,3 @@ use Rattle.bundle_head.proofs.whole.head_size.Goals as goal
 
 pub returns : goal.returns
 returns c = size_told _ _ (search testing)
-
-pub bounds-bundle-0 : goal.bounds-bundle-0
-bounds-bundle-0 c = search testing
-
-pub head_bytes-requires : goal.head_bytes-requires
-head_bytes-requires c = search testing

@@ -1,27 +1,17 @@
 -- `structure::closed::changes_closed` meets its contract.
-use Rattle.structure.proofs.TestLaws.{testing}
+use Rattle.std.proofs.Common.{refl, rules}
+use borrow.Author.Tests.{tests}
+use Rattle.std.proofs.lemmas.Iterator.{YieldsList-from_range}
+use Rattle.lists.specs.Lists.{up_from}
+use Rattle.lists.proofs.LibraryLaws.{all_gives}
+use Rattle.rules.specs.File.{log_of}
+use Rattle.rules.specs.Op.{replicas}
+use Rattle.structure.specs.Tests.{change_closed, changes_closed}
 use Rattle.structure.proofs.closed.changes_closed.Goals as goal
 
-pub loop-i-init : goal.loop-i-init
-loop-i-init c = search testing
-
-pub overflow_add-i : goal.overflow_add-i
-overflow_add-i c = search testing
-
-pub change_closed-requires : goal.change_closed-requires
-change_closed-requires c = search testing
-
-pub returns-then-not-change_closed : goal.returns-then-not-change_closed
-returns-then-not-change_closed c = search testing
-
-pub overflow_step-i : goal.overflow_step-i
-overflow_step-i c = search testing
-
-pub loop-i-smaller : goal.loop-i-smaller
-loop-i-smaller c = search testing
-
-pub loop-i-preserved : goal.loop-i-preserved
-loop-i-preserved c = search testing
-
 pub returns : goal.returns
-returns c = search testing
+unfolding changes_closed replicas up_from
+returns c =
+    let a = c.args in
+    all_gives (change_closed (log_of a.width a.file.now) a.before a.v a.own) _ _ c.all.result c.all.ensures.ran
+    (YieldsList-from_range 1 9 8 refl refl) (λ x b q k. search (rules, tests))

@@ -7,9 +7,3 @@ own_alone-requires c = alone_asks _ _ _ _ _ _ c.requires
 
 pub returns-then-own_alone : goal.returns-then-own_alone
 returns-then-own_alone c = search testing
-
-pub vector_passes-requires : goal.vector_passes-requires
-vector_passes-requires c = search testing
-
-pub returns : goal.returns
-returns c = search testing

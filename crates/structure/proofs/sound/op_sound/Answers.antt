@@ -5,17 +5,11 @@ use Rattle.structure.proofs.sound.op_sound.Goals as goal
 pub replica_at-requires : goal.replica_at-requires
 replica_at-requires c = search testing
 
-pub widen-requires : goal.widen-requires
-widen-requires c = search testing
-
-pub returns-then-widen-s : goal.returns-then-widen-s
-returns-then-widen-s c = search testing
+pub returns-then-from-replica : goal.returns-then-from-replica
+returns-then-from-replica c = search testing
 
 pub vector_at-v-requires : goal.vector_at-v-requires
 vector_at-v-requires c = search testing
-
-pub vector_sound-requires : goal.vector_sound-requires
-vector_sound-requires c = search testing
 
 pub returns-then-not-vector_sound : goal.returns-then-not-vector_sound
 returns-then-not-vector_sound c = search testing
@@ -29,14 +23,8 @@ node_at-node-requires c = search testing
 pub parent_at-parent-requires : goal.parent_at-parent-requires
 parent_at-parent-requires c = search testing
 
-pub overflow_mul-s : goal.overflow_mul-s
-overflow_mul-s c = search testing
-
-pub overflow_add-s : goal.overflow_add-s
-overflow_add-s c = search testing
-
-pub overflow_cast-s : goal.overflow_cast-s
-overflow_cast-s c = search testing
+pub overflow_cast-replica : goal.overflow_cast-replica
+overflow_cast-replica c = search testing
 
 pub passes-requires : goal.passes-requires
 passes-requires c = search testing

@@ -1,10 +1,6 @@
--- `view::lines::size_of`: what its loops keep.
-use Prim.Native.Nat.{◌-◌}
+-- `view::lines::size_of`: what its loop keeps.
 use Rattle.view.proofs.LineCases.{Sizing}
 use Rattle.view.proofs.lines.size_of.Given as goal
 
-abbrev pub invariant-loop-i : goal.invariant-loop-i
-invariant-loop-i l = Sizing l.order l.count l.size l.i
-
-abbrev pub decreases-loop-i : goal.decreases-loop-i
-decreases-loop-i l = l.count - l.i
+abbrev pub invariant-loop-visit : goal.invariant-loop-visit
+invariant-loop-visit l = Sizing l.order l.size l.visit-index
