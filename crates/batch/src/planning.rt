@@ -9,6 +9,7 @@ ghost use Rattle.batch.specs.Planning.{drafted_in, next_by, put_next};
 
 use crate::drafting::draft_next;
 use codec::{Refusal, write_op};
+use effect::Tables;
 use issue::Draft;
 use marks::mark_ops;
 use oplog::{counts_of, end_of, with_more};
@@ -124,7 +125,8 @@ pub(crate) fn plan(
     let held = counts_of(file, WIDTH);
     let mut marks = [0u8; SLOTS];
     mark_ops(file, &mut marks);
-    let mut tables = replay_all(file, WIDTH);
+    let mut tables = Tables::new();
+    replay_all(file, &mut tables, WIDTH);
     plan_all(
         file,
         held,

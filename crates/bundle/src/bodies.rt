@@ -6,7 +6,7 @@ ghost use Rattle.bundle.specs.Bodies.{Copied, copied, BodyRoom, BodiesRoom, Whol
 
 use codec::widen;
 use oplog::{counts_of, put_front};
-use schedule::{Entry, schedule_of};
+use schedule::{Entry, Schedule, write_order};
 use soundness::WIDTH;
 use tree::{slot_place, slot_replica, slot_sequence};
 
@@ -55,6 +55,7 @@ pub(crate) fn write_bodies(file: &[u8], counts: [u8; 8], out: &mut [u8])
     ensures { out.new ≡ concat (ops_beyond (log_of width file.now) counts) }
 {
     let held = counts_of(file, WIDTH);
-    let schedule = schedule_of(file, held, WIDTH);
+    let mut schedule = Schedule::new();
+    write_order(file, held, &mut schedule, WIDTH);
     write_along(file, counts, schedule.entries(), out);
 }

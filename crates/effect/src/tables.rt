@@ -1,4 +1,4 @@
-ghost use Rattle.std.specs.Prelude.{◌≡◌, ◌<◌, true};
+ghost use Rattle.std.specs.Prelude.{◌≡◌, ◌<◌, true, replicate};
 ghost use Rattle.codec.specs.Kind.{is_kind, number};
 ghost use Rattle.rules.specs.File.{log_of};
 ghost use Rattle.rules.specs.Replay.{step};
@@ -53,6 +53,18 @@ fn known_kind(byte: u8) -> Kind
 }
 
 impl Tables {
+    // Of zeros; a replay fills them.
+    pub fn new() -> Self
+        ensures { (result.parents ≡ replicate slots 0) × (result.outcomes ≡ replicate slots 0)
+            × (result.placed ≡ replicate slots 0) }
+    {
+        Tables {
+            parents: [0; SLOTS],
+            outcomes: [0; SLOTS],
+            placed: [0; SLOTS],
+        }
+    }
+
     // The outcome of an op by its fields.
     #[tactic(auto, unfolding(crate::specs::Effects::outcome_by, rules::specs::Tree::climb_to))]
     fn outcome_of(&self, kind: Kind, node: u16, parent: u16, slot: usize, time: u16) -> Outcome

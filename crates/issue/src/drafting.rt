@@ -9,6 +9,7 @@ ghost use Rattle.issue.specs.Issuing.{moved_in, cleared_op, drafted, Issuer, Kno
 
 use crate::draft::Draft;
 use codec::Refusal;
+use effect::Tables;
 use oplog::counts_of;
 use replay::replay_all;
 use request::{Request, knows, unmarked};
@@ -62,7 +63,8 @@ fn draft_move_now(file: &[u8], node: u16, parent: u16) -> Result<Draft, Refusal>
     requires { Movable file.now node parent }
     ensures { result ≡ moved_in (parents_of (log_of width file.now)) node parent }
 {
-    let tables = replay_all(file, WIDTH);
+    let mut tables = Tables::new();
+    replay_all(file, &mut tables, WIDTH);
     draft_move(&tables.parents, node, parent)
 }
 

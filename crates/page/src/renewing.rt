@@ -6,7 +6,7 @@ ghost use Rattle.page.specs.Renewing.{OneMoreLent, Renewable, Took, slot_in_entr
 
 use oplog::counts_of;
 use page_tables::{fill, shows};
-use schedule::{Entry, OPS, schedule_of};
+use schedule::{Entry, OPS, Schedule, write_order};
 use soundness::WIDTH;
 use undo::{Undoable, first_beyond};
 
@@ -84,6 +84,7 @@ pub(crate) fn renew(
         (page order.old parents.old outcomes.old) result }
 {
     let all = counts_of(file, WIDTH);
-    let schedule = schedule_of(file, all, WIDTH);
+    let mut schedule = Schedule::new();
+    write_order(file, all, &mut schedule, WIDTH);
     rejudge(file, old, all, schedule.entries(), order, parents, outcomes)
 }

@@ -8,40 +8,38 @@ ghost use Rattle.effect.specs.Effects.{state_of};
 use crate::along::apply_along;
 use effect::Tables;
 use oplog::counts_of;
-use schedule::schedule_of;
+use schedule::{Schedule, write_order};
 use tree::{NO_PARENT, SLOTS};
 
-// The tables before any op is judged: the tree is the root alone.
+// No op is judged, and the tree is the root alone.
 #[tactic(auto, unfolding(rules::specs::Replay::start))]
-pub fn start() -> Tables
-    ensures { state_of result ≡ start }
+pub fn start(tables: &mut Tables)
+    ensures { state_of tables.new ≡ start }
 {
-    let mut parents = [NO_PARENT; SLOTS];
-    parents[0] = 0;
-    Tables {
-        parents,
-        outcomes: [0; SLOTS],
-        placed: [0; SLOTS],
-    }
+    tables.parents = [NO_PARENT; SLOTS];
+    tables.parents[0] = 0;
+    tables.outcomes = [0; SLOTS];
+    tables.placed = [0; SLOTS];
 }
 
-// Replays the ops within a closed cut.
-pub fn replay_cut(file: &[u8], cut: [u8; 8], width: usize) -> Tables
+// Replays the ops within a closed cut. The tables are lent, since a copy of them takes as long as
+// judging 30 ops.
+pub fn replay_cut(file: &[u8], cut: [u8; 8], tables: &mut Tables, width: usize)
     requires { SchedulableCut width file.now cut }
-    ensures { state_of result ≡ replay (log_of width file.now) cut }
+    ensures { state_of tables.new ≡ replay (log_of width file.now) cut }
 {
-    let mut tables = start();
-    let schedule = schedule_of(file, cut, width);
-    apply_along(file, schedule.entries(), &mut tables, width);
-    tables
+    let mut schedule = Schedule::new();
+    write_order(file, cut, &mut schedule, width);
+    start(tables);
+    apply_along(file, schedule.entries(), tables, width);
 }
 
 // Replays all ops of a structurally sound file.
-pub fn replay_all(file: &[u8], width: usize) -> Tables
+pub fn replay_all(file: &[u8], tables: &mut Tables, width: usize)
     requires { (14 ≤ width) × (structural width file.now ≡ true) }
-    ensures { (result.parents ≡ parents_of (log_of width file.now))
-        × (result.outcomes ≡ outcomes_of (log_of width file.now)) }
+    ensures { (tables.new.parents ≡ parents_of (log_of width file.now))
+        × (tables.new.outcomes ≡ outcomes_of (log_of width file.now)) }
 {
     let cut = counts_of(file, width);
-    replay_cut(file, cut, width)
+    replay_cut(file, cut, tables, width);
 }

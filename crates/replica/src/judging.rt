@@ -6,6 +6,7 @@ ghost use Rattle.codec.specs.Answers.{done_of};
 ghost use Rattle.rules.specs.Judge as rules;
 
 use codec::Refusal;
+use effect::Tables;
 use replay::replay_all;
 use soundness::{WIDTH, is_sound};
 use tree::SLOTS;
@@ -25,7 +26,8 @@ pub fn judge(file: &[u8], parents: &mut [u16], outcomes: &mut [u8]) -> Result<()
     if outcomes.len() < SLOTS {
         return Err(Refusal::Length);
     }
-    let tables = replay_all(file, WIDTH);
+    let mut tables = Tables::new();
+    replay_all(file, &mut tables, WIDTH);
     parents[..SLOTS].copy_from_slice(&tables.parents);
     outcomes[..SLOTS].copy_from_slice(&tables.outcomes);
     Ok(())

@@ -46,6 +46,12 @@ impl Schedule {
         &self.entries[..self.count]
     }
 
+    pub(crate) fn clear(&mut self)
+        ensures { self.new ≡ [] }
+    {
+        self.count = 0;
+    }
+
     // One more.
     pub(crate) fn push(&mut self, entry: Entry)
         requires { length self.old < most_ops }

@@ -8,4 +8,4 @@ mod ready;
 mod writing;
 
 pub use entries::{Entry, OPS, Schedule};
-pub use writing::schedule_of;
+pub use writing::write_order;

@@ -75,18 +75,19 @@ impl Level {
 // Timestamps lie below.
 const TIMES: u16 = OPS as u16 + 2;
 
-// The ops within a closed cut in the order of replay: level after level, until nothing is ready.
+// Writes the ops within a closed cut in the order of replay: level after level, until nothing is
+// ready. The schedule is lent, since a copy of its entries costs a fourth of judging few ops.
 #[tactic(auto, using(crate::proofs::OrderLaws::order_starts, crate::proofs::OrderLaws::order_ends, crate::proofs::OrderLaws::order_idle, crate::proofs::OrderLaws::level_asks, crate::proofs::OrderLaws::order_on))]
-pub fn schedule_of(file: &[u8], cut: [u8; 8], width: usize) -> Schedule
+pub fn write_order(file: &[u8], cut: [u8; 8], schedule: &mut Schedule, width: usize)
     requires { SchedulableCut width file.now cut }
-    ensures { result ≡ scheduled (log_of width file.now) cut }
+    ensures { schedule.new ≡ scheduled (log_of width file.now) cut }
 {
-    let mut schedule = Schedule::new();
+    schedule.clear();
     let mut done = [0u8; 8];
     for time in 1..TIMES {
         let next = next_ops(file, cut, done, width);
         if within(next, [0u8; 8]) {
-            return schedule;
+            return;
         }
         let classes = classes_of(file, next, width);
         let level = Level {
@@ -94,9 +95,8 @@ pub fn schedule_of(file: &[u8], cut: [u8; 8], width: usize) -> Schedule
             classes,
             time,
         };
-        level.write(&mut schedule);
+        level.write(schedule);
         let after = advance(done, next);
         done = after;
     }
-    schedule
 }

@@ -40,7 +40,8 @@ impl Undoable {
     pub fn new() -> Self
         ensures { undoable_of result ≡ unjudged }
     {
-        let tables = start();
+        let mut tables = Tables::new();
+        start(&mut tables);
         Undoable {
             tables,
             took: [0; SLOTS],

@@ -13,6 +13,7 @@ use crate::answer::View;
 use crate::lines::{size_of, write_lines};
 use crate::linking::link_view;
 use codec::Refusal;
+use effect::Tables;
 use marks::mark_ops;
 use replay::replay_all;
 use soundness::{WIDTH, is_sound};
@@ -36,7 +37,8 @@ pub(crate) fn arrange_view(file: &[u8], view: View, marks: &mut [u8], order: &mu
     ensures { (marks.new ≡ marks_of (log_of width file.now))
         × (take result order.new ≡ order_of (log_of width file.now) (view_of view)) × (result ≤ slots) }
 {
-    let tables = replay_all(file, WIDTH);
+    let mut tables = Tables::new();
+    replay_all(file, &mut tables, WIDTH);
     mark_ops(file, marks);
     order_view(&tables.parents, marks, view, order)
 }

@@ -8,6 +8,7 @@ ghost use Rattle.view.specs.Tables.{put_front};
 ghost use Rattle.rules.specs.Tree as tree;
 
 use codec::Refusal;
+use effect::Tables;
 use oplog::counts_of;
 use replay::replay_all;
 use soundness::{WIDTH, is_sound};
@@ -49,7 +50,8 @@ fn put_path_now(file: &[u8], node: u16, out: &mut [u16]) -> Result<usize, Refusa
     ensures { record { answer = answer_of result; out = out.new }
         ≡ path_call width file.now node out.old }
 {
-    let tables = replay_all(file, WIDTH);
+    let mut tables = Tables::new();
+    replay_all(file, &mut tables, WIDTH);
     put_path(&tables.parents, node, out)
 }
 

@@ -9,8 +9,8 @@ counts_of-held-requires c = header_of _ (search putting)
 pub mark_ops-requires : goal.mark_ops-requires
 mark_ops-requires c = search putting
 
-pub replay_all-tables-requires : goal.replay_all-tables-requires
-replay_all-tables-requires c = search putting
+pub replay_all-requires : goal.replay_all-requires
+replay_all-requires c = search putting
 
 pub plan_all-requires : goal.plan_all-requires
 plan_all-requires c = search putting

@@ -7,14 +7,14 @@ use Rattle.bundle.proofs.bodies.write_bodies.Goals as goal
 pub counts_of-held-requires : goal.counts_of-held-requires
 counts_of-held-requires c = header_of _ (search bodying)
 
-pub schedule_of-schedule-requires : goal.schedule_of-schedule-requires
-schedule_of-schedule-requires c = order_asks _ _ _ c.requires _ c.counts_of-held.ensures
+pub write_order-requires : goal.write_order-requires
+write_order-requires c = order_asks _ _ _ c.requires _ c.counts_of-held.ensures
 
 pub write_along-requires : goal.write_along-requires
 write_along-requires c =
-    along_asks _ _ _ c.requires _ c.counts_of-held.ensures _ (c.entries.ensures ∙ c.schedule_of-schedule.ensures)
+    along_asks _ _ _ c.requires _ c.counts_of-held.ensures _ (c.entries.ensures ∙ c.write_order.ensures)
 
 pub returns : goal.returns
 returns c =
-    bodies_written _ _ _ c.requires _ c.counts_of-held.ensures _ (c.entries.ensures ∙ c.schedule_of-schedule.ensures) _
+    bodies_written _ _ _ c.requires _ c.counts_of-held.ensures _ (c.entries.ensures ∙ c.write_order.ensures) _
     c.write_along.ensures

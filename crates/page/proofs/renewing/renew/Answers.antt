@@ -5,5 +5,5 @@ use Rattle.page.proofs.renewing.renew.Goals as goal
 pub counts_of-all-requires : goal.counts_of-all-requires
 counts_of-all-requires c = (file_header _ _ c.requires.grown, file_sound _ _ c.requires.grown)
 
-pub schedule_of-schedule-requires : goal.schedule_of-schedule-requires
-schedule_of-schedule-requires c = order_asks _ _ c.requires.grown _ c.counts_of-all.ensures
+pub write_order-requires : goal.write_order-requires
+write_order-requires c = order_asks _ _ c.requires.grown _ c.counts_of-all.ensures

@@ -4,7 +4,7 @@ use Rattle.replay.proofs.CutLaws.{along_asks, replayed}
 use Rattle.replay.proofs.cut.replay_cut.Goals as goal
 
 pub apply_along-requires : goal.apply_along-requires
-apply_along-requires c = along_asks _ _ _ c.requires _ (c.entries.ensures ∙ c.schedule_of-schedule.ensures)
+apply_along-requires c = along_asks _ _ _ c.requires _ (c.entries.ensures ∙ c.write_order.ensures)
 
 pub returns : goal.returns
-returns c = replayed _ _ _ c.requires _ (c.entries.ensures ∙ c.schedule_of-schedule.ensures) _ c.start-tables.ensures _ c.apply_along.ensures
+returns c = replayed _ _ _ c.requires _ (c.entries.ensures ∙ c.write_order.ensures) _ c.start.ensures _ c.apply_along.ensures

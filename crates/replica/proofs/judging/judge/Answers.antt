@@ -13,8 +13,8 @@ returns-then-parents-lt-SLOTS c = search judging
 pub returns-then-outcomes-lt-SLOTS : goal.returns-then-outcomes-lt-SLOTS
 returns-then-outcomes-lt-SLOTS c = search judging
 
-pub replay_all-tables-requires : goal.replay_all-tables-requires
-replay_all-tables-requires c = (omega arith, search judging)
+pub replay_all-requires : goal.replay_all-requires
+replay_all-requires c = (omega arith, search judging)
 
 pub copy_from_slice-requires : goal.copy_from_slice-requires
 copy_from_slice-requires c = simp length-take (omega arith)

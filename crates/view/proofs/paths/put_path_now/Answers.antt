@@ -2,8 +2,8 @@
 use Rattle.view.proofs.PathCases.{paths}
 use Rattle.view.proofs.paths.put_path_now.Goals as goal
 
-pub replay_all-tables-requires : goal.replay_all-tables-requires
-replay_all-tables-requires c = search paths
+pub replay_all-requires : goal.replay_all-requires
+replay_all-requires c = search paths
 
 pub put_path-requires : goal.put_path-requires
 put_path-requires c = search paths

@@ -8,4 +8,4 @@ use Rattle.undo.proofs.keeping.Undoable.new.Goals as goal
 
 pub returns : goal.returns
 unfolding unjudged
-returns c = ap (λ (st : State). record { state = st; took = replicate slots 0; was = replicate slots 0 }) c.start-tables.ensures
+returns c = ap (λ (st : State). record { state = st; took = replicate slots 0; was = replicate slots 0 }) c.start.ensures
