@@ -103,6 +103,7 @@ pub extern "C" fn outline_path(file: &[u8], node: u16, out: &mut [u16]) -> usize
     number(path(file, node, out))
 }
 
+#[tactic(auto, unfolding(crate::specs::Number::view_for))]
 fn view_for(skipping: bool) -> View
     ensures { view_of result ≡ view_for skipping }
 {
