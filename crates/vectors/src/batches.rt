@@ -1,5 +1,5 @@
 use crate::print::{answered, memory};
-use codec::{widen16, word_at};
+use codec::word_at;
 use std::io::Print;
 
 // The nodes of a line, two bytes each, put into a table; answers how many there are.
@@ -39,7 +39,7 @@ fn issue_part(
     if line.len() < 6 {
         return;
     }
-    let lent = widen16(word_at(line, 4));
+    let lent = usize::from(word_at(line, 4));
     if nodes.len() < n {
         return;
     }

@@ -3,10 +3,10 @@ ghost use Rattle.rules.specs.Tree.{slots};
 
 use crate::print::{answered, memory, memory_front, number, numbers, refused, text};
 use crate::{batches, pages};
-use codec::{Answer, widen, widen16, word_at};
+use codec::{Refusal, word_at};
 use printing::LONGEST;
 use std::io::Print;
-use tree::{NO_PARENT, SLOTS, climb_to};
+use tree::{Climbed, NO_PARENT, SLOTS, climb_to};
 use view::View;
 
 fn make(rt: &impl Print, buf: &mut [u8]) {
@@ -19,7 +19,7 @@ fn deliver(rt: &impl Print, buf: &mut [u8], op: &[u8]) {
     memory(rt, buf);
 }
 
-fn issued(rt: &impl Print, answer: Answer, buf: &[u8], out: &[u8]) {
+fn issued(rt: &impl Print, answer: Result<usize, Refusal>, buf: &[u8], out: &[u8]) {
     answered(rt, answer);
     memory(rt, buf);
     memory(rt, out);
@@ -81,7 +81,7 @@ fn issue(rt: &impl Print, buf: &mut [u8], line: &[u8]) {
         return;
     }
     let mut out = [238u8; 64];
-    let n = widen(line[line.len() - 1]);
+    let n = usize::from(line[line.len() - 1]);
     issue_part(rt, buf, line, &mut out, n);
 }
 
@@ -115,8 +115,8 @@ fn judge(rt: &impl Print, file: &[u8], line: &[u8]) {
     }
     let mut parents = [61166u16; 2100];
     let mut outcomes = [238u8; 2100];
-    let n = widen16(word_at(line, 1));
-    let m = widen16(word_at(line, 3));
+    let n = usize::from(word_at(line, 1));
+    let m = usize::from(word_at(line, 3));
     judge_parts(rt, file, &mut parents, &mut outcomes, n, m);
 }
 
@@ -138,11 +138,11 @@ fn path(rt: &impl Print, file: &[u8], line: &[u8]) {
         return;
     }
     let mut out = [61166u16; 2100];
-    let n = widen16(word_at(line, 3));
+    let n = usize::from(word_at(line, 3));
     path_part(rt, file, word_at(line, 1), &mut out, n);
 }
 
-fn list(file: &[u8], skipping: bool, out: &mut [u8]) -> Answer {
+fn list(file: &[u8], skipping: bool, out: &mut [u8]) -> Result<usize, Refusal> {
     if skipping {
         return view::listing(file, View::Skipping, out);
     }
@@ -167,7 +167,7 @@ fn listing(rt: &impl Print, file: &[u8], line: &[u8]) {
         return;
     }
     let mut out = [238u8; 24000];
-    let n = widen16(word_at(line, 2));
+    let n = usize::from(word_at(line, 2));
     listing_part(rt, file, line[1] != 0, &mut out, n);
 }
 
@@ -192,7 +192,7 @@ fn make_bundle(rt: &impl Print, file: &[u8], line: &[u8]) {
     let counts = [
         line[1], line[2], line[3], line[4], line[5], line[6], line[7], line[8],
     ];
-    let n = widen16(word_at(line, 9));
+    let n = usize::from(word_at(line, 9));
     bundle_part(rt, file, counts, &mut out, n);
 }
 
@@ -214,7 +214,7 @@ fn deliver_holdback(rt: &impl Print, buf: &mut [u8], line: &[u8]) {
     if line.len() < 2 {
         return;
     }
-    let end = 2 + widen(line[1]);
+    let end = 2 + usize::from(line[1]);
     if line.len() < end {
         return;
     }
@@ -229,13 +229,16 @@ fn climb_in(rt: &impl Print, parents: &[u16], parent: u16, node: u16)
     if node == NO_PARENT {
         return;
     }
-    let climbed = climb_to(parents, parent, node);
-    if climbed.met {
-        text(rt, b"y ");
-    } else {
-        text(rt, b"n ");
+    match climb_to(parents, parent, node) {
+        Climbed::Met(steps) => {
+            text(rt, b"y ");
+            number(rt, steps);
+        }
+        Climbed::Missed(steps) => {
+            text(rt, b"n ");
+            number(rt, steps);
+        }
     }
-    number(rt, climbed.steps);
 }
 
 // The climb from a parent to a node, in the tree of the buffer.
@@ -245,12 +248,10 @@ fn climb(rt: &impl Print, file: &[u8], line: &[u8]) {
     }
     let mut parents = [0u16; SLOTS];
     let mut outcomes = [0u8; SLOTS];
-    let Answer::Refused(why) = replica::judge(file, &mut parents, &mut outcomes) else {
-        climb_in(rt, &parents, word_at(line, 1), word_at(line, 3));
-        memory(rt, file);
-        return;
-    };
-    refused(rt, why);
+    match replica::judge(file, &mut parents, &mut outcomes) {
+        Ok(()) => climb_in(rt, &parents, word_at(line, 1), word_at(line, 3)),
+        Err(why) => refused(rt, why),
+    }
     memory(rt, file);
 }
 
@@ -263,10 +264,9 @@ fn open_bundle(rt: &impl Print, buf: &mut [u8], bytes: &[u8]) {
 fn outline(rt: &impl Print, input: &[u8]) {
     let mut out = [0u8; LONGEST];
     text(rt, b"o");
-    let Answer::Accepted(n) = printing::outline(input, &mut out) else {
-        return;
-    };
-    memory_front(rt, &out, n);
+    if let Ok(n) = printing::outline(input, &mut out) {
+        memory_front(rt, &out, n);
+    }
 }
 
 // Copies bytes to the front of the buffer, and answers their number.
@@ -338,7 +338,7 @@ fn resized(line: &[u8], buf: &mut [u8], len: usize) -> usize {
         if line.len() < 3 {
             return len;
         }
-        let next = widen16(word_at(line, 1));
+        let next = usize::from(word_at(line, 1));
         fill(buf, len, next);
         return next;
     }

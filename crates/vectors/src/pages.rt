@@ -1,5 +1,5 @@
-use crate::print::{answered, memory, number, numbers, text};
-use codec::{widen, widen16, word_at};
+use crate::print::{Reply, answered, memory, number, numbers, text};
+use codec::{Refusal, word_at};
 use page::Paged;
 use std::io::Print;
 
@@ -30,7 +30,7 @@ fn load_table(line: &[u8], at: usize, table: &mut [u16]) -> Table {
     if len - 2 < at {
         return Table { entries, next: len };
     }
-    let runs = widen16(word_at(line, at));
+    let runs = usize::from(word_at(line, at));
     let mut next = at + 2;
     for _ in 0..runs {
         if len < 4 {
@@ -39,7 +39,7 @@ fn load_table(line: &[u8], at: usize, table: &mut [u16]) -> Table {
         if len - 4 < next {
             return Table { entries, next: len };
         }
-        let n = widen16(word_at(line, next));
+        let n = usize::from(word_at(line, next));
         entries = put_run(table, entries, n, word_at(line, next + 2));
         next += 4;
     }
@@ -53,17 +53,23 @@ fn narrow(words: &[u16], bytes: &mut [u8]) {
     }
 }
 
-fn told(rt: &impl Print, paged: Paged, buf: &[u8]) {
-    let answer = paged.answer;
+fn told<T: Reply>(rt: &impl Print, paged: Result<Paged<T>, Refusal>, buf: &[u8]) {
+    match paged {
+        Ok(Paged { answer, taken }) => took(rt, Ok(answer), taken),
+        Err(why) => took::<T, _>(rt, Err(why), 0),
+    }
+    memory(rt, buf);
+}
+
+fn took<T: Reply, P: Print>(rt: &P, answer: Result<T, Refusal>, taken: usize) {
     answered(rt, answer);
     text(rt, b" ");
-    number(rt, paged.taken);
-    memory(rt, buf);
+    number(rt, taken);
 }
 
 fn issued(
     rt: &impl Print,
-    paged: Paged,
+    paged: Result<Paged<usize>, Refusal>,
     buf: &[u8],
     out: &[u8],
     order: &[u16],
@@ -92,7 +98,7 @@ fn deliver(
     if line.len() < 2 {
         return;
     }
-    let end = 2 + widen(line[1]);
+    let end = 2 + usize::from(line[1]);
     if line.len() < end {
         return;
     }
@@ -184,7 +190,7 @@ fn issue(
     if line.len() < at {
         return;
     }
-    let n = widen(line[at - 1]);
+    let n = usize::from(line[at - 1]);
     if out.len() < n {
         return;
     }
@@ -249,7 +255,7 @@ fn page_place(line: &[u8]) -> usize {
         return 0;
     }
     match line[0] {
-        15 => 2 + widen(line[1]),
+        15 => 2 + usize::from(line[1]),
         18 => 7,
         0..=14 | 16..=17 | 19..=255 => 5,
     }

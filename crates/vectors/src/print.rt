@@ -1,6 +1,6 @@
 ghost use Rattle.std.specs.Prelude.{◌<◌};
 
-use codec::{Answer, Refusal, number_of};
+use codec::{Delivered, Refusal};
 use std::io::Print;
 
 pub fn text(rt: &impl Print, s: &[u8]) {
@@ -17,21 +17,41 @@ fn wide_number(rt: &impl Print, n: u64) {
 
 pub fn refused(rt: &impl Print, why: Refusal) {
     text(rt, b"r ");
-    number(rt, number_of(why));
+    number(rt, usize::from(why));
 }
 
-fn accepted(rt: &impl Print, n: usize) {
-    text(rt, b"a ");
-    number(rt, n);
+// What a call that is not refused answers.
+pub trait Reply {
+    fn tell<P: Print>(self, rt: &P);
 }
 
-pub fn answered(rt: &impl Print, answer: Answer) {
+impl Reply for usize {
+    fn tell<P: Print>(self, rt: &P) {
+        text(rt, b"a ");
+        number(rt, self);
+    }
+}
+
+impl Reply for () {
+    fn tell<P: Print>(self, rt: &P) {
+        text(rt, b"d");
+    }
+}
+
+impl Reply for Delivered {
+    fn tell<P: Print>(self, rt: &P) {
+        match self {
+            Delivered::HadIt => text(rt, b"h"),
+            Delivered::Waiting => text(rt, b"w"),
+            Delivered::Accepted(end) => end.tell(rt),
+        }
+    }
+}
+
+pub fn answered<T: Reply>(rt: &impl Print, answer: Result<T, Refusal>) {
     match answer {
-        Answer::Refused(why) => refused(rt, why),
-        Answer::HadIt => text(rt, b"h"),
-        Answer::Waiting => text(rt, b"w"),
-        Answer::Done => text(rt, b"d"),
-        Answer::Accepted(n) => accepted(rt, n),
+        Ok(reply) => reply.tell(rt),
+        Err(why) => refused(rt, why),
     }
 }
 
