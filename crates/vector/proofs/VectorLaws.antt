@@ -2,8 +2,10 @@
 use Prim.Native.Nat.{ℕ, ◌+◌, ◌-◌, ◌<◌, ◌*◌, ◌/◌, ◌%◌, ◌≤◌}
 use borrow.Author.Tests.{lt-leb, le-leb, eq-eqb, ne_eqb}
 use lib.Dec.{leb, eqb}
-use lib.ListN.{length, take, get_or, set, length-set}
-use lib.Seq.{take_all}
+use lib.ListN.{length, take, drop, get_or, set, length-set, length-take, length-drop}
+use lib.Seq.{take_all, get_or-take, get_or-drop}
+use Rattle.std.specs.List.{range_with_len}
+use Rattle.std.proofs.lemmas.List.FromFn.{fill_by_all}
 use mathlib.Core.Bool.{◌&&◌, Bool, and-eq-true_iff, true, false}
 use mathlib.Core.List.{List, map}
 use mathlib.Core.Path.{◌≡◌, refl, sym, ◌∙◌}
@@ -17,6 +19,12 @@ use Rattle.rules.specs.File.{within}
 use Rattle.rules.specs.Op.{Vector, count_in, replicas}
 use Rattle.lists.proofs.ListLaws.{copy_step}
 use borrow.Author.Rules.{rules}
+
+-- eight bytes from a place on, read one by one
+pub bytes_read : (bs : List ℕ) (at : ℕ) → at + 8 ≤ length bs → map (λ i. get_or bs (at + i) 0) (range_with_len 0 8) ≡ take 8 (drop at bs)
+bytes_read bs at h =
+    sym (fill_by_all (λ i. get_or bs (at + i) 0) (take 8 (drop at bs)) 8 0 (simp (length-take, length-drop) (omega arith))
+    (λ k l. rw (get_or-take, get_or-drop)))
 
 pub length_eight : (F : ℕ → ℕ) → length (map F replicas) ≡ 8
 unfolding replicas up_from
