@@ -170,19 +170,21 @@ FourAt v i n =
     (n ≡ spread_of (get_or v i 0) (get_or v (i + 2) 0) (get_or v (i + 4) 0) (get_or v (i + 6) 0))
     × Counts (get_or v i 0) (get_or v (i + 2) 0) (get_or v (i + 4) 0) (get_or v (i + 6) 0)
 
-pub spread_small : (v : Vector) (i n : ℕ) → FourAt v i n → n ≤ 71777214294589695
-spread_small v i n h = rw (h.0) (spread_most _ _ _ _ h.1)
+pub spread_small : (a b c d n : ℕ) → (n ≡ spread_of a b c d) × Counts a b c d → n ≤ 71777214294589695
+spread_small a b c d n h = rw (h.0) (spread_most a b c d h.1)
 
 module _ (v u : Vector) (m n p q : ℕ) (a : FourAt u 0 m) (b : FourAt v 0 n) (c : FourAt u 1 p) (d : FourAt v 1 q) where
   within_marked : within v u ≡ (all_marked (m + 1224980198173180160 - n) && all_marked (p + 1224980198173180160 - q))
   unfolding even_reach odd_reach
   within_marked = within_halves v u ∙ sym (rw (a.0, b.0, c.0, d.0) (rw (four_reach _ _ _ _ _ _ _ _ a.1 b.1, four_reach _ _ _ _ _ _ _ _ c.1 d.1)))
 
-  pub within_if_even : all_marked (m + 1224980198173180160 - n) ≡ true → all_marked (p + 1224980198173180160 - q) ≡ within v u
-  within_if_even e = sym (within_marked ∙ rw e)
+  -- x tells whether the even counts are within, y whether the odd ones are
+  module _ (x : Bool) (is : x ≡ all_marked (m + 1224980198173180160 - n)) where
+    pub within_if_even : x ≡ true → (y : Bool) → y ≡ all_marked (p + 1224980198173180160 - q) → y ≡ within v u
+    within_if_even e y iy = iy ∙ sym (within_marked ∙ rw (← is, e))
 
-  pub without_even : all_marked (m + 1224980198173180160 - n) ≡ false → false ≡ within v u
-  without_even e = sym (within_marked ∙ rw e)
+    pub without_even : x ≡ false → x ≡ within v u
+    without_even e = e ∙ sym (within_marked ∙ rw (← is, e))
 
 ---- what the comparison needs
 pub ruleset comparing = (rules, spread_small, within_if_even, without_even)
