@@ -32,7 +32,8 @@ fn entry_right(file: &[u8], s: usize, start: usize) -> bool
     count_at(file, s) <= 255 && start_at(file, s) == start
 }
 
-// Whether counts are at most 255 and starts are right.
+// Whether counts are at most 255 and starts are right. A chain over the entries would have to carry each
+// start to the next one, and be no plainer.
 pub fn header_right(file: &[u8], width: usize) -> bool
     requires { (32 ≤ length file.now) × (width ≤ 255) }
     ensures { result ≡ sound_header width file.now }
@@ -73,7 +74,8 @@ fn put_entry(buf: &mut [u8], i: usize, count: u8, start: u16)
     put_word(buf, 4 * i + 2, start);
 }
 
-// Writes the header of some counts.
+// Writes the header of some counts, by number: the number tells the place of an entry, and its start comes
+// from the one before, so a chain would be no plainer.
 pub fn write_header(buf: &mut [u8], counts: [u8; 8], width: usize)
     requires { (32 ≤ length buf.old) × (width ≤ 16) }
     ensures { buf.new ≡ header_of width counts ++ drop 32 buf.old }

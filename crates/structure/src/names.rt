@@ -52,7 +52,7 @@ fn move_known(file: &[u8], v: [u8; 8], node: u16, parent: u16, width: usize) -> 
 }
 
 // Whether what an op names is known (number 7). Number 3 is tested before, so no op with an invalid
-// kind gets here; the definition would read it as a move.
+// kind gets here; the definition would read it as a move, so the contract speaks of any number.
 #[tactic(auto, unfolding(crate::specs::Tests::names_by, crate::specs::Tests::move_names))]
 pub fn names_known(
     file: &[u8],

@@ -2,8 +2,10 @@
 use Prim.Native.Nat.{ℕ, ◌+◌, ◌-◌, ◌<◌, ◌*◌, ◌/◌, ◌%◌, ◌≤◌}
 use borrow.Author.Tests.{lt-leb, le-leb, eq-eqb, ne_eqb}
 use lib.Dec.{leb, eqb}
-use lib.ListN.{length, take, get_or, set, length-set}
-use lib.Seq.{take_all}
+use lib.ListN.{length, take, drop, get_or, set, length-set, length-take, length-drop}
+use lib.Seq.{take_all, get_or-take, get_or-drop}
+use Rattle.std.specs.List.{range_with_len}
+use Rattle.std.proofs.lemmas.List.FromFn.{fill_by_all}
 use mathlib.Core.Bool.{◌&&◌, Bool, and-eq-true_iff, true, false}
 use mathlib.Core.List.{List, map}
 use mathlib.Core.Path.{◌≡◌, refl, sym, ◌∙◌}
@@ -17,6 +19,12 @@ use Rattle.rules.specs.File.{within}
 use Rattle.rules.specs.Op.{Vector, count_in, replicas}
 use Rattle.lists.proofs.ListLaws.{copy_step}
 use borrow.Author.Rules.{rules}
+
+-- eight bytes from a place on, read one by one
+pub bytes_read : (bs : List ℕ) (at : ℕ) → at + 8 ≤ length bs → map (λ i. get_or bs (at + i) 0) (range_with_len 0 8) ≡ take 8 (drop at bs)
+bytes_read bs at h =
+    sym (fill_by_all (λ i. get_or bs (at + i) 0) (take 8 (drop at bs)) 8 0 (simp (length-take, length-drop) (omega arith))
+    (λ k l. rw (get_or-take, get_or-drop)))
 
 pub length_eight : (F : ℕ → ℕ) → length (map F replicas) ≡ 8
 unfolding replicas up_from
@@ -162,19 +170,21 @@ FourAt v i n =
     (n ≡ spread_of (get_or v i 0) (get_or v (i + 2) 0) (get_or v (i + 4) 0) (get_or v (i + 6) 0))
     × Counts (get_or v i 0) (get_or v (i + 2) 0) (get_or v (i + 4) 0) (get_or v (i + 6) 0)
 
-pub spread_small : (v : Vector) (i n : ℕ) → FourAt v i n → n ≤ 71777214294589695
-spread_small v i n h = rw (h.0) (spread_most _ _ _ _ h.1)
+pub spread_small : (a b c d n : ℕ) → (n ≡ spread_of a b c d) × Counts a b c d → n ≤ 71777214294589695
+spread_small a b c d n h = rw (h.0) (spread_most a b c d h.1)
 
 module _ (v u : Vector) (m n p q : ℕ) (a : FourAt u 0 m) (b : FourAt v 0 n) (c : FourAt u 1 p) (d : FourAt v 1 q) where
   within_marked : within v u ≡ (all_marked (m + 1224980198173180160 - n) && all_marked (p + 1224980198173180160 - q))
   unfolding even_reach odd_reach
   within_marked = within_halves v u ∙ sym (rw (a.0, b.0, c.0, d.0) (rw (four_reach _ _ _ _ _ _ _ _ a.1 b.1, four_reach _ _ _ _ _ _ _ _ c.1 d.1)))
 
-  pub within_if_even : all_marked (m + 1224980198173180160 - n) ≡ true → all_marked (p + 1224980198173180160 - q) ≡ within v u
-  within_if_even e = sym (within_marked ∙ rw e)
+  -- x tells whether the even counts are within, y whether the odd ones are
+  module _ (x : Bool) (is : x ≡ all_marked (m + 1224980198173180160 - n)) where
+    pub within_if_even : x ≡ true → (y : Bool) → y ≡ all_marked (p + 1224980198173180160 - q) → y ≡ within v u
+    within_if_even e y iy = iy ∙ sym (within_marked ∙ rw (← is, e))
 
-  pub without_even : all_marked (m + 1224980198173180160 - n) ≡ false → false ≡ within v u
-  without_even e = sym (within_marked ∙ rw e)
+    pub without_even : x ≡ false → x ≡ within v u
+    without_even e = e ∙ sym (within_marked ∙ rw (← is, e))
 
 ---- what the comparison needs
 pub ruleset comparing = (rules, spread_small, within_if_even, without_even)
