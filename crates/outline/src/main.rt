@@ -9,7 +9,7 @@ ghost use Rattle.rules.specs.File.{largest, width};
 ghost use Rattle.codec.specs.Answers.{answer_of};
 ghost use Rattle.outline.specs.Text as texts;
 
-use codec::Answer;
+use codec::Refusal;
 use printing::LONGEST;
 use soundness::LARGEST;
 use std::io;
@@ -39,16 +39,10 @@ fn tell(errors: &impl Print, what: &str, cause: io::Error) {
 }
 
 // How many bytes an answer counts; none if it is refused.
-fn counted(answer: Answer) -> usize
+fn counted(answer: Result<usize, Refusal>) -> usize
     ensures { result ≡ texts.counted (answer_of answer) }
 {
-    match answer {
-        Answer::Accepted(n) => n,
-        Answer::Refused(_) => 0,
-        Answer::HadIt => 0,
-        Answer::Waiting => 0,
-        Answer::Done => 0,
-    }
+    answer.unwrap_or(0)
 }
 
 // Writes what the program prints for the input of which it read the first bytes, and answers how

@@ -1,3 +1,5 @@
+#![tactic(auto, using(crate::proofs::NumberCases::numbering))]
+
 ghost use Rattle.std.specs.Prelude.{◌≡◌};
 ghost use Rattle.rules.specs.File.{width};
 ghost use Rattle.batch_rules.specs.Batch.{issue_moves};

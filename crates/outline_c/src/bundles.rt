@@ -1,3 +1,5 @@
+#![tactic(auto, using(crate::proofs::NumberCases::numbering))]
+
 ghost use Rattle.std.specs.Prelude.{◌≡◌};
 ghost use Rattle.rules.specs.Bundle.{bundle_call, open_bundle};
 ghost use Rattle.rules.specs.File.{width};

@@ -1,3 +1,5 @@
+#![tactic(auto, using(crate::proofs::NumberCases::numbering))]
+
 ghost use Rattle.std.specs.Prelude.{◌≡◌};
 ghost use Rattle.rules.specs.Issue.{add, remove, move};
 ghost use Rattle.rules.specs.File.{width};
@@ -101,6 +103,7 @@ pub extern "C" fn outline_path(file: &[u8], node: u16, out: &mut [u16]) -> usize
     number(path(file, node, out))
 }
 
+#[tactic(auto, unfolding(crate::specs::Number::view_for))]
 fn view_for(skipping: bool) -> View
     ensures { view_of result ≡ view_for skipping }
 {

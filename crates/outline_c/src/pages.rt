@@ -1,22 +1,28 @@
+#![tactic(auto, using(crate::proofs::PageCases::paging))]
+
 ghost use Rattle.std.specs.Prelude.{◌≡◌};
 ghost use Rattle.rules.specs.File.{width};
 ghost use Rattle.rules.specs.Issue.{add, remove, move};
-ghost use Rattle.codec.specs.Answers.{answer_of};
+ghost use Rattle.codec.specs.Answers.{answer_by};
+ghost use Rattle.page.specs.Answers.{taken_by};
 ghost use Rattle.page_rules.specs.Page.{deliver_page, issue_page, page};
 ghost use Rattle.numbers.specs.Fits.{PageFits};
 ghost use Rattle.numbers.specs.Number.{page_number};
 ghost use Rattle.outline_c.specs.Number.{of_page, of_page_issued};
 
-use numbers::page_number;
+use codec::Refusal;
+use numbers::{Reply, page_number};
 use page::{Paged, deliver, issue_add, issue_move, issue_remove};
 
-// One number for what a call with a page hands back.
-fn number_of(paged: Paged) -> usize
-    requires { PageFits (answer_of paged.answer) paged.taken }
-    ensures { result ≡ page_number (answer_of paged.answer) paged.taken }
+// One number for what a call with a page hands back. A refused one took no op back.
+fn number_of<T: Reply>(paged: Result<Paged<T>, Refusal>) -> usize
+    requires { PageFits (answer_by (λ x. T.says x.answer) paged) (taken_by paged) }
+    ensures { result ≡ page_number (answer_by (λ x. T.says x.answer) paged) (taken_by paged) }
 {
-    let answer = paged.answer;
-    page_number(answer, paged.taken)
+    match paged {
+        Ok(Paged { answer, taken }) => page_number(Ok(answer), taken),
+        Err(why) => page_number::<T>(Err(why), 0),
+    }
 }
 
 // Delivers an op to the log in a buffer, with its page in three tables.

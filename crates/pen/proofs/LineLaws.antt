@@ -7,7 +7,7 @@ use native.Mathlib.Omega.{arith}
 use lib.ListN.{length, take, drop, set, length-append, length-drop}
 use lib.Seq.{set_split, take_at, drop-append-add, drop-drop, length-take-le, sets-eq}
 use Rattle.rules.specs.Listing.{decimal, line_of}
-use Rattle.pen.specs.Lines.{Asked, Penned, penned, written}
+use Rattle.pen.specs.Lines.{Penned, penned, written}
 use Rattle.pen.specs.declared.line.Pen.{Pen}
 use Rattle.rules.proofs.DecimalLaws.{length_line}
 

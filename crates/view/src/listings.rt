@@ -12,7 +12,7 @@ ghost use Rattle.rules.specs.Listing as rules;
 use crate::answer::View;
 use crate::lines::{size_of, write_lines};
 use crate::linking::link_view;
-use codec::{Answer, Refusal};
+use codec::Refusal;
 use effect::Tables;
 use marks::mark_ops;
 use replay::replay_all;
@@ -44,26 +44,26 @@ pub(crate) fn arrange_view(file: &[u8], view: View, marks: &mut [u8], order: &mu
 }
 
 // Writes the lines of arranged nodes into lent bytes, if they are enough.
-fn put_lines(order: &[Visit], marks: &[u8], out: &mut [u8]) -> Answer
+fn put_lines(order: &[Visit], marks: &[u8], out: &mut [u8]) -> Result<usize, Refusal>
     requires { Arranged order.now marks.now }
     ensures { record { answer = answer_of result; out = out.new }
         ≡ put_in (lines_of marks.now order.now) out.old }
 {
     let size = size_of(order);
     if out.len() < size {
-        return Answer::Refused(Refusal::NoRoom);
+        return Err(Refusal::NoRoom);
     }
     write_lines(order, marks, out);
-    Answer::Accepted(size)
+    Ok(size)
 }
 
 // Writes the listing of a view into lent bytes.
-pub fn listing(file: &[u8], view: View, out: &mut [u8]) -> Answer
+pub fn listing(file: &[u8], view: View, out: &mut [u8]) -> Result<usize, Refusal>
     ensures { record { answer = answer_of result; out = out.new }
         ≡ rules.listing width file.now (view_of view) out.old }
 {
     if !is_sound(file) {
-        return Answer::Refused(Refusal::Unsound);
+        return Err(Refusal::Unsound);
     }
     let mut marks = [0u8; SLOTS];
     let mut order = [Visit::ROOT; SLOTS];

@@ -7,7 +7,7 @@ ghost use Rattle.view.specs.Asked.{Way, WayOut, Present};
 ghost use Rattle.view.specs.Tables.{put_front};
 ghost use Rattle.rules.specs.Tree as tree;
 
-use codec::{Answer, Refusal};
+use codec::Refusal;
 use effect::Tables;
 use oplog::counts_of;
 use replay::replay_all;
@@ -31,21 +31,21 @@ fn write_path(parents: &[u16], node: u16, steps: usize, out: &mut [u16])
 }
 
 // Puts the path of a node into lent entries, if they are enough.
-fn put_path(parents: &[u16], node: u16, out: &mut [u16]) -> Answer
+fn put_path(parents: &[u16], node: u16, out: &mut [u16]) -> Result<usize, Refusal>
     requires { Way parents.now node (tree.depth parents.now node) }
     ensures { record { answer = answer_of result; out = out.new }
         ≡ put_in (tree.path parents.now node) out.old }
 {
     let steps = depth_of(parents, node);
     if out.len() <= steps {
-        return Answer::Refused(Refusal::NoRoom);
+        return Err(Refusal::NoRoom);
     }
     write_path(parents, node, steps, out);
-    Answer::Accepted(steps + 1)
+    Ok(steps + 1)
 }
 
 // The same in the present tree, of a node that is known.
-fn put_path_now(file: &[u8], node: u16, out: &mut [u16]) -> Answer
+fn put_path_now(file: &[u8], node: u16, out: &mut [u16]) -> Result<usize, Refusal>
     requires { Present file.now node }
     ensures { record { answer = answer_of result; out = out.new }
         ≡ path_call width file.now node out.old }
@@ -56,16 +56,16 @@ fn put_path_now(file: &[u8], node: u16, out: &mut [u16]) -> Answer
 }
 
 // Puts the path of a node into lent entries.
-pub fn path(file: &[u8], node: u16, out: &mut [u16]) -> Answer
+pub fn path(file: &[u8], node: u16, out: &mut [u16]) -> Result<usize, Refusal>
     ensures { record { answer = answer_of result; out = out.new }
         ≡ path_call width file.now node out.old }
 {
     if !is_sound(file) {
-        return Answer::Refused(Refusal::Unsound);
+        return Err(Refusal::Unsound);
     }
     let counts = counts_of(file, WIDTH);
     if !known_parent(file, counts, node, WIDTH) {
-        return Answer::Refused(Refusal::Unknown);
+        return Err(Refusal::Unknown);
     }
     put_path_now(file, node, out)
 }

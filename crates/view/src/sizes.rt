@@ -7,20 +7,20 @@ ghost use Rattle.view.specs.Answers.{view_of};
 use crate::answer::View;
 use crate::lines::size_of;
 use crate::listings::arrange_view;
-use codec::{Answer, Refusal};
+use codec::Refusal;
 use soundness::is_sound;
 use tour::Visit;
 use tree::SLOTS;
 
 // How many bytes the listing of a view has.
-pub fn listing_size(file: &[u8], view: View) -> Answer
+pub fn listing_size(file: &[u8], view: View) -> Result<usize, Refusal>
     ensures { answer_of result ≡ listing_size width file.now (view_of view) }
 {
     if !is_sound(file) {
-        return Answer::Refused(Refusal::Unsound);
+        return Err(Refusal::Unsound);
     }
     let mut marks = [0u8; SLOTS];
     let mut order = [Visit::ROOT; SLOTS];
     let count = arrange_view(file, view, &mut marks, &mut order);
-    Answer::Accepted(size_of(&order[..count]))
+    Ok(size_of(&order[..count]))
 }

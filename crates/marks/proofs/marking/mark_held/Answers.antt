@@ -8,11 +8,5 @@ in_file-requires c = search marking
 pub returns-then-not-in_file : goal.returns-then-not-in_file
 returns-then-not-in_file c = search marking
 
-pub mark_op-requires : goal.mark_op-requires
-mark_op-requires c = search marking
-
-pub shape_of-marks : goal.shape_of-marks
-shape_of-marks c = search marking
-
 pub returns : goal.returns
 returns c = search marking

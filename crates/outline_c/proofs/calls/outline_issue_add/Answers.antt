@@ -1,12 +1,9 @@
 -- `outline_c::calls::outline_issue_add` meets its contract.
 use native.Mathlib.Omega.{arith}
-use Rattle.outline_c.proofs.NumberCases.{numbering, issued_fits}
+use Rattle.outline_c.proofs.NumberCases.{issued_fits}
 use Rattle.outline_c.proofs.calls.outline_issue_add.Goals as goal
 
 pub number-requires : goal.number-requires
 number-requires c =
     let called = c.before.before.before in
     issued_fits _ _ _ _ _ _ _ called.before.issue_add.ensures (omega arith)
-
-pub returns : goal.returns
-returns c = search numbering

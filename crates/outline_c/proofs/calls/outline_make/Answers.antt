@@ -4,6 +4,3 @@ use Rattle.outline_c.proofs.calls.outline_make.Goals as goal
 
 pub number-requires : goal.number-requires
 number-requires c = search numbering
-
-pub returns : goal.returns
-returns c = search numbering

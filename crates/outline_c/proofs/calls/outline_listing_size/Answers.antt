@@ -1,9 +1,0 @@
--- `outline_c::calls::outline_listing_size` meets its contract.
-use Rattle.outline_c.proofs.NumberCases.{numbering}
-use Rattle.outline_c.proofs.calls.outline_listing_size.Goals as goal
-
-pub number-requires : goal.number-requires
-number-requires c = search numbering
-
-pub returns : goal.returns
-returns c = search numbering
