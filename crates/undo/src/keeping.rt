@@ -19,8 +19,8 @@ use tree::{SLOTS, slot_of, slot_place};
 #[derive(Drop)]
 pub struct Undoable {
     pub tables: Tables,
-    pub took: [u16; SLOTS],
-    pub was: [u16; SLOTS],
+    took: [u16; SLOTS],
+    was: [u16; SLOTS],
 }
 
 // The slot of the node that the op of an entry names.
