@@ -7,9 +7,9 @@ use mathlib.Core.List.{List}
 use Prim.Native.Nat.{ℕ, ◌+◌, ◌*◌, ◌-◌, ◌/◌, ◌%◌, ◌≤◌, ◌<◌}
 use native.Mathlib.Omega.{arith}
 use native.Mathlib.Decide.{ℕ_discrete}
-use lib.ListN.{length, drop, get_or, set}
+use lib.ListN.{drop, set}
 use Rattle.rules.specs.Op.{vector_of, kind_of, parent_of, node_number, is_add, node_of, is_move, Op}
-use Rattle.rules.specs.Tree.{climb_to, no_parent, slot_of, slot, slots}
+use Rattle.rules.specs.Tree.{no_parent, slot_of, slot, slots}
 use Rattle.rules.specs.Replay.{State, outcome_of, outcome_slot, step}
 use Rattle.rules.specs.File.{op_at, log_of}
 use Rattle.rules.specs.Log.{structural}

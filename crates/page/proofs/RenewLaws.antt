@@ -7,7 +7,7 @@ use native.Mathlib.Omega.{arith}
 use lib.ListN.{drop, get_or, length, length-append, length-drop, length-map, length-replicate, replicate, set, take}
 use lib.Seq.{drop-append-le, length-take-le, take-append-le}
 use borrow.Author.Tests.{le-leb}
-use Rattle.lists.specs.Lists.{filter, sum, up_from}
+use Rattle.lists.specs.Lists.{filter, sum}
 use Rattle.lists.proofs.ListLaws.{map_at, map_drop, map_map, map_take}
 use Rattle.std.proofs.lemmas.List.{get_or-take, set_at, take_all, take-append-drop, take_more}
 use Rattle.rules.specs.Op.{Vector, count_in, counted}
@@ -15,7 +15,7 @@ use Rattle.rules.specs.File.{Log, counts_of, header_counts, log_of, width}
 use Rattle.rules.specs.Log.{covered, sound_header, structural}
 use Rattle.page_rules.specs.Page.{Page, page_filled, padded, page, page_at, page_of, shows}
 use Rattle.rules.specs.Replay.{State, Stamped, order_of, ordered, outcome_slot, replay, start}
-use Rattle.rules.specs.Tree.{most_ops, no_parent}
+use Rattle.rules.specs.Tree.{most_ops}
 use Rattle.rules.proofs.CausalLaws.{Le, le_within, total, total_sum, within_le, within_length}
 use Rattle.rules.proofs.FileLaws.{counts_at, counts_log_of}
 use Rattle.rules.proofs.IssueLaws.{counts_eight}
@@ -84,8 +84,15 @@ slots_more es i d h few s is =
     let ys : List ℕ = map slot_in_entry (take i es) in
     let long : length ys ≡ i = length-map (take i es) slot_in_entry ∙ length-take-le i es (omega arith) in
     let left : most_ops - length ys ≡ suc (most_ops - (length ys + 1)) = omega (arith, long) in
-    rw (is, left, set_at ys 0 (replicate (most_ops - (length ys + 1)) 0) (get_or es i d).slot i long, take_more es i d h, map-append,
-      length-append, append_assoc)
+    rw (
+      is,
+      left,
+      set_at ys 0 (replicate (most_ops - (length ys + 1)) 0) (get_or es i d).slot i long,
+      take_more es i d h,
+      map-append,
+      length-append,
+      append_assoc,
+    )
 
 pub slots_none : replicate most_ops 0 ≡ padded (map slot_in_entry [])
 unfolding padded
@@ -290,8 +297,18 @@ module _ (f : List ℕ) (old all : Vector) (es : List Entry) (ls lp lo : List �
           let zs : List Stamped = ordered log (counts_of log) in
           let back : filter (in_cut old) (drop i xs) ≡ drop (suc i) xs =
           rw counts_all at (counted_back log good old old_cut one i first_new) in
-          rw (rest_is, ops_are log old (drop i es), map_drop (stamped_of log) i es, stamped_is, back, length-map, length-drop, length-drop,
-            length-map, counts_all)
+          rw (
+            rest_is,
+            ops_are log old (drop i es),
+            map_drop (stamped_of log) i es,
+            stamped_is,
+            back,
+            length-map,
+            length-drop,
+            length-drop,
+            length-map,
+            counts_all,
+          )
 
       module _ (s : List ℕ) (is' : s ≡ padded (map slot_in_entry es)) (shown : Bool)
           (so : shown ≡ shows (page ls lp lo) (page (order_without i s) judged.state.parents judged.state.outcomes)) where

@@ -10,7 +10,8 @@ use schedule::{Entry, OPS, Schedule, write_order};
 use soundness::WIDTH;
 use undo::{Undoable, first_beyond};
 
-// The slots of entries, and 0 behind them.
+// The slots of entries, and 0 behind them. By index: of a table that iter_mut lent a proof knows no
+// element.
 #[tactic(auto, using(crate::proofs::RenewLaws::slots_none, crate::proofs::RenewLaws::slots_more))]
 fn slots_of(entries: &[Entry]) -> [u16; OPS]
     requires { length entries.now ≤ most_ops }

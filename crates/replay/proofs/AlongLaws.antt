@@ -1,6 +1,6 @@
 -- Applying ops along entries, as the code has it.
 use mathlib.Core.Path.{◌≡◌, refl, ◌∙◌}
-use mathlib.Core.List.{List, [], ◌∷◌, map, map-append, foldl, foldl-append}
+use mathlib.Core.List.{List, [], map-append, foldl-append}
 use Prim.Native.Nat.{ℕ, ◌+◌, ◌<◌}
 use lib.ListN.{get_or, length, take}
 use Rattle.std.proofs.lemmas.List.{take_more}

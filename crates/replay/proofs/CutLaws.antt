@@ -1,9 +1,9 @@
 -- Replaying a cut, as the code has it.
-use mathlib.Core.Path.{◌≡◌, ap, ◌∙◌}
+use mathlib.Core.Path.{◌≡◌}
 use mathlib.Core.Bool.{true}
 use mathlib.Core.List.{List}
-use Prim.Native.Nat.{ℕ, ◌≤◌, ◌<◌}
-use lib.ListN.{length, get_or}
+use Prim.Native.Nat.{ℕ, ◌≤◌}
+use lib.ListN.{length}
 use Rattle.lists.proofs.EachLaws.{each_at}
 use Rattle.rules.specs.Op.{Vector}
 use Rattle.rules.specs.File.{log_of, header_counts}
@@ -18,7 +18,7 @@ use Rattle.schedule.specs.declared.entries.Entry.{Entry}
 use Rattle.schedule.specs.Schedule.{scheduled}
 use Rattle.schedule.specs.Level.{SchedulableCut}
 use Rattle.schedule.proofs.OrderLaws.{entries_are, entries_in_slots}
-use Rattle.replay.specs.Tables.{Along, applied_along, no_entry}
+use Rattle.replay.specs.Tables.{Along, applied_along}
 
 ---- a cut
 

@@ -22,8 +22,8 @@ pub fn start(tables: &mut Tables)
     tables.placed = [0; SLOTS];
 }
 
-// Replays the ops within a closed cut. The tables are lent, since a copy of them takes as long as
-// judging 30 ops.
+// Replays the ops within a closed cut. The tables are lent: handed back by value, judging 100 ops took
+// 7 to 43 % longer.
 pub fn replay_cut(file: &[u8], cut: [u8; 8], tables: &mut Tables, width: usize)
     requires { SchedulableCut width file.now cut }
     ensures { state_of tables.new ≡ replay (log_of width file.now) cut }

@@ -1,23 +1,22 @@
 -- Level after level: the order of a cut in the tables, as the code has it.
 use mathlib.Core.Path.{◌≡◌, refl, sym, ap, ap₂, ◌∙◌}
 use mathlib.Core.Bool.{Bool, true, false, cond}
-use mathlib.Core.List.{List, [], ◌∷◌, ◌++◌, map, map-append, foldl}
+use mathlib.Core.List.{List, [], ◌∷◌, ◌++◌, map, map-append}
 use Prim.Native.Nat.{ℕ, zero, suc, ◌+◌, ◌-◌, ◌≤◌, ◌<◌}
 use native.Mathlib.Omega.{arith}
 use native.Mathlib.Numerals.{add-one}
 use native.Mathlib.Decide.{ℕ_discrete}
 use lib.Dec.{eqb}
-use lib.ListN.{get_or-append, get_or, length, length-map, replicate, set, drop}
-use borrow.Author.Rules.{rules}
+use lib.ListN.{length, length-map, replicate}
 use borrow.Author.Tests.{ne_eqb}
 use Rattle.lists.specs.Lists.{up_from, down_from, concat}
 use Rattle.lists.proofs.RangeLaws.{concat_nothing, concat_none, map_up_from, map_down_from}
 use Rattle.lists.proofs.EachLaws.{Each, each_map, each_of_map}
-use Rattle.lists.proofs.ListLaws.{map_at, map_concat, map_map, stores, stores_are}
+use Rattle.lists.proofs.ListLaws.{map_concat}
 use Rattle.rules.specs.Op.{count_in, kind_of, replica_of, seq_of, Op, Vector}
 use Rattle.rules.specs.File.{Log, log_of, op_at, counts_of, within}
 use Rattle.rules.specs.Log.{structural, closed, covered}
-use Rattle.rules.specs.Replay.{Stamped, outcome_slot, ordered, order_of, stamp}
+use Rattle.rules.specs.Replay.{Stamped, outcome_slot, ordered, stamp}
 use Rattle.rules.specs.Tree.{slot, slots, most_ops}
 use Rattle.rules.proofs.CausalLaws.{within_le, le_within, total_small, within_length}
 use Rattle.rules.proofs.FileLaws.{count_map, vector_eta}

@@ -5,19 +5,18 @@ use mathlib.Core.List.{List}
 use Prim.Native.Nat.{ℕ, ◌+◌, ◌-◌, ◌≤◌, ◌<◌}
 use native.Mathlib.Omega.{arith}
 use native.Mathlib.Decide.{dec_lt}
-use lib.ListN.{drop, get_or, set}
-use borrow.Author.Tests.{lt-ltb, le-ltb, eq-eqb, ne_eqb}
-use borrow.Author.Rules.{rules, Fits-under}
+use lib.ListN.{drop, get_or}
+use borrow.Author.Tests.{lt-ltb, le-ltb}
+use borrow.Author.Rules.{Fits-under}
 use mir.Syntax.{w8}
 use mir.Val.{Fits}
 use Rattle.rules.specs.Op.{count_in, vector_of, Vector}
 use Rattle.rules.specs.File.{op_at, Log, log_of, within}
 use Rattle.rules.proofs.FileLaws.{count_map}
-use Rattle.vector.proofs.VectorLaws.{count_of, Built, build_none, build_more, build_all}
 use Rattle.oplog.specs.Places.{Held, InFile, place_of}
 use Rattle.oplog.proofs.FieldLaws.{in_file_of, fields_at}
-use Rattle.order.specs.Levels.{advanced, advanced_at, next_at, ready_ops, ready}
-use Rattle.schedule.specs.Level.{HeldAt, later}
+use Rattle.order.specs.Levels.{next_at, ready_ops, ready}
+use Rattle.schedule.specs.Level.{HeldAt}
 use Rattle.oplog.proofs.HeldLaws.{count_small}
 
 ---- the next op of a replica

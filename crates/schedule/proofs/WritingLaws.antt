@@ -1,6 +1,6 @@
 -- Turns of the loops over the replicas and the classes of a level that write the order, as the code has them.
 use mathlib.Core.Path.{◌≡◌, refl, sym, ap, ◌∙◌}
-use mathlib.Core.List.{List, [], ◌∷◌, ◌++◌, map, append-nil}
+use mathlib.Core.List.{List, [], ◌++◌, map, append-nil}
 use Rattle.std.proofs.Common.{append_assoc}
 use Prim.Native.Nat.{ℕ, zero, suc, ◌+◌, ◌-◌, ◌≤◌, ◌<◌}
 use native.Mathlib.Omega.{arith}
@@ -12,7 +12,6 @@ use borrow.Author.Tests.{ne_eqb}
 use Rattle.lists.specs.Lists.{up_from, down_from, concat}
 use Rattle.lists.proofs.RangeLaws.{concat_none, concat_nothing}
 use Rattle.rules.specs.Op.{count_in, Vector}
-use Rattle.rules.specs.Tree.{most_ops}
 use Rattle.schedule.specs.declared.entries.Entry.{Entry}
 use Rattle.schedule.specs.Level.{Highest, Idle, Lowest, Room, RoomAt, RoomIn, class_entries, due_entry, level_entries}
 

@@ -1,5 +1,5 @@
 -- The order of replay (the document's judging order) as data: the slots of its ops, with their timestamps.
-use Rattle.std.specs.Prelude.{ℕ, List, map}
+use Rattle.std.specs.Prelude.{List, map}
 use Rattle.rules.specs.Op.{Vector}
 use Rattle.rules.specs.File.{Log}
 use Rattle.rules.specs.Replay.{Stamped, outcome_slot, ordered}

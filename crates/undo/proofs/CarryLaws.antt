@@ -1,10 +1,9 @@
 -- Carrying a replay along an order, as the code has it.
 use mathlib.Core.Path.{◌≡◌, refl, sym, ap, ◌∙◌}
-use mathlib.Core.Bool.{true}
 use mathlib.Core.List.{List, ◌++◌, map, map-append, foldl}
 use Prim.Native.Nat.{ℕ, ◌+◌, ◌<◌}
 use native.Mathlib.Omega.{arith}
-use lib.ListN.{length, length-append, length-map, get_or, take, drop}
+use lib.ListN.{length, length-append, get_or, take, drop}
 use Rattle.std.proofs.lemmas.List.{drop_at, get_or-append-add, get_or_append_left, take_at}
 use Rattle.lists.specs.Lists.{filter}
 use Rattle.lists.proofs.EachLaws.{each_of, each_of_map}
@@ -23,7 +22,7 @@ use Rattle.schedule.specs.declared.entries.Entry.{Entry}
 use Rattle.schedule.specs.Schedule.{stamped_of}
 use Rattle.effect.specs.Effects.{Applicable}
 use Rattle.replay.specs.Tables.{Along, no_entry}
-use Rattle.undo.specs.Tables.{ops_along, slot_counted, timed_along}
+use Rattle.undo.specs.Tables.{ops_along, timed_along}
 use Rattle.undo.specs.Carried.{Carriable}
 use Rattle.undo.proofs.KeepLaws.{counted_slot}
 

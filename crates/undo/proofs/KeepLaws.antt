@@ -1,11 +1,10 @@
 -- One op judged with what it overwrote kept, and taken back, as the code has it.
 use mathlib.Core.Path.{◌≡◌, sym, ap, ◌∙◌}
-use mathlib.Core.Bool.{Bool}
 use Prim.Native.Nat.{ℕ, ◌<◌}
 use native.Mathlib.Omega.{arith}
 use mathlib.Core.List.{List}
 use lib.ListN.{drop}
-use Rattle.rules.specs.Op.{Op, Vector, count_in, counted, node_of}
+use Rattle.rules.specs.Op.{Op, Vector, counted, node_of}
 use Rattle.rules.specs.File.{log_of}
 use Rattle.rules.specs.Tree.{slot_of, slots}
 use Rattle.rules.specs.Replay.{outcome_slot}

@@ -21,6 +21,8 @@ pub(crate) fn counts(cut: [u8; 8], entry: Entry) -> bool
     slot_sequence(slot) <= widen(cut[index])
 }
 
+// Both ways are loops of their own: a closure over the tables would have to change what it captures,
+// of which a proof then knows nothing.
 impl Undoable {
     // Judges what a cut counts along entries.
     pub fn judge_along(&mut self, file: &[u8], cut: [u8; 8], entries: &[Entry], width: usize)

@@ -19,8 +19,8 @@ use tree::{SLOTS, slot_of, slot_place};
 #[derive(Drop)]
 pub struct Undoable {
     pub tables: Tables,
-    pub took: [u16; SLOTS],
-    pub was: [u16; SLOTS],
+    took: [u16; SLOTS],
+    was: [u16; SLOTS],
 }
 
 // The slot of the node that the op of an entry names.
@@ -49,8 +49,8 @@ impl Undoable {
         }
     }
 
-    #[tactic(auto, using(crate::proofs::KeepLaws::own_small, crate::proofs::KeepLaws::own_slot), unfolding(order::specs::Undo::step_keeping, schedule::specs::Schedule::stamped_of))]
     // Judges the op of an entry, and keeps what it may overwrite.
+    #[tactic(auto, using(crate::proofs::KeepLaws::own_small, crate::proofs::KeepLaws::own_slot), unfolding(order::specs::Undo::step_keeping, schedule::specs::Schedule::stamped_of))]
     pub(crate) fn keep(&mut self, file: &[u8], entry: Entry, width: usize)
         requires { Applicable width file.now entry }
         ensures { undoable_of self.new
@@ -63,8 +63,8 @@ impl Undoable {
         self.tables.apply(file, entry, width);
     }
 
-    #[tactic(auto, using(crate::proofs::KeepLaws::own_small, crate::proofs::KeepLaws::own_slot), unfolding(order::specs::Undo::undo))]
     // Takes back the op of an entry, which was judged last.
+    #[tactic(auto, using(crate::proofs::KeepLaws::own_small, crate::proofs::KeepLaws::own_slot), unfolding(order::specs::Undo::undo))]
     pub(crate) fn undo(&mut self, file: &[u8], entry: Entry, width: usize)
         requires { Applicable width file.now entry }
         ensures { undoable_of self.new
