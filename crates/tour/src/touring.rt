@@ -19,7 +19,8 @@ impl Visit {
     pub const ROOT: Visit = Visit { node: 0, depth: 0 };
 }
 
-// Puts a node on a stack that grows towards its front.
+// Puts a node on a stack that grows towards its front. An array and its top: there is no heap for a `Vec`,
+// and an `ArrayVec` has its top at the end of a list, where the stack of the rules has it in front.
 fn push(stack: &mut [Visit], top: usize, node: u16, depth: u16) -> usize
     requires { Pushable stack.old top }
     ensures { (drop result stack.new ≡ tables.push node depth (drop top stack.old))
@@ -45,8 +46,8 @@ fn advance(first: &[u16], next: &[u16], visited: Visit, stack: &mut [Visit], top
     push(stack, rest, first[slot], visited.depth.wrapping_add(1))
 }
 
-// The nodes from the root on in preorder, with their depths; answers how many there are. The
-// stack has the first of the siblings that are left, for each level that the tour is in.
+// The nodes from the root on in preorder, with their depths; answers how many there are, so the turns
+// are counted. The stack has the first of the siblings that are left, for each level that the tour is in.
 pub fn tour(first: &[u16], next: &[u16], order: &mut [Visit]) -> usize
     requires { Tourable first.now next.now order.old }
     ensures { (result ≡ length (tour_of (links first.now next.now)))

@@ -25,16 +25,12 @@ pub(crate) fn link_view(
         (links first.old next.old) (down_from (slots - 1)) }
 {
     match view {
-        View::Skipping => {
-            link(parents, marks, first, next);
-            return;
-        }
+        View::Skipping => link(parents, marks, first, next),
         View::Keeping => {
             let mut hidden = [1u8; SLOTS];
             hidden[0] = 0;
             reveal_all(parents, marks, &mut hidden);
             link(parents, &hidden, first, next);
-            return;
         }
     }
 }
