@@ -4,7 +4,6 @@ ghost use Rattle.rules.specs.Bundle.{ops_beyond};
 ghost use Rattle.rules.specs.File.{log_of, width};
 ghost use Rattle.bundle.specs.Bodies.{Copied, copied, BodyRoom, BodiesRoom, WholeRoom, body_of, laid_over, output, bodies_along};
 
-use codec::widen;
 use oplog::{counts_of, put_front};
 use schedule::{Entry, Schedule, write_order};
 use soundness::WIDTH;
@@ -28,7 +27,7 @@ fn write_body(file: &[u8], counts: [u8; 8], slot: usize, out: &mut [u8], at: usi
         ≡ laid_over out.old at (body_of (log_of width file.now) counts slot) }
 {
     let s = slot_replica(slot);
-    if slot_sequence(slot) <= widen(counts[s - 1]) {
+    if slot_sequence(slot) <= usize::from(counts[s - 1]) {
         return at;
     }
     let from = slot_place(file, slot, WIDTH);

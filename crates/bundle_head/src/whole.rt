@@ -6,7 +6,7 @@ ghost use Rattle.bundle_head.specs.Head.{BodiesOf, HeadEnd, agrees, agrees_at, f
 
 use crate::bits::head_bytes;
 use crate::head::{head_counts, total};
-use codec::{replica_at, widen};
+use codec::replica_at;
 use soundness::WIDTH;
 
 // How many bytes the head has.
@@ -32,7 +32,7 @@ fn bodies_by(bodies: &[u8], n: usize, s: usize) -> usize
     let bodies = &bodies[..WIDTH * n];
     bodies
         .chunks_exact(WIDTH)
-        .filter(|body| widen(replica_at(body, 0)) == s)
+        .filter(|body| usize::from(replica_at(body, 0)) == s)
         .count()
 }
 
@@ -41,7 +41,7 @@ fn agrees_at(bodies: &[u8], n: usize, counts: [u8; 8], s: usize) -> bool
     requires { BodiesOf bodies.now n s }
     ensures { result ≡ agrees_at (chunks width n bodies.now) counts s }
 {
-    bodies_by(bodies, n, s) == widen(counts[s - 1])
+    bodies_by(bodies, n, s) == usize::from(counts[s - 1])
 }
 
 // Whether of each replica there are as many bodies as the head says.

@@ -12,4 +12,4 @@ pub use answer::{Delivered, Refusal};
 pub use field::{kind_at, node_at, parent_at, replica_at, vector_at};
 pub use kind::{Kind, NoKind};
 pub use op::{Fields, is_replica, kind_fits, read_op, write_op};
-pub use word::{put_word, widen, widen16, word_at};
+pub use word::{put_word, word_at};

@@ -1,18 +1,6 @@
 ghost use Rattle.std.specs.Prelude.{◌≡◌, ◌+◌, ◌*◌, ◌<◌, ◌≤◌, ◌/◌, ◌%◌, length, set};
 ghost use Rattle.rules.specs.Bytes.{word_at};
 
-pub fn widen(x: u8) -> usize
-    ensures { (result ≡ x) × (result ≤ 255) }
-{
-    x as usize
-}
-
-pub fn widen16(x: u16) -> usize
-    ensures { result ≡ x }
-{
-    x as usize
-}
-
 // The two-byte number at a place, high byte first.
 pub fn word_at(bytes: &[u8], at: usize) -> u16
     requires { at + 1 < length bytes.now }

@@ -5,7 +5,6 @@ ghost use Rattle.rules.specs.File.{width};
 ghost use Rattle.rules.specs.Holdback.{holdback_ops, holdback_of, sound_holdback, waits};
 ghost use Rattle.holdback_places.specs.Places.{Roomy, Occupied, Compared, close_at, put_at, without};
 
-use codec::widen;
 use soundness::WIDTH;
 
 // How many ops can wait.
@@ -25,7 +24,7 @@ pub fn is_holdback(bytes: &[u8]) -> bool
     if bytes.len() != 1 + WIDTH * PLACES {
         return false;
     }
-    let n = widen(bytes[0]);
+    let n = usize::from(bytes[0]);
     if PLACES < n {
         return false;
     }
@@ -38,7 +37,7 @@ pub fn count(holdback: &[u8]) -> usize
     requires { sound_holdback width holdback.now ≡ true }
     ensures { result ≡ byte holdback.now 0 }
 {
-    widen(holdback[0])
+    usize::from(holdback[0])
 }
 
 // Whether the same bytes wait already.
@@ -65,7 +64,7 @@ pub fn put_last(holdback: &mut [u8], op: &[u8])
         ≡ holdback_of width (holdback_ops width holdback.old ++ (op.now ∷ [])) }
 {
     let n = holdback[0];
-    let at = 1 + WIDTH * widen(n);
+    let at = 1 + WIDTH * usize::from(n);
     put_at(holdback, at, op);
     holdback[0] = n + 1;
 }

@@ -4,7 +4,7 @@ ghost use Rattle.rules.specs.File.{log_of};
 ghost use Rattle.oplog.specs.Places.{Held};
 ghost use Rattle.schedule.specs.Level.{HeldAt, Highest, Lowest, Idle, class_of, class_at, classes_of};
 
-use codec::{Kind, NoKind, kind_at, widen};
+use codec::{Kind, NoKind, kind_at};
 use oplog::place;
 
 // The class of a kind, in the order in which ops of one timestamp are judged: adds, removes,
@@ -28,7 +28,7 @@ fn class_at(file: &[u8], next: [u8; 8], s: usize, width: usize) -> u8
     requires { HeldAt width file.now next s }
     ensures { result ≡ class_at (log_of width file.now) next s }
 {
-    let q = widen(next[s - 1]);
+    let q = usize::from(next[s - 1]);
     if q == 0 {
         return 0;
     }

@@ -4,7 +4,7 @@ ghost use Rattle.oplog.specs.Places.{Held};
 ghost use Rattle.order.specs.Levels.{next_at, ready_ops, advanced};
 ghost use Rattle.schedule.specs.Level.{HeldAt, later};
 
-use codec::{vector_at, widen};
+use codec::vector_at;
 use oplog::place;
 use vector::within;
 
@@ -20,7 +20,7 @@ fn next_op(file: &[u8], cut: [u8; 8], done: [u8; 8], s: usize, width: usize) -> 
         return 0;
     }
     let q = held + 1;
-    let at = place(file, s, widen(q), width);
+    let at = place(file, s, usize::from(q), width);
     if within(vector_at(file, at), done) {
         return q;
     }

@@ -7,7 +7,6 @@ ghost use Rattle.schedule.specs.Level.{IsReplica, Room, RoomAt, RoomIn, due_entr
 use crate::entries::{Entry, OPS, Schedule};
 use crate::level::{classes_of, highest, lowest};
 use crate::ready::{advance, next_ops};
-use codec::widen;
 use vector::within;
 
 // The ops of one timestamp that are ready: the number of each replica's, and its class, or 0.
@@ -24,7 +23,7 @@ fn slot_number(s: usize, q: u8) -> u16
     requires { IsReplica s }
     ensures { result ≡ slot s q }
 {
-    (255 * (s - 1) + widen(q)) as u16
+    (255 * (s - 1) + usize::from(q)) as u16
 }
 
 impl Level {

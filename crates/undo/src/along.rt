@@ -6,7 +6,6 @@ ghost use Rattle.replay.specs.Tables.{Along};
 ghost use Rattle.undo.specs.Tables.{ops_along, slot_counted, timed_along, undoable_of};
 
 use crate::keeping::Undoable;
-use codec::widen;
 use schedule::Entry;
 use tree::{slot_replica, slot_sequence};
 
@@ -18,7 +17,7 @@ pub(crate) fn counts(cut: [u8; 8], entry: Entry) -> bool
 {
     let slot = entry.slot as usize;
     let index = slot_replica(slot) - 1;
-    slot_sequence(slot) <= widen(cut[index])
+    slot_sequence(slot) <= usize::from(cut[index])
 }
 
 // Both ways are loops of their own: a closure over the tables would have to change what it captures,
