@@ -1,5 +1,5 @@
 -- Writing the bodies of a bundle, as the code meets it.
-use Prim.Native.Nat.{ℕ, suc, ◌+◌, ◌-◌, ◌^◌, ◌≤◌, ◌<◌}
+use Prim.Native.Nat.{ℕ, ◌+◌, ◌-◌, ◌^◌, ◌≤◌, ◌<◌}
 use borrow.Author.Rules.{rules}
 use borrow.Author.Tests.{le-ltb, lt-ltb}
 use lib.ListN.{length, length-append, length-drop, length-take, take, drop, drop_of_length-le, get_or, take-append-drop}
