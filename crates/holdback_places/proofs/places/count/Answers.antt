@@ -4,9 +4,3 @@ use Rattle.holdback_places.proofs.places.count.Goals as goal
 
 pub bounds-holdback-0 : goal.bounds-holdback-0
 bounds-holdback-0 c = search placing
-
-pub widen-requires : goal.widen-requires
-widen-requires c = search placing
-
-pub returns : goal.returns
-returns c = search placing

@@ -5,26 +5,11 @@ use Rattle.holdback_places.proofs.places.put_last.Goals as goal
 pub bounds-holdback-0 : goal.bounds-holdback-0
 bounds-holdback-0 c = search placing
 
-pub widen-requires : goal.widen-requires
-widen-requires c = search placing
-
-pub overflow_mul-at : goal.overflow_mul-at
-overflow_mul-at c = search placing
-
-pub overflow_add-at : goal.overflow_add-at
-overflow_add-at c = search placing
-
 pub put_at-requires : goal.put_at-requires
 put_at-requires c = search placing
 
-pub overflow_add-holdback : goal.overflow_add-holdback
-overflow_add-holdback c = search placing
-
 pub bounds-holdback-0-2 : goal.bounds-holdback-0-2
 bounds-holdback-0-2 c = search placing
-
-pub shape_of-holdback : goal.shape_of-holdback
-shape_of-holdback c = search placing
 
 pub returns : goal.returns
 returns c = search placing
