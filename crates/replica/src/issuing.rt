@@ -32,7 +32,12 @@ pub fn issue_add(buf: &mut [u8], replica: u8, parent: u16, out: &mut [u8]) -> Re
 }
 
 // Issues a remove of a node.
-pub fn issue_remove(buf: &mut [u8], replica: u8, node: u16, out: &mut [u8]) -> Result<usize, Refusal>
+pub fn issue_remove(
+    buf: &mut [u8],
+    replica: u8,
+    node: u16,
+    out: &mut [u8],
+) -> Result<usize, Refusal>
     ensures { record { answer = answer_of result; buffer = buf.new; out = out.new }
         ≡ rules.issue width buf.old out.old replica (remove node) }
 {
@@ -40,7 +45,13 @@ pub fn issue_remove(buf: &mut [u8], replica: u8, node: u16, out: &mut [u8]) -> R
 }
 
 // Issues a move of a node under a new parent.
-pub fn issue_move(buf: &mut [u8], replica: u8, node: u16, parent: u16, out: &mut [u8]) -> Result<usize, Refusal>
+pub fn issue_move(
+    buf: &mut [u8],
+    replica: u8,
+    node: u16,
+    parent: u16,
+    out: &mut [u8],
+) -> Result<usize, Refusal>
     ensures { record { answer = answer_of result; buffer = buf.new; out = out.new }
         ≡ rules.issue width buf.old out.old replica (move node parent) }
 {

@@ -1,9 +1,8 @@
 -- What `chunks_exact` gives of bytes that are bodies.
-use Rattle.std.proofs.Common.{◌≡◌, ℕ, zero, suc, ◌+◌, ◌*◌, ◌/◌, ◌<◌, List, [], ◌∷◌, ◌++◌, length, take, drop, refl, sym, ap, ◌∙◌, arith, length-append}
+use Rattle.std.proofs.Common.{◌≡◌, ℕ, suc, ◌*◌, ◌/◌, ◌<◌, List, ◌∷◌, ◌++◌, length, ◌∙◌, arith, length-append}
 use Rattle.std.proofs.Math.Seq.{drop_at, take_at}
 use Rattle.std.proofs.lemmas.Iterator.{YieldsList}
 use Rattle.std.proofs.lemmas.Iterator.Splits.{YieldsList-from_shown_while}
-use Rattle.std.specs.Prelude.{Some, None}
 use Rattle.std.specs.Slice.Iter.{chunks_exact_rest, chunks_exact_size, chunks_exact_steps}
 use Rattle.rules.specs.File.{chunks, width}
 
@@ -27,13 +26,13 @@ unfolding bodies
 YieldsList-from_bodies {s} n bs size is long =
     let e : length bs / 14 ≡ n = omega arith in
     rw (← e, ← is) (
-      YieldsList-from_shown_while
-      chunks_exact_steps
-      (λ x. x.now)
-      (λ s. bodies (chunks_exact_rest s))
-      (λ s. chunks_exact_size s ≡ 14)
-      (λ s t w g. few (chunks_exact_rest s) (rw w at g.1.0))
-      (λ s x t w g. (g.0 ∙ w, more (chunks_exact_rest s) x.now (chunks_exact_rest t) g.1.0 (g.1.1 ∙ w)))
-      s
-      size
+    YieldsList-from_shown_while
+    chunks_exact_steps
+    (λ x. x.now)
+    (λ s. bodies (chunks_exact_rest s))
+    (λ s. chunks_exact_size s ≡ 14)
+    (λ s t w g. few (chunks_exact_rest s) (rw w at g.1.0))
+    (λ s x t w g. (g.0 ∙ w, more (chunks_exact_rest s) x.now (chunks_exact_rest t) g.1.0 (g.1.1 ∙ w)))
+    s
+    size
     )

@@ -1,23 +1,22 @@
 -- The document's worked examples P1 to P12 but P4, as rows of one table that one theorem covers.
-use Rattle.std.specs.Prelude.{ℕ, zero, suc, ◌+◌, ◌-◌, length, get_or, set, replicate, take, Bool, true, false, List, [], ◌∷◌, ◌++◌, map, ◌≡◌}
+use Rattle.std.specs.Prelude.{ℕ, suc, ◌+◌, ◌-◌, length, get_or, set, replicate, take, Bool, true, false, List, [], ◌∷◌, ◌++◌, map, ◌≡◌}
 use Rattle.rules.specs.Answer.{Answer, refused, had_it, waiting, done, accepted}
-use Rattle.lists.specs.Lists.{up_from, same, concat, all}
+use Rattle.lists.specs.Lists.{up_from, concat}
 use Rattle.rules.specs.Bundle.{bundle_call, open_bundle}
-use Rattle.rules.specs.Holdback.{places, holdback_of, stays, deliver_holdback}
+use Rattle.rules.specs.Holdback.{places, holdback_of, deliver_holdback}
 use Rattle.rules.specs.Deliver.{deliver_answer}
 use Rattle.rules.specs.Issue.{Request, add, remove, move, op_bytes, issued, issue_answer, issue_out}
-use Rattle.rules.specs.Tree.{slots, slot, climb, path, climb_to}
+use Rattle.rules.specs.Tree.{slots, slot, climb_to}
 use Rattle.rules.specs.Judge.{judge_answer}
-use Rattle.rules.specs.Listing.{line, listing, listing_size, refused_line, outline}
+use Rattle.rules.specs.Listing.{listing, listing_size, refused_line, outline}
 use Rattle.rules.specs.File.{Log, empty_log, ops_of, op_at, append, file_of, width}
-use Rattle.rules.specs.Log.{closed}
 use Rattle.rules.specs.Measure.{end_answer, counts_call}
 use Rattle.rules.specs.Op.{Op, Vector, replicas, node_number}
 use Rattle.rules.specs.Path.{path_call}
-use Rattle.rules.specs.Replay.{timestamp, start, parents_of, outcomes_of}
+use Rattle.rules.specs.Replay.{timestamp, parents_of, outcomes_of}
 use Rattle.rules.specs.Sound.{sound}
-use Rattle.rules.specs.Views.{View, keeping, skipping, nodes}
-use Rattle.rules.specs.Marks.{Knowledge, unknown, known_unmarked, known_marked, marked, knowledge}
+use Rattle.rules.specs.Views.{View, keeping, skipping}
+use Rattle.rules.specs.Marks.{Knowledge, unknown, known_unmarked, known_marked, knowledge}
 
 -- what a function says of each op of a log, replica by replica
 unfoldable pub of_ops : (ℕ → ℕ → ℕ) → Log → List (List ℕ)
