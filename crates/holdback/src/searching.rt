@@ -91,7 +91,8 @@ fn look_at(buf: &mut [u8], holdback: &mut [u8], i: usize) -> Met
 }
 
 // Searches a holdback for ops that a sound log now takes, from the front, and again from the front
-// as soon as one is taken.
+// as soon as one is taken. By number: places are freed while the search goes, so no iterator can hold the
+// holdback meanwhile.
 pub(crate) fn search(buf: &mut [u8], holdback: &mut [u8])
     requires { Searchable buf.old holdback.old }
     ensures { desk buf.new holdback.new ≡ searched buf.old holdback.old }

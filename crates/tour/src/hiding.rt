@@ -8,7 +8,8 @@ ghost use Rattle.tour.specs.Tables as tables;
 use tree::{NO_PARENT, SLOTS, slot_in, slot_node};
 
 // Shows a node and what is above it, up to the first that is shown already: what is above that
-// one was shown with it.
+// one was shown with it. The turns are bounded and their number is not used; a chain would have to carry the
+// node, and be no plainer.
 fn reveal(parents: &[u16], hidden: &mut [u8], node: u16)
     requires { RevealSized parents.now hidden.old }
     ensures { hidden.new ≡ tables.reveal slots parents.now hidden.old node }
