@@ -1,11 +1,10 @@
 -- Opening a bundle, as the code meets it.
-use Prim.Native.Nat.{ℕ, suc, ◌-◌, ◌/◌, ◌≤◌, ◌<◌}
+use Prim.Native.Nat.{ℕ, ◌-◌, ◌/◌, ◌≤◌, ◌<◌}
 use borrow.Author.Rules.{rules}
 use borrow.Author.Tests.{le-leb, lt-leb}
 use lib.ListN.{length, length-drop, length-replicate, length-take, take, drop, drop_of_length-le, replicate, take-append-drop}
 use lib.Seq.{take_all}
 use Rattle.std.proofs.Common.{length-append}
-use Rattle.std.proofs.Math.Seq.{drop_at, take_at}
 use mathlib.Core.Bool.{true, false}
 use mathlib.Core.List.{List, [], ◌∷◌, ◌++◌, append-nil}
 use mathlib.Core.Logic.{inl, inr}
@@ -18,12 +17,13 @@ use Rattle.lists.proofs.BoolLaws.{never, tested}
 use Rattle.rules.specs.Answer.{Answer, refused, had_it, waiting, done, accepted, require, unless_refused}
 use Rattle.rules.specs.Bundle.{bodies_in, head_counts, head_size, open_answer, open_buffer, open_bundle, turns_answer, turns_buffer, whole_bundle}
 use Rattle.rules.specs.Deliver.{Result, deliver, deliver_answer, deliver_buffer}
-use Rattle.rules.specs.File.{chunks, file_end, header_counts, largest, start_of, width}
+use Rattle.rules.specs.File.{file_end, header_counts, largest, start_of, width}
 use Rattle.rules.specs.Op.{Op}
 use Rattle.rules.specs.Sound.{sound}
 use Rattle.rules.proofs.DeliverLaws.{deliver_sound}
 use Rattle.rules.proofs.BundleLaws.{Whole, whole_reads}
 use Rattle.rules.proofs.SoundLaws.{sound_end, sound_laid}
+use Rattle.oplog.proofs.BodyLaws.{bodies_of, none_in, one_more}
 use Rattle.oplog.proofs.HeaderLaws.{end_is}
 use Rattle.codec.specs.Asked.{is_accepted}
 use Rattle.codec.specs.Answers.{delivered}
@@ -70,19 +70,6 @@ module _ (f : List ℕ) (r : Op) (g : List ℕ) where
       go (Accepted k) = refl
 
 ---- bodies in turn: the rest is not delivered yet
-
-abbrev pub bodies_of : List ℕ → List Op
-bodies_of bs = chunks width (length bs / width) bs
-
-none_in : (bs : List ℕ) → length bs < width → bodies_of bs ≡ []
-unfolding chunks
-none_in bs h = let e : length bs / width ≡ 0 = omega arith in rw e
-
-one_more : (bs r left : List ℕ) → bs ≡ r ++ left → length r ≡ width → bodies_of bs ≡ r ∷ bodies_of left
-unfolding chunks
-one_more bs r left e h =
-    let n : length (r ++ left) / width ≡ suc (length left / width) = omega (arith, length-append r left) in
-    rw (e, n, take_at r left width h, drop_at r left width h)
 
 pub record TakenTo (f bodies buf rest : List ℕ) (size : ℕ) : Type 0 where
   pub is_sound_so : sound width buf ≡ true
