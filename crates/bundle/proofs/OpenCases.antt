@@ -1,11 +1,12 @@
 -- Opening a bundle, as the code meets it.
-use Prim.Native.Nat.{ℕ, ◌+◌, ◌*◌, ◌-◌, ◌/◌, ◌≤◌, ◌<◌}
+use Prim.Native.Nat.{ℕ, ◌-◌, ◌/◌, ◌≤◌, ◌<◌}
 use borrow.Author.Rules.{rules}
 use borrow.Author.Tests.{le-leb, lt-leb}
 use lib.ListN.{length, length-drop, length-replicate, length-take, take, drop, drop_of_length-le, replicate, take-append-drop}
 use lib.Seq.{take_all}
+use Rattle.std.proofs.Common.{length-append}
 use mathlib.Core.Bool.{true, false}
-use mathlib.Core.List.{List, [], ◌++◌, append-nil}
+use mathlib.Core.List.{List, [], ◌∷◌, ◌++◌, append-nil}
 use mathlib.Core.Logic.{inl, inr}
 use mathlib.Core.Path.{◌≡◌, refl, sym, ap, ◌∙◌}
 use native.Mathlib.Decide.{dec_le}
@@ -16,12 +17,13 @@ use Rattle.lists.proofs.BoolLaws.{never, tested}
 use Rattle.rules.specs.Answer.{Answer, refused, had_it, waiting, done, accepted, require, unless_refused}
 use Rattle.rules.specs.Bundle.{bodies_in, head_counts, head_size, open_answer, open_buffer, open_bundle, turns_answer, turns_buffer, whole_bundle}
 use Rattle.rules.specs.Deliver.{Result, deliver, deliver_answer, deliver_buffer}
-use Rattle.rules.specs.File.{chunks, file_end, header_counts, largest, start_of, width}
+use Rattle.rules.specs.File.{file_end, header_counts, largest, start_of, width}
 use Rattle.rules.specs.Op.{Op}
 use Rattle.rules.specs.Sound.{sound}
-use Rattle.rules.proofs.DeliverLaws.{deliver_length, deliver_sound}
+use Rattle.rules.proofs.DeliverLaws.{deliver_sound}
 use Rattle.rules.proofs.BundleLaws.{Whole, whole_reads}
 use Rattle.rules.proofs.SoundLaws.{sound_end, sound_laid}
+use Rattle.oplog.proofs.BodyLaws.{bodies_of, none_in, one_more}
 use Rattle.oplog.proofs.HeaderLaws.{end_is}
 use Rattle.codec.specs.Asked.{is_accepted}
 use Rattle.codec.specs.Answers.{delivered}
@@ -29,8 +31,7 @@ use Rattle.codec.specs.declared.answer.Delivered.{Delivered}
 use Rattle.codec.specs.declared.answer.Delivered.TheVariants.{HadIt, Waiting, Accepted}
 use Rattle.soundness.proofs.SoundCases.{end_asks}
 use Rattle.codec.proofs.AnswerLaws.{if_accepted_law, if_not_accepted}
-use Rattle.bundle.specs.Opening.{Bodies, Ended, Openable, Reaches, Trial, Tried, body_answer, reach_of, take_body}
-use Rattle.bundle_head.proofs.WholeCases.{bodies_from, bodies_turn}
+use Rattle.bundle.specs.Opening.{Ended, Openable, Reaches, Trial, Tried, body_answer, reach_of, take_body}
 use Rattle.rules.proofs.FrontLaws.{sound_front}
 use Rattle.bundle.proofs.CopyLaws.{turns_part}
 
@@ -68,80 +69,66 @@ module _ (f : List ℕ) (r : Op) (g : List ℕ) where
       go Waiting = refl
       go (Accepted k) = refl
 
----- bodies in turn: the first i are delivered
+---- bodies in turn: the rest is not delivered yet
 
-pub record TakenTo (f bodies : List ℕ) (n : ℕ) (buf : List ℕ) (i : ℕ) : Type 0 where
-  pub made : i ≤ n
-  pub long : length bodies ≡ width * n
+pub record TakenTo (f bodies buf rest : List ℕ) (size : ℕ) : Type 0 where
   pub is_sound_so : sound width buf ≡ true
-  pub size : length buf ≡ length f
-  pub answers : turns_answer width f (chunks width n bodies) ≡ turns_answer width buf (bodies_from bodies n i)
-  pub buffers : turns_buffer width f (chunks width n bodies) ≡ turns_buffer width buf (bodies_from bodies n i)
+  pub wide : size ≡ width
+  pub answers : turns_answer width f (bodies_of bodies) ≡ turns_answer width buf (bodies_of rest)
+  pub buffers : turns_buffer width f (bodies_of bodies) ≡ turns_buffer width buf (bodies_of rest)
 
-pub taken_starts : (f bodies : List ℕ) (n : ℕ) → Bodies f bodies n → TakenTo f bodies n f 0
-taken_starts f bodies n x =
-    let e : n - 0 ≡ n = omega arith in
-    record { made = omega arith; long = x.size; is_sound_so = x.is_sound_so; size = refl; answers = rw e; buffers = rw e }
+pub taken_starts : (f bodies rest : List ℕ) (size : ℕ) → sound width f ≡ true → rest ≡ bodies → size ≡ width → TakenTo f bodies f rest size
+taken_starts f bodies rest size s e w = record { is_sound_so = s; wide = w; answers = rw e; buffers = rw e }
 
-module _ (f bodies : List ℕ) (n : ℕ) (buf : List ℕ) (i : ℕ) (x : TakenTo f bodies n buf i) where
-  pub taken_place : i < n → width * i + width ≤ length bodies
-  taken_place h = omega (arith, x.long)
-
-  pub taken_ends : n ≤ i → (k : ℕ) → k ≡ start_of width (header_counts buf) 9 → Tried f (chunks width n bodies) (accepted k) buf
-  unfolding turns_answer turns_buffer chunks
+module _ (f bodies buf rest : List ℕ) (size : ℕ) (x : TakenTo f bodies buf rest size) where
+  pub taken_ends : length rest < size → (k : ℕ) → k ≡ start_of width (header_counts buf) 9 → Tried f (bodies_of bodies) (accepted k) buf
+  unfolding turns_answer turns_buffer
   taken_ends h k is =
-      let e : n - i ≡ 0 = omega arith in
-      record { answered = sym (x.answers ∙ rw (e, ← end_is width buf, ← is)); left = λ _. sym (x.buffers ∙ rw e) }
+      let none : bodies_of rest ≡ [] = none_in rest (rw x.wide at h) in
+      record { answered = sym (x.answers ∙ rw (none, ← end_is width buf, ← is)); left = λ _. sym (x.buffers ∙ rw none) }
 
-  module _ (h : i < n) (at to : ℕ) (ha : at ≡ width * i) (ht : to ≡ at + width) (a : Answer) (g : List ℕ)
-      (e : handed a g ≡ take_body buf (take (to - at) (drop at bodies))) where
-    abbrev r : Op
-    r = take width (drop (width * i) bodies)
-
-    part_is : take (to - at) (drop at bodies) ≡ r
-    part_is = let m : to - at ≡ width = omega arith in rw (m, ha)
-
+  module _ (r left : List ℕ) (h : rest ≡ r ++ left) (long : length r ≡ size) (a : Answer) (g : List ℕ)
+      (e : handed a g ≡ take_body buf r) where
     answer_so : a ≡ body_answer buf r
-    answer_so = ap (λ (y : Result). y.answer) e ∙ ap (body_answer buf) part_is
+    answer_so = ap (λ (y : Result). y.answer) e
 
     buffer_so : g ≡ deliver_buffer width buf r
-    buffer_so = ap (λ (y : Result). y.buffer) e ∙ ap (deliver_buffer width buf) part_is
+    buffer_so = ap (λ (y : Result). y.buffer) e
 
-    turn : turns_answer width f (chunks width n bodies)
-        ≡ unless_refused (deliver_answer width buf r) (turns_answer width (deliver_buffer width buf r) (bodies_from bodies n (i + 1)))
+    abbrev next : Answer
+    next = turns_answer width (deliver_buffer width buf r) (bodies_of left)
+
+    more : bodies_of rest ≡ r ∷ bodies_of left
+    more = one_more rest r left h (long ∙ x.wide)
+
+    turn : turns_answer width f (bodies_of bodies) ≡ unless_refused (deliver_answer width buf r) next
     unfolding turns_answer
-    turn = x.answers ∙ ap (turns_answer width buf) (bodies_turn bodies n i h)
+    turn = x.answers ∙ ap (turns_answer width buf) more
 
-    pub taken_refused : is_accepted a ≡ false → Tried f (chunks width n bodies) a g
+    pub taken_refused : is_accepted a ≡ false → Tried f (bodies_of bodies) a g
     unfolding body_answer unless_refused
     taken_refused no_end = record {
       answered = sym (turn ∙ go (deliver_answer width buf r) refl);
       left = λ yes_end. never (sym no_end ∙ yes_end);
     }
       where
-        go : (d : Answer) → deliver_answer width buf r ≡ d
-            → unless_refused d (turns_answer width (deliver_buffer width buf r) (bodies_from bodies n (i + 1))) ≡ a
+        go : (d : Answer) → deliver_answer width buf r ≡ d → unless_refused d next ≡ a
         go (refused m) q = sym (answer_so ∙ rw q)
         go had_it q = let y : is_accepted a ≡ true = rw (answer_so, q) in never (sym no_end ∙ y)
         go waiting q = let y : is_accepted a ≡ true = rw (answer_so, q) in never (sym no_end ∙ y)
         go done q = let y : is_accepted a ≡ true = rw (answer_so, q) in never (sym no_end ∙ y)
         go (accepted m) q = let y : is_accepted a ≡ true = rw (answer_so, q) in never (sym no_end ∙ y)
 
-    pub taken_on : is_accepted a ≡ true → TakenTo f bodies n g (i + 1)
+    pub taken_on : is_accepted a ≡ true → (later : ℕ) → later ≡ size → TakenTo f bodies g left later
     unfolding body_answer unless_refused turns_buffer
-    taken_on yes_end = record {
-      made = omega arith;
-      long = x.long;
+    taken_on yes_end later w = record {
       is_sound_so = rw buffer_so (deliver_sound width buf r x.is_sound_so);
-      size = ap length buffer_so ∙ deliver_length width buf r ∙ x.size;
+      wide = w ∙ x.wide;
       answers = turn ∙ rw buffer_so (go (deliver_answer width buf r) refl);
-      buffers = x.buffers ∙ ap (turns_buffer width buf) (bodies_turn bodies n i h) ∙ rw buffer_so;
+      buffers = x.buffers ∙ ap (turns_buffer width buf) more ∙ rw buffer_so;
     }
       where
-        rest : Answer
-        rest = turns_answer width (deliver_buffer width buf r) (bodies_from bodies n (i + 1))
-
-        go : (d : Answer) → deliver_answer width buf r ≡ d → unless_refused d rest ≡ rest
+        go : (d : Answer) → deliver_answer width buf r ≡ d → unless_refused d next ≡ next
         go (refused m) q = let y : is_accepted a ≡ false = rw (answer_so, q) in never (sym y ∙ yes_end)
         go had_it q = refl
         go waiting q = refl
@@ -217,11 +204,7 @@ module _ (f b copy : List ℕ) (x : Trial f b copy) where
     pub trial_head : size ≤ length b
     trial_head = let w = whole f b x.openable in omega (arith, w.head)
 
-    module _ (n : ℕ) (hn : n ≡ (length b - size) / 14) (filled : List ℕ)
-        (e : filled ≡ take (length copy) f ++ drop (length (take (length copy) f)) copy) where
-      number : n ≡ sum (head_counts b)
-      number = let w = whole f b x.openable in omega (arith, w.size)
-
+    module _ (filled : List ℕ) (e : filled ≡ take (length copy) f ++ drop (length (take (length copy) f)) copy) where
       is_front : filled ≡ take (length copy) f
       is_front =
           let none : drop (length (take (length copy) f)) copy ≡ [] =
@@ -231,16 +214,13 @@ module _ (f b copy : List ℕ) (x : Trial f b copy) where
       rest_is : take (length b - size) (drop size b) ≡ drop size b
       rest_is = take_all (length b - size) (drop size b) (rw length-drop (le_refl _))
 
-      pub trial_bodies : Bodies filled (take (length b - size) (drop size b)) n
-      trial_bodies =
-          let r = x.reaches in
-          let w = whole f b x.openable in
-          record {
-            is_sound_so = rw is_front (sound_front width (length copy) f r.inside r.short r.is_sound_so);
-            size = rw (rest_is, length-drop) (omega (arith, w.size, number));
-          }
+      number : length (drop size b) / width ≡ sum (head_counts b)
+      number = let w = whole f b x.openable in rw length-drop (omega (arith, w.size))
 
-      pub trial_tried : (a : Answer) (g : List ℕ) → Tried filled (chunks width n (take (length b - size) (drop size b))) a g
+      pub trial_sound : sound width filled ≡ true
+      trial_sound = let r = x.reaches in rw is_front (sound_front width (length copy) f r.inside r.short r.is_sound_so)
+
+      pub trial_tried : (a : Answer) (g : List ℕ) → Tried filled (bodies_of (take (length b - size) (drop size b))) a g
           → Tried (take (length copy) f) (bodies_in width b) a g
       unfolding bodies_in
       trial_tried a g t = record {
@@ -305,9 +285,9 @@ module _ (f b : List ℕ) where
 
 pub ruleset passing = (end_asks, body_sound, body_refused, body_passed)
 
-pub ruleset taking = (rules, tested, body_sound, taken_starts, taken_place, taken_refused, taken_on, taken_ends)
+pub ruleset taking = (rules, tested, body_sound, taken_starts, taken_refused, taken_on, taken_ends)
 
-pub ruleset trying = (trial_some, trial_front, trial_fits, trial_head, trial_bodies, trial_tried, trial_ended)
+pub ruleset trying = (trial_some, trial_front, trial_fits, trial_head, trial_sound, trial_tried, trial_ended)
 
 pub ruleset copying = (reach_all, reach_most, reach_small, open_trial, open_refused, open_fits, open_done)
 

@@ -1,5 +1,5 @@
 -- What the functions that open a bundle ask and answer.
-use Rattle.std.specs.Prelude.{ℕ, ◌*◌, ◌≤◌, cond, true, List, ◌⊎◌, ◌≡◌, leb, length, take}
+use Rattle.std.specs.Prelude.{ℕ, ◌≤◌, cond, true, List, ◌⊎◌, ◌≡◌, leb, length, take}
 use Rattle.rules.specs.Answer.{Answer, accepted, unless_refused}
 use Rattle.rules.specs.Bundle.{bodies_in, turns_answer, turns_buffer, whole_bundle}
 use Rattle.rules.specs.Deliver.{Result, deliver_answer, deliver_buffer}
@@ -14,11 +14,6 @@ body_answer f r = unless_refused (deliver_answer width f r) (accepted (file_end 
 
 abbrev pub take_body : List ℕ → Op → Result
 take_body f r = record { answer = body_answer f r; buffer = deliver_buffer width f r }
-
--- a sound log, and n bodies
-pub record Bodies (f bodies : List ℕ) (n : ℕ) : Type 0 where
-  pub is_sound_so : sound width f ≡ true
-  pub size : length bodies ≡ width * n
 
 -- the bodies delivered in turn to f: the answer, and the buffer g if it is accepted
 pub record Tried (f : List ℕ) (ops : List Op) (a : Answer) (g : List ℕ) : Type 0 where

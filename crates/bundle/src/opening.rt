@@ -1,12 +1,12 @@
 #![tactic(auto, using(crate::proofs::OpenCases::opening))]
 
-ghost use Rattle.std.specs.Prelude.{◌≡◌, true, length, take};
+ghost use Rattle.std.specs.Prelude.{◌/◌, ◌≡◌, true, length, take};
 ghost use Rattle.rules.specs.Answer.{accepted, unless_refused};
 ghost use Rattle.rules.specs.Bundle.{bodies_in, open_bundle};
 ghost use Rattle.rules.specs.File.{chunks, file_end, width};
 ghost use Rattle.rules.specs.Sound.{sound};
 ghost use Rattle.codec.specs.Answers.{answer_of};
-ghost use Rattle.bundle.specs.Opening.{Openable, Bodies, Ended, Trial, Tried, reach_of, take_body};
+ghost use Rattle.bundle.specs.Opening.{Openable, Ended, Trial, Tried, reach_of, take_body};
 
 use bundle_head::{head_size, is_whole};
 use codec::Refusal;
@@ -23,15 +23,13 @@ fn take_body(buf: &mut [u8], body: &[u8]) -> Result<usize, Refusal>
     Ok(end_of(buf, 8, WIDTH))
 }
 
-// Delivers n bodies in turn, until one is refused.
-fn take_bodies(buf: &mut [u8], bodies: &[u8], n: usize) -> Result<usize, Refusal>
-    requires { Bodies buf.old bodies.now n }
-    ensures { Tried buf.old (chunks width n bodies.now) (answer_of result) buf.new }
+// Delivers bodies in turn, until one is refused.
+fn take_bodies(buf: &mut [u8], bodies: &[u8]) -> Result<usize, Refusal>
+    requires { sound width buf.old ≡ true }
+    ensures { Tried buf.old (chunks width (length bodies.now / width) bodies.now) (answer_of result) buf.new }
 {
-    for i in 0..n {
-        let at = WIDTH * i;
-        let to = at + WIDTH;
-        take_body(buf, &bodies[at..to])?;
+    for body in bodies.chunks_exact(WIDTH) {
+        take_body(buf, body)?;
     }
     Ok(end_of(buf, 8, WIDTH))
 }
@@ -53,10 +51,9 @@ fn try_bodies(file: &[u8], bundle: &[u8], copy: &mut [u8]) -> Result<usize, Refu
         copy.new }
 {
     let size = head_size(bundle);
-    let n = (bundle.len() - size) / WIDTH;
     let len = copy.len();
     put_front(copy, &file[..len]);
-    take_bodies(copy, &bundle[size..], n)
+    take_bodies(copy, &bundle[size..])
 }
 
 // Opens a whole bundle: the bodies are tried in a copy, which is copied back when all have passed.

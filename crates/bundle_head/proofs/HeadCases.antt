@@ -11,50 +11,15 @@ use mathlib.Core.List.{List, [], ◌∷◌, ◌++◌, append_assoc}
 use mathlib.Core.Path.{◌≡◌, refl, sym, ap, ◌∙◌}
 use native.Mathlib.Numerals.{add-one}
 use native.Mathlib.Omega.{arith}
-use Rattle.lists.specs.Lists.{filter, sum, up_from}
-use Rattle.lists.proofs.ListLaws.{drop_replicate, stores, stores_are, sum_suc, take_replicate}
+use Rattle.lists.specs.Lists.{filter, up_from}
+use Rattle.lists.proofs.ListLaws.{drop_replicate, stores, stores_are, take_replicate}
 use Rattle.rules.specs.Bundle.{counts_read, head_byte, head_counts, head_size}
 use Rattle.rules.specs.Bytes.{byte}
 use Rattle.rules.specs.Op.{Vector, count_in, replicas}
 use Rattle.rules.proofs.BundleLaws.{reads_none}
 use Rattle.rules.proofs.FileLaws.{vector_eta}
-use Rattle.vector.proofs.VectorLaws.{Built, build_none, build_more, build_all, count_of}
-use Rattle.bundle_head.specs.Head.{HeadRoom, WholeHead, beyond_at, beyond_of, bit_of}
+use Rattle.bundle_head.specs.Head.{HeadRoom, WholeHead, bit_of}
 use Rattle.bundle_head.proofs.BitLaws.{FirstCount, LowestSet, first_count, lowest_set, no_count}
-
----- counts
-
-module _ (held counts v : Vector) where
-  pub beyond_more : (i x : ℕ) → Built (beyond_at held counts) v i → i < 8 → x ≡ get_or held i 0 - get_or counts i 0
-      → Built (beyond_at held counts) (set v i x) (i + 1)
-  unfolding beyond_at
-  beyond_more i x b h e = build_more (beyond_at held counts) v i x b h (e ∙ rw (count_of held, count_of counts))
-
-  pub beyond_all : (i : ℕ) → Built (beyond_at held counts) v i → 8 ≤ i → v ≡ beyond_of held counts
-  unfolding beyond_of
-  beyond_all i b h = build_all (beyond_at held counts) v i b h
-
--- the first i counts are summed up
-pub record Summed (counts : Vector) (n i : ℕ) : Type 0 where
-  pub made : i ≤ 8
-  pub part : n ≡ sum (take i counts)
-  pub few : n ≤ 255 * i
-
-module _ (counts : Vector) where
-  pub sum_none : Summed counts 0 0
-  unfolding sum
-  sum_none = record { made = omega arith; part = refl; few = omega arith }
-
-  module _ (n i : ℕ) (x : Summed counts n i) where
-    pub sum_more : length counts ≡ 8 → i < 8 → (k : ℕ) → k ≡ get_or counts i 0 → k ≤ 255 → Summed counts (n + k) (i + 1)
-    sum_more e h k is small = record {
-      made = omega arith;
-      part = rw (add-one i, sum_suc counts i (omega arith), ← x.part, is);
-      few = omega (arith, x.few);
-    }
-
-    pub sum_fits : i < 8 → (k : ℕ) → k ≤ 255 → n + k ≤ 2040
-    sum_fits h k small = omega (arith, x.few)
 
 ---- the first byte
 
@@ -241,10 +206,8 @@ module _ (b counts : List ℕ) (bits index at : ℕ) (x : ReadAt b counts bits i
 
 ---- what the code of a head needs: search heading
 
-pub ruleset summing = (build_none, beyond_more, beyond_all, sum_none, sum_more, sum_fits)
-
 pub ruleset putting = (put_starts, put_less, put_below, put_index, put_place, put_on, put_ends)
 
 pub ruleset reading = (read_starts, read_less, read_below, read_index, read_place, read_on, read_ends)
 
-pub ruleset heading = (rules, summing, eight_are, putting, reading)
+pub ruleset heading = (rules, eight_are, putting, reading)

@@ -1,13 +1,13 @@
 -- The test of a bundle against its head, as the code meets it.
-use Prim.Native.Nat.{ℕ, suc, ◌+◌, ◌*◌, ◌-◌, ◌≤◌, ◌<◌}
+use Prim.Native.Nat.{ℕ, ◌+◌, ◌*◌, ◌-◌, ◌≤◌, ◌<◌}
 use borrow.Author.Rules.{rules}
 use borrow.Author.Tests.{eq-eqb, ne_eqb, le-leb, lt-leb}
 use lib.Count.{ones}
 use lib.Dec.{leb, eqb, ltb}
 use lib.ListN.{length, length-drop, take, drop, get_or}
-use lib.Seq.{drop-drop, take_all}
+use lib.Seq.{take_all}
 use mathlib.Core.Bool.{Bool, true, false}
-use mathlib.Core.List.{List, ◌∷◌}
+use mathlib.Core.List.{List}
 use mathlib.Core.Path.{◌≡◌, sym, ◌∙◌}
 use native.Mathlib.Omega.{arith}
 use Rattle.lists.specs.Lists.{all, sum}
@@ -17,18 +17,6 @@ use Rattle.rules.specs.Bytes.{byte}
 use Rattle.rules.specs.File.{chunks, width}
 use Rattle.rules.specs.Op.{Op, Vector, count_in}
 use Rattle.bundle_head.specs.Head.{BodiesOf, HeadEnd, WholeHead, agrees, agrees_at, filled}
-
----- what is left of n bodies after the first i
-
-abbrev pub bodies_from : List ℕ → ℕ → ℕ → List Op
-bodies_from bs n i = chunks width (n - i) (drop (width * i) bs)
-
-pub bodies_turn : (bs : List ℕ) (n i : ℕ) → i < n → bodies_from bs n i ≡ take width (drop (width * i) bs) ∷ bodies_from bs n (i + 1)
-unfolding chunks
-bodies_turn bs n i h =
-    let e : n - i ≡ suc (n - (i + 1)) = omega arith in
-    let m : width * i + width ≡ width * (i + 1) = omega arith in
-    rw (e, drop-drop width (width * i) bs, m)
 
 ---- of each replica
 

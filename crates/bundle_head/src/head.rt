@@ -5,27 +5,19 @@ ghost use Rattle.bundle_head.specs.Head.{HeadRoom, WholeHead, beyond_of, bit_of}
 
 use crate::bits::{bits_above, zeros_below};
 
-// How many ops of each replica are beyond the other's counts. By index: of `from_fn` the proof did not
-// close, whose closure reads two arrays.
+// How many ops of each replica are beyond the other's counts.
+#[tactic(auto, unfolding(crate::specs::Head::beyond_of, crate::specs::Head::beyond_at, rules::specs::Op::replicas, rules::specs::Op::count_in, lists::specs::Lists::up_from))]
 pub fn beyond_counts(held: [u8; 8], counts: [u8; 8]) -> [u8; 8]
     ensures { result ≡ beyond_of held counts }
 {
-    let mut beyond = [0u8; 8];
-    for i in 0..8 {
-        beyond[i] = held[i].saturating_sub(counts[i]);
-    }
-    beyond
+    std::array::from_fn(|i| held[i].saturating_sub(counts[i]))
 }
 
-// The sum of eight counts. By a loop: of a chain's `sum` it is not known that it is at most 8 x 255.
+// The sum of eight counts.
 pub fn total(counts: [u8; 8]) -> usize
     ensures { (result ≡ sum counts) × (result ≤ 2040) }
 {
-    let mut sum = 0;
-    for count in counts {
-        sum += usize::from(count);
-    }
-    sum
+    counts.iter().map(|count| usize::from(*count)).sum()
 }
 
 // The bit of a replica: it is set if the replica contributes.

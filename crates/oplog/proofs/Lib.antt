@@ -3,3 +3,4 @@ pub mod FieldLaws
 pub mod HeldLaws
 pub mod MarkerLaws
 pub mod InsertLaws
+pub mod BodyLaws

@@ -1,10 +1,6 @@
--- `marks::marking::mark_ops`: what its loops keep.
-use Rattle.oplog.proofs.MarkerLaws.{togo}
+-- `marks::marking::mark_ops`: what its loop keeps.
 use Rattle.marks.proofs.MarkingCases.{Marking}
 use Rattle.marks.proofs.marking.mark_ops.Given as goal
 
-abbrev pub invariant-loop-m : goal.invariant-loop-m
-invariant-loop-m l = Marking l.file l.marks l.m
-
-abbrev pub decreases-loop-m : goal.decreases-loop-m
-decreases-loop-m l = togo l.m
+abbrev pub invariant-loop-op : goal.invariant-loop-op
+invariant-loop-op l = Marking l.file l.marks l.op-iterator.rest.now l.op-iterator.size
