@@ -45,7 +45,8 @@ fn put_next(
     }
     let node = draft.node;
     let parent = draft.parent;
-    write_op(op, draft.kind, replica, node, parent, counts);
+    let kind = u8::from(draft.kind);
+    write_op(op, kind, replica, node, parent, counts);
     hang(parents, node, parent);
     Ok(end + WIDTH)
 }
