@@ -14,12 +14,13 @@ use Rattle.lists.proofs.BoolLaws.{tested}
 use Rattle.lists.proofs.ListLaws.{no_length}
 use Rattle.rules.specs.Answer.{Answer, accepted, refused, require}
 use Rattle.rules.specs.File.{Log, counts_of, log_of, width}
-use Rattle.rules.specs.Issue.{move, request_known, request_unmarked}
+use Rattle.rules.specs.Issue.{move, op_bytes, request_known, request_unmarked}
 use Rattle.rules.specs.Op.{Vector, count_in}
 use Rattle.rules.specs.Tree.{slot_of, slots}
 use Rattle.rules.proofs.KnownLaws.{named_valid}
 use Rattle.rules.proofs.SlotLaws.{slot_below}
 use Rattle.codec.specs.Answers.{number_of}
+use Rattle.codec.specs.Kind.{number}
 use Rattle.codec.specs.declared.answer.Refusal.{Refusal}
 use Rattle.codec.specs.declared.answer.Refusal.TheVariants.{Unknown, Exhausted, Marked}
 use Rattle.delivery.specs.Adding.{room_test}
@@ -92,13 +93,13 @@ module _ (size end : ℕ) (u : Vector) (s : ℕ) (t op : List ℕ) where
   unfolding put_next room_test require
   no_room d l h = rw (lt-leb (end + width) size (omega arith))
 
-  pub put_there : (d : Draft) → end ≤ size → width ≤ size - end → length op ≡ width → (tree bytes : List ℕ)
-      → tree ≡ set t (slot_of d.node) d.parent → bytes ≡ bytes_of s d u ++ drop 14 op
+  pub put_there : (d : Draft) (k : ℕ) → k ≡ number d.kind → end ≤ size → width ≤ size - end → length op ≡ width → (tree bytes : List ℕ)
+      → tree ≡ set t (slot_of d.node) d.parent → bytes ≡ op_bytes k s d.node d.parent u ++ drop 14 op
       → next (accepted (end + width)) tree bytes ≡ put_next size end u s t op d
   unfolding put_next room_test require
-  put_there d i h l tree bytes et eb =
+  put_there d k ek i h l tree bytes et eb =
       let none : drop 14 op ≡ [] = no_length _ (rw (length-drop, l)) in
-      let b : bytes ≡ bytes_of s d u = eb ∙ rw (none, append-nil) in
+      let b : bytes ≡ bytes_of s d u = eb ∙ rw (none, append-nil, ek) in
       rw (le-leb (end + width) size (omega arith), et, b)
 
   module _ (x : Drafted) where

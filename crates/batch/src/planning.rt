@@ -7,7 +7,7 @@ ghost use Rattle.codec.specs.Answers.{answer_of};
 ghost use Rattle.batch.specs.Planning.{Drawable, Plannable, Planned, Prepared, Turn};
 ghost use Rattle.batch.specs.Planning.{drafted_in, next_by, put_next};
 
-use crate::drafting::draft_next;
+use crate::drafting::{Batch, draft_next};
 use codec::{Refusal, write_op};
 use effect::Tables;
 use issue::Draft;
@@ -45,7 +45,8 @@ fn put_next(
     }
     let node = draft.node;
     let parent = draft.parent;
-    write_op(op, draft.kind, replica, node, parent, counts);
+    let kind = u8::from(draft.kind);
+    write_op(op, kind, replica, node, parent, counts);
     hang(parents, node, parent);
     Ok(end + WIDTH)
 }
@@ -53,59 +54,40 @@ fn put_next(
 // The next move of a batch: its tests in the tree that those before it leave, its op, and the tree
 // after it.
 fn plan_next(
-    file: &[u8],
-    held: [u8; 8],
-    marks: &[u8],
+    batch: &Batch<'_>,
     counts: [u8; 8],
     end: usize,
     parents: &mut [u16],
-    replica: u8,
     node: u16,
-    parent: u16,
     op: &mut [u8],
 ) -> Result<usize, Refusal>
-    requires { Turn file.now held marks.now end parents.old replica op.old }
+    requires { Turn batch.now.file.now batch.now.held batch.now.marks.now end parents.old batch.now.replica op.old }
     ensures { record { answer = answer_of result; tree = parents.new; op = op.new }
-        ≡ next_by (length file.now) end counts replica parents.old op.old
-        (drafted_in (log_of width file.now) counts parents.old replica node parent) }
+        ≡ next_by (length batch.now.file.now) end counts batch.now.replica parents.old op.old
+        (drafted_in (log_of width batch.now.file.now) counts parents.old batch.now.replica node batch.now.parent) }
 {
-    let size = file.len();
-    let draft = draft_next(file, held, marks, counts, parents, replica, node, parent)?;
-    put_next(size, end, counts, replica, draft, parents, op)
+    let size = batch.file.len();
+    let draft = draft_next(batch, counts, parents, node)?;
+    put_next(size, end, counts, batch.replica, draft, parents, op)
 }
 
 // The moves in turn, until one is refused. The tree is carried along.
 fn plan_all(
-    file: &[u8],
-    held: [u8; 8],
-    marks: &[u8],
+    batch: &Batch<'_>,
     parents: &mut [u16],
-    replica: u8,
     nodes: &[u16],
-    parent: u16,
     ops: &mut [u8],
 ) -> Result<usize, Refusal>
-    requires { Prepared file.now held marks.now parents.old replica nodes.now ops.old }
-    ensures { Planned file.now replica nodes.now parent (answer_of result) ops.new }
+    requires { Prepared batch.now.file.now batch.now.held batch.now.marks.now parents.old batch.now.replica nodes.now ops.old }
+    ensures { Planned batch.now.file.now batch.now.replica nodes.now batch.now.parent (answer_of result) ops.new }
 {
-    let start = end_of(file, 8, WIDTH);
-    let s = usize::from(replica);
-    for i in 0..nodes.len() {
+    let start = end_of(batch.file, 8, WIDTH);
+    let s = usize::from(batch.replica);
+    for (i, node) in nodes.iter().enumerate() {
         let at = WIDTH * i;
         let to = at + WIDTH;
-        let counts = with_more(held, s, i);
-        plan_next(
-            file,
-            held,
-            marks,
-            counts,
-            start + at,
-            parents,
-            replica,
-            nodes[i],
-            parent,
-            &mut ops[at..to],
-        )?;
+        let counts = with_more(batch.held, s, i);
+        plan_next(batch, counts, start + at, parents, *node, &mut ops[at..to])?;
     }
     Ok(start + WIDTH * nodes.len())
 }
@@ -127,14 +109,12 @@ pub(crate) fn plan(
     mark_ops(file, &mut marks);
     let mut tables = Tables::new();
     replay_all(file, &mut tables, WIDTH);
-    plan_all(
+    let batch = Batch {
         file,
         held,
-        &marks,
-        &mut tables.parents,
+        marks: &marks,
         replica,
-        nodes,
         parent,
-        ops,
-    )
+    };
+    plan_all(&batch, &mut tables.parents, nodes, ops)
 }

@@ -1,5 +1,5 @@
 -- The cases of issuing, as the code meets them.
-use mathlib.Core.Path.{◌≡◌, refl, sym, ap}
+use mathlib.Core.Path.{◌≡◌, refl, sym, ap, ◌∙◌}
 use mathlib.Core.Bool.{Bool, true, false, cond, not, and-eq-true_iff}
 use mathlib.Core.List.{List, ◌++◌}
 use Prim.Native.Nat.{ℕ, ◌+◌, ◌<◌}
@@ -12,7 +12,7 @@ use borrow.Author.Tests.{ltb-true, le-leb}
 use Rattle.rules.specs.Answer.{Answer, accepted, refused, require}
 use Rattle.rules.specs.Bytes.{word}
 use Rattle.rules.specs.Issue.{Request, add, remove, move, Issued, issue_answer, issue_buffer, issue_out, issued, op_bytes, request_clear, request_known, request_unmarked}
-use Rattle.rules.specs.Tree.{move_kind, at_or_below}
+use Rattle.rules.specs.Tree.{move_kind, at_or_below, depth}
 use Rattle.rules.specs.File.{Log, width, appended, counts_of, header_counts, log_of}
 use Rattle.rules.specs.Op.{Vector, count_in, is_replica, node_number, replica_of}
 use Rattle.rules.specs.Replay.{parents_of}
@@ -22,18 +22,22 @@ use Rattle.rules.proofs.FileLaws.{counts_log_of, length_counts}
 use Rattle.rules.proofs.KnownLaws.{known_reads}
 use Rattle.rules.proofs.SoundLaws.{sound_structural}
 use Rattle.codec.specs.Answers.{number_of}
+use Rattle.codec.specs.Kind.{number}
+use Rattle.codec.specs.declared.kind.Kind.{Kind}
 use Rattle.codec.specs.declared.answer.Refusal.{Refusal}
 use Rattle.codec.specs.declared.answer.Refusal.TheVariants.{Unknown, Exhausted, Cycle, Marked}
 use Rattle.delivery.specs.Adding.{last_test, room_test, Acceptable}
-use Rattle.issue.specs.Issuing.{Drafted, bytes_of, moved_in, cleared_op, drafted, with_op, put_out, Lent, Ready, Writable, KnownRequest}
+use Rattle.issue.specs.Issuing.{Drafted, bytes_of, moved_kind, moved_in, cleared_op, drafted, with_op, put_out, Lent, Ready, Writable, KnownRequest}
 use Rattle.issue.specs.declared.draft.Draft.{Draft}
-use Rattle.std.specs.Prelude.{Ok, Err}
+use Rattle.std.specs.Prelude.{Ok, Err, None, Some}
+use Rattle.tree.specs.Climb.{move_or_cycle}
 use Rattle.request.specs.Requests.{request_of}
 use Rattle.request.specs.declared.request.Request.TheVariants.{Add, Remove, Move}
-use Rattle.soundness.proofs.SoundCases.{tallied_held, tallied}
+use Rattle.soundness.proofs.SoundCases.{header_of, tallied_held, tallied}
 use Rattle.delivery.proofs.AddCases.{has_room}
 use Rattle.rules.specs.Issue as rules
 use Rattle.request.specs.declared.request.Request as code
+use Rattle.codec.specs.declared.kind.Kind.TheVariants as kind
 
 -- what a call hands back
 abbrev pub handed : Answer → (buffer out : List ℕ) → Issued
@@ -49,8 +53,45 @@ known_small log n p e =
     let w = (known_reads log (counts_of log) n h.0.0).0 in
     omega (arith, w.high)
 
-abbrev move_draft : (k n p : ℕ) → Draft
+-- a number is of one kind
+number_one : (x y : Kind) → number x ≡ number y → x ≡ y
+number_one kind.Add kind.Add e = refl
+number_one kind.Remove kind.Remove e = refl
+number_one kind.Upward kind.Upward e = refl
+number_one kind.Downward kind.Downward e = refl
+number_one x y e = absurd (omega arith)
+
+abbrev move_draft : (k : Kind) (n p : ℕ) → Draft
 move_draft k n p = record { kind = k; node = n; parent = p }
+
+-- the kind of a move, by its number
+module _ (t : List ℕ) (n p : ℕ) where
+  pub number_moved : number (moved_kind t n p) ≡ move_kind t n p
+  unfolding moved_kind move_kind
+  number_moved = go (ltb (depth t p) (depth t n))
+    where
+      go : (b : Bool) → number (cond b kind.Upward kind.Downward) ≡ cond b 3 4
+      go true = refl
+      go false = refl
+
+  pub move_cycle : None ≡ move_or_cycle t n p → Err Cycle ≡ moved_in t n p
+  unfolding move_or_cycle moved_in
+  move_cycle e = go (at_or_below t p n) e
+    where
+      go : (b : Bool) → None ≡ cond b None (Some (move_kind t n p)) → Err Cycle ≡ cond b (Err Cycle) (Ok (move_draft (moved_kind t n p) n p))
+      go true e = refl
+      go false e = cc
+
+  pub move_drafted : (k : Kind) → Some (number k) ≡ move_or_cycle t n p → Ok (move_draft k n p) ≡ moved_in t n p
+  unfolding move_or_cycle moved_in
+  move_drafted k e = go (at_or_below t p n) e
+    where
+      go : (b : Bool) → Some (number k) ≡ cond b None (Some (move_kind t n p))
+          → Ok (move_draft k n p) ≡ cond b (Err Cycle) (Ok (move_draft (moved_kind t n p) n p))
+      go true e = cc
+      go false e =
+          let same : number k ≡ move_kind t n p = cc in
+          ap (λ (x : Kind). Ok (move_draft x n p)) (number_one k (moved_kind t n p) (same ∙ sym number_moved))
 
 module _ (t : List ℕ) (n p : ℕ) where
   pub move_now : (log : Log) → t ≡ parents_of log → (r : Drafted) → r ≡ moved_in t n p → r ≡ moved_in (parents_of log) n p
@@ -59,11 +100,11 @@ module _ (t : List ℕ) (n p : ℕ) where
 module _ (log : Log) (s : ℕ) (q : code.Request) where
   pub add_op :
       (p : ℕ) → q ≡ Add p → (v : Vector) → v ≡ counts_of log → (n : ℕ) → n ≡ node_number s (count_in v s + 1) →
-      Ok (record { kind = 1; node = n; parent = p }) ≡ cleared_op log s (request_of q)
+      Ok (record { kind = kind.Add; node = n; parent = p }) ≡ cleared_op log s (request_of q)
   unfolding cleared_op
   add_op p h v is n e = rw (h, e, is)
 
-  pub remove_op : (n : ℕ) → q ≡ Remove n → Ok (record { kind = 2; node = n; parent = 0 }) ≡ cleared_op log s (request_of q)
+  pub remove_op : (n : ℕ) → q ≡ Remove n → Ok (record { kind = kind.Remove; node = n; parent = 0 }) ≡ cleared_op log s (request_of q)
   unfolding cleared_op
   remove_op n h = rw h
 
@@ -103,7 +144,7 @@ module _ (f : List ℕ) (s : ℕ) (q : Request) (v : Vector) (is : v ≡ header_
 
 ---- the op that is put out
 
--- v are the held counts, o is what was put out, and op its first bytes
+-- v are the held counts, k is the number j of a kind, and o is what was put out
 module _ (f : List ℕ) (v : Vector) (e : v ≡ header_counts f) (k s n p : ℕ) (o t : List ℕ) (w : o ≡ op_bytes k s n p v ++ t) where
   op_long : length (op_bytes k s n p v) ≡ width
   unfolding op_bytes word
@@ -127,9 +168,9 @@ module _ (f : List ℕ) (v : Vector) (e : v ≡ header_counts f) (k s n p : ℕ)
       }
 
   pub all_added :
-      (out : List ℕ) → t ≡ drop 14 out → (b : List ℕ) → b ≡ appended width f (take 14 o) →
-      (b, o) ≡ with_op f out (op_bytes k s n p (header_counts f))
-  all_added out m b x = rw (x, written, ← e, w, m)
+      (j : ℕ) → k ≡ j → (out : List ℕ) → t ≡ drop 14 out → (b : List ℕ) → b ≡ appended width f (take 14 o) →
+      (b, o) ≡ with_op f out (op_bytes j s n p (header_counts f))
+  all_added j is out m b x = rw (x, written, ← e, w, m, is)
 
 ---- the last test, 8
 
@@ -197,9 +238,9 @@ pub drafted_names : (t : List ℕ) (n p : ℕ) (d : Draft) → moved_in t n p �
 unfolding moved_in
 drafted_names t n p d e = go (at_or_below t p n) e
   where
-    go : (b : Bool) → cond b (Err Cycle) (Ok (move_draft (move_kind t n p) n p)) ≡ Ok d → (d.node ≡ n) × (d.parent ≡ p)
+    go : (b : Bool) → cond b (Err Cycle) (Ok (move_draft (moved_kind t n p) n p)) ≡ Ok d → (d.node ≡ n) × (d.parent ≡ p)
     go false e =
-        let z : d ≡ move_draft (move_kind t n p) n p = cc in
+        let z : d ≡ move_draft (moved_kind t n p) n p = cc in
         (ap (λ (x : Draft). x.node) z, ap (λ (x : Draft). x.parent) z)
     go true e = let z : ◌≡◌ {A = ℕ} 0 1 = cc in absurd (omega arith)
 
@@ -207,7 +248,9 @@ pub op_of : (log : Log) (s : ℕ) (q : Request) (d : Draft) → cleared_op log s
 unfolding cleared_op issued moved_in
 op_of log s (add p) d e = same_op s (counts_of log) _ d e
 op_of log s (remove n) d e = same_op s (counts_of log) _ d e
-op_of log s (move n p) d e = clear (at_or_below (parents_of log) p n) s (counts_of log) _ d e
+op_of log s (move n p) d e =
+    ap (λ k. op_bytes k s n p (counts_of log)) (sym (number_moved (parents_of log) n p))
+    ∙ clear (at_or_below (parents_of log) p n) s (counts_of log) _ d e
 
 -- r is what was drafted
 module _ (f out : List ℕ) (s : ℕ) (q : Request) (l : Lent f (length out) s) where
@@ -231,7 +274,7 @@ module _ (f out : List ℕ) (s : ℕ) (q : Request) (l : Lent f (length out) s) 
     issue_put x h = rw (answer_by f s (length out) l q, ← e, op_of (log_of width f) s q d opened.1, counts_log_of width f) h
 
 ---- what the code of issuing needs: search issuing
-pub ruleset moves = (known_small, move_now, cleared_move, move_names_law)
+pub ruleset moves = (known_small, move_cycle, move_drafted, move_now, cleared_move, move_names_law)
 
 pub ruleset drafting = (moves, add_op, remove_op, exhausted, unknown, known_request, marked, drafts)
 
@@ -239,4 +282,4 @@ pub ruleset putting = (acceptable, all_added, put_refused, writable, put_added)
 
 pub ruleset issues = (issue_refused, ready, issue_put)
 
-pub ruleset issuing = (rules, tested, sound_structural, tallied, tallied_held, drafting, putting, issues)
+pub ruleset issuing = (rules, tested, header_of, sound_structural, tallied, tallied_held, drafting, putting, issues)

@@ -2,11 +2,14 @@
 use Rattle.std.specs.Prelude.{ℕ, ◌+◌, ◌≤◌, ◌<◌, ◌≡◌, true, cond, not, List, Result, Ok, Err, ◌++◌, length, drop, ltb}
 use Rattle.rules.specs.Answer.{if_accepted}
 use Rattle.rules.specs.Issue.{Request, add, remove, move, Issued, op_bytes, request_known, request_unmarked}
-use Rattle.rules.specs.Tree.{move_kind, at_or_below, slots}
+use Rattle.rules.specs.Tree.{at_or_below, depth, slots}
 use Rattle.rules.specs.File.{Log, width, appended, counts_of, file_end, log_of}
 use Rattle.rules.specs.Op.{Op, Vector, count_in, is_replica, node_number}
 use Rattle.rules.specs.Replay.{parents_of}
 use Rattle.rules.specs.Sound.{sound}
+use Rattle.codec.specs.Kind.{number}
+use Rattle.codec.specs.declared.kind.Kind.{Kind}
+use Rattle.codec.specs.declared.kind.Kind.TheVariants.{Add, Remove, Upward, Downward}
 use Rattle.codec.specs.declared.answer.Refusal.{Refusal}
 use Rattle.codec.specs.declared.answer.Refusal.TheVariants.{Unknown, Exhausted, Cycle, Marked}
 use Rattle.delivery.specs.Adding.{last_test}
@@ -19,17 +22,21 @@ Drafted = Result Draft Refusal
 
 -- the bytes of a drafted op
 abbrev pub bytes_of : (s : ℕ) → Draft → Vector → Op
-bytes_of s d v = op_bytes d.kind s d.node d.parent v
+bytes_of s d v = op_bytes (number d.kind) s d.node d.parent v
+
+-- the kind of a move in a tree; its number is what the rules say, `move_kind` (`number_moved` of proofs/IssueCases)
+unfoldable pub moved_kind : (tree : List ℕ) (n p : ℕ) → Kind
+moved_kind t n p = cond (ltb (depth t p) (depth t n)) Upward Downward
 
 -- a move in a tree: number 10, or the op
 unfoldable pub moved_in : (tree : List ℕ) (n p : ℕ) → Drafted
 moved_in t n p =
-    cond (at_or_below t p n) (Err Cycle) (Ok (record { kind = move_kind t n p; node = n; parent = p }))
+    cond (at_or_below t p n) (Err Cycle) (Ok (record { kind = moved_kind t n p; node = n; parent = p }))
 
 -- number 10 of a request whose names are known, or the op
 unfoldable pub cleared_op : Log → (s : ℕ) → Request → Drafted
-cleared_op log s (add p) = Ok (record { kind = 1; node = node_number s (count_in (counts_of log) s + 1); parent = p })
-cleared_op log s (remove n) = Ok (record { kind = 2; node = n; parent = 0 })
+cleared_op log s (add p) = Ok (record { kind = Add; node = node_number s (count_in (counts_of log) s + 1); parent = p })
+cleared_op log s (remove n) = Ok (record { kind = Remove; node = n; parent = 0 })
 cleared_op log s (move n p) = moved_in (parents_of log) n p
 
 -- the tests 9, 7, 11 and 10, or the op

@@ -8,7 +8,7 @@ ghost use Rattle.request.specs.Requests.{request_of};
 ghost use Rattle.issue.specs.Issuing.{moved_in, cleared_op, drafted, Issuer, KnownRequest, Movable, InTree};
 
 use crate::draft::Draft;
-use codec::Refusal;
+use codec::{Kind, Refusal};
 use effect::Tables;
 use oplog::counts_of;
 use replay::replay_all;
@@ -43,18 +43,13 @@ fn next_node(counts: [u8; 8], replica: u8) -> u16
 }
 
 // Number 10 of a move in a tree, or the op to issue.
-#[tactic(auto, unfolding(crate::specs::Issuing::moved_in, tree::specs::Climb::move_or_cycle))]
 pub fn draft_move(parents: &[u16], node: u16, parent: u16) -> Result<Draft, Refusal>
     requires { InTree parents.now node }
     ensures { result ≡ moved_in parents.now node parent }
 {
     match move_kind(parents, node, parent) {
         None => Err(Refusal::Cycle),
-        Some(kind) => Ok(Draft {
-            kind: u8::from(kind),
-            node,
-            parent,
-        }),
+        Some(kind) => Ok(Draft { kind, node, parent }),
     }
 }
 
@@ -82,13 +77,13 @@ fn draft_known(
         Request::Add(parent) => {
             let node = next_node(counts, replica);
             Ok(Draft {
-                kind: 1,
+                kind: Kind::Add,
                 node,
                 parent,
             })
         }
         Request::Remove(node) => Ok(Draft {
-            kind: 2,
+            kind: Kind::Remove,
             node,
             parent: 0,
         }),

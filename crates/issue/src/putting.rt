@@ -22,7 +22,8 @@ fn write_out(buf: &mut [u8], replica: u8, draft: Draft, out: &mut [u8])
         ≡ with_op buf.old out.old (bytes_of replica draft (header_counts buf.old)) }
 {
     let counts = counts_of(buf, WIDTH);
-    write_op(out, draft.kind, replica, draft.node, draft.parent, counts);
+    let kind = u8::from(draft.kind);
+    write_op(out, kind, replica, draft.node, draft.parent, counts);
     let n = WIDTH;
     accept(buf, counts, replica, &out[..n]);
 }

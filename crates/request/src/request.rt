@@ -1,5 +1,5 @@
 // What a caller asks to issue.
-#[derive(Clone, Copy)]
+#[derive(Clone, Copy, Debug, PartialEq, Eq)]
 pub enum Request {
     // A new node under a parent.
     Add(u16),

@@ -5,7 +5,8 @@ use Rattle.batch.proofs.planning.plan_all.Given as goal
 
 abbrev pub invariant-loop-i : goal.invariant-loop-i
 invariant-loop-i l =
-    PlannedTo l.file l.held l.marks l.replica l.nodes l.parent l.start l.s l.i-end l.initial.parents l.parents l.ops l.i
+    let b = l.batch in
+    PlannedTo b.file.now b.held b.marks.now b.replica l.nodes b.parent l.start l.s l.i-end l.initial.parents l.parents l.ops l.i
 
 abbrev pub decreases-loop-i : goal.decreases-loop-i
 decreases-loop-i l = l.i-end - l.i

@@ -5,14 +5,5 @@ use Rattle.request.proofs.naming.knows_move.Goals as goal
 pub known_in-requires : goal.known_in-requires
 known_in-requires c = search naming
 
-pub returns-then-not-known_in : goal.returns-then-not-known_in
-returns-then-not-known_in c = search naming
-
 pub known_parent-requires : goal.known_parent-requires
 known_parent-requires c = search naming
-
-pub returns-then-not-known_parent : goal.returns-then-not-known_parent
-returns-then-not-known_parent c = search naming
-
-pub returns : goal.returns
-returns c = search naming
