@@ -109,11 +109,5 @@ no_count (suc n ∷ ns) e = let z : 1 + 2 * head_byte ns ≡ 0 = rw (some_eqb n)
 ---- a byte
 
 module _ (n : ℕ) where
-  pub ones_few : n < 256 → ones n ≤ 8
-  ones_few l = ones-le 8 n l
-
-  pub zeros_few : count_trailing_zeros 8 n ≤ 8
-  zeros_few = trailing_le 8 n
-
   pub bits_above_are : n / 2 ^ count_trailing_zeros 8 n / 2 ≡ n / 2 ^ suc (count_trailing_zeros 8 n)
   bits_above_are = div-div-eq-div-mul n (2 ^ count_trailing_zeros 8 n) 2 ∙ ap (λ (x : ℕ). n / x) (sym (pow-suc 2 (count_trailing_zeros 8 n)))

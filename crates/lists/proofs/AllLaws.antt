@@ -62,29 +62,3 @@ pub all_append : {A : Type 0} (p : A → Bool) (xs ys : List A) → all p xs ≡
 unfolding all
 all_append p [] ys a b = b
 all_append p (x ∷ xs) ys a b = and_both (and_left (p x) _ a) (all_append p xs ys (and_right (p x) _ a) b)
-
----- a loop that tests each element: those before place i pass
-
-pub record PassTo (p : ℕ → Bool) (xs : List ℕ) (end i : ℕ) : Type 0 where
-  pub whole : end ≡ length xs
-  pub made : i ≤ length xs
-  pub left : all p xs ≡ all p (drop i xs)
-
-module _ (p : ℕ → Bool) (xs : List ℕ) where
-  pub pass_starts : PassTo p xs (length xs) 0
-  pass_starts = record { whole = refl; made = omega arith; left = refl }
-
-  module _ (end i : ℕ) (x : PassTo p xs end i) where
-    turn : i < end → all p xs ≡ (p (get_or xs i 0) && all p (drop (i + 1) xs))
-    unfolding all
-    turn h = x.left ∙ rw (drop-cons xs i 0 (omega (arith, x.whole)), add-one i)
-
-    pub pass_fails : i < end → p (get_or xs i 0) ≡ false → false ≡ all p xs
-    pass_fails h e = sym (turn h ∙ rw e)
-
-    pub pass_on : i < end → p (get_or xs i 0) ≡ true → PassTo p xs end (i + 1)
-    pass_on h e = record { whole = x.whole; made = omega (arith, x.whole); left = turn h ∙ rw e }
-
-    pub pass_ends : end ≤ i → true ≡ all p xs
-    unfolding all
-    pass_ends h = let l : length xs ≤ i = omega (arith, x.whole) in sym (x.left ∙ rw (drop_of_length-le xs l))

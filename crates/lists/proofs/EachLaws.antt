@@ -100,12 +100,6 @@ module _ {A : Type 0} (P : A → Type 0) where
   each_down F zero h = tt
   each_down F (suc n) h = each_append P (F (suc n)) _ (h (suc n)) (each_down F n h)
 
--- of each number of a range
-pub each_range : (P : ℕ → Type 0) (n a : ℕ) → ((i : ℕ) → a ≤ i → i < a + n → P i) → Each P (up_from a n)
-unfolding up_from
-each_range P zero a h = tt
-each_range P (suc n) a h = (h a (le_refl a) (omega arith), each_range P n (suc a) (λ i l u. h i (omega arith) (omega arith)))
-
 -- what is kept of each, kept of all
 pub kept_children : (g : ℕ → Bool) (b : Bool) (F G : ℕ → List ℕ) (cs : List ℕ) → Each (λ c. F c ≡ cond (b && g c) (G c) []) cs
     → concat (map F cs) ≡ cond b (concat (map G (filter g cs))) []

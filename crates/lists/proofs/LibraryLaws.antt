@@ -61,15 +61,6 @@ same_is [] (y ∷ ys) = refl
 same_is (x ∷ xs) [] = refl
 same_is (x ∷ xs) (y ∷ ys) = ap (λ (b : Bool). eqb x y && b) (same_is xs ys)
 
--- two bytes, high byte first
-pub from_bytes_is : (bs : List ℕ) → from_be_bytes w16 bs ≡ get_or bs 0 0 * 256 + get_or bs 1 0
-from_bytes_is bs = refl
-
-pub to_bytes_is : (n : ℕ) → n < 65536 → to_be_bytes w16 n ≡ n / 256 ∷ n % 256 ∷ []
-to_bytes_is n h =
-    let e : n / 256 % 256 ≡ n / 256 = omega arith in
-    ap (λ (k : ℕ). k ∷ n % 256 ∷ []) e
-
 -- `all` and `any` over what gives a list: take the test, three `_`, the call's clause `ran`, that the list is given (as
 -- `YieldsList-from_slice _ cc` says, or `YieldsList-from_range 1 9 8 refl refl`), and what the closure computes, mostly
 -- `λ x b q k. search (rules, tests)`

@@ -46,55 +46,6 @@ pub same_sym : (a b : List ℕ) → same a b ≡ same b a
 same_sym a b =
     both_ways (same a b) (same b a) (λ e. rw (same_eq a b e) (same_refl b)) (λ e. rw (same_eq b a e) (same_refl a))
 
--- a comparison of two lists, from place i on
-unfoldable pub same_from : List ℕ → List ℕ → ℕ → Bool
-same_from a b i = same (drop i a) (drop i b)
-
-pub same_all : (a b : List ℕ) → same a b ≡ same_from a b 0
-unfolding same_from
-same_all a b = refl
-
-same_turn : (a b : List ℕ) (i : ℕ) → i < length a → i < length b
-    → same_from a b i ≡ (eqb (get_or a i 0) (get_or b i 0) && same_from a b (i + 1))
-unfolding same_from same
-same_turn a b i h l = rw (drop-cons a i 0 h, drop-cons b i 0 l, add-one i)
-
-same_end : (a b : List ℕ) (i : ℕ) → length a ≤ i → length b ≤ i → same_from a b i ≡ true
-unfolding same_from same
-same_end a b i h l = rw (drop_of_length-le a h, drop_of_length-le b l)
-
--- a loop that compares two lists of one length, of which the first i elements are the same
-pub record Matched (a b : List ℕ) (end i : ℕ) : Type 0 where
-  pub whole : end ≡ length a
-  pub long : length a ≡ length b
-  pub few : i ≤ length a
-  pub left : same a b ≡ same_from a b i
-
-module _ (a b : List ℕ) where
-  pub match_starts : length a ≡ length b → Matched a b (length a) 0
-  match_starts h = record { whole = refl; long = h; few = omega arith; left = same_all a b }
-
-  module _ (end i : ℕ) (t : Matched a b end i) where
-    pub match_there : i < end → i < length b
-    match_there h = omega (arith, t.whole, t.long)
-
-    match_next : i < end → same a b ≡ (eqb (get_or a i 0) (get_or b i 0) && same_from a b (i + 1))
-    match_next h = t.left ∙ same_turn a b i (omega (arith, t.whole)) (omega (arith, t.whole, t.long))
-
-    pub match_fails : i < end → (get_or a i 0 ≡ get_or b i 0 → ⊥) → false ≡ same a b
-    match_fails h e = sym (match_next h ∙ rw (ne_eqb _ _ e))
-
-    pub match_on : i < end → get_or a i 0 ≡ get_or b i 0 → Matched a b end (i + 1)
-    match_on h e = record {
-      whole = t.whole;
-      long = t.long;
-      few = omega (arith, t.whole);
-      left = match_next h ∙ rw (eq-eqb _ _ e);
-    }
-
-    pub match_ends : end ≤ i → true ≡ same a b
-    match_ends h = sym (t.left ∙ same_end a b i (omega (arith, t.whole)) (omega (arith, t.whole, t.long)))
-
 ---- lists of lists
 
 pub concat_append : {A : Type 0} (xs ys : List (List A)) → concat (xs ++ ys) ≡ concat xs ++ concat ys
@@ -173,29 +124,6 @@ stores_length (x ∷ xs) t n = stores_length xs (set t n x) (n + 1) ∙ length-s
 
 ---- a loop that fills a table of n entries with x: the first i have it
 
-pub record Filled (x n i : ℕ) (t : List ℕ) : Type 0 where
-  pub size : length t ≡ n
-  pub made : i ≤ n
-  pub part : take i t ≡ replicate i x
-
-pub fill_none : (x n : ℕ) (t : List ℕ) → length t ≡ n → Filled x n 0 t
-fill_none x n t l = record { size = l; made = omega arith; part = refl }
-
-fill_step : (t : List ℕ) (i x : ℕ) → take i t ≡ replicate i x → i < length t → take (i + 1) (set t i x) ≡ replicate (i + 1) x
-fill_step t i x e h = rw (add-one i, take-suc-set t i x h, e) (replicate-append-replicate i 1 x ∙ ap (λ (n : ℕ). replicate n x) (add-one i))
-
-pub fill_more : (x n i : ℕ) (t : List ℕ) → Filled x n i t → i < n → Filled x n (i + 1) (set t i x)
-fill_more x n i t f h = record {
-  size = length-set t i x ∙ f.size;
-  made = omega arith;
-  part = fill_step t i x f.part (omega (arith, f.size));
-}
-
-pub fill_all : (x n i : ℕ) (t : List ℕ) → Filled x n i t → n ≤ i → t ≡ replicate n x
-fill_all x n i t f h =
-    let e : i ≡ n = omega (arith, f.made) in
-    sym (take_all n t (omega (arith, f.size))) ∙ rw e at f.part
-
 ---- parts of parts
 
 pub drop_take : (m n : ℕ) (l : List ℕ) → drop m (take (m + n) l) ≡ take n (drop m l)
@@ -207,9 +135,6 @@ pub drop_past : (xs ys : List ℕ) (i j : ℕ) → i ≤ j → drop i xs ≡ dro
 drop_past xs ys i j h e =
     let k : j ≡ i + (j - i) = omega arith in
     rw k (sym (drop-drop (j - i) i xs) ∙ ap (drop (j - i)) e ∙ drop-drop (j - i) i ys)
-
-pub drop_more : (xs ys : List ℕ) (i : ℕ) → drop i xs ≡ drop i ys → drop (i + 1) xs ≡ drop (i + 1) ys
-drop_more xs ys i e = drop_past xs ys i (i + 1) (omega arith) e
 
 pub take_replicate : (a m n : ℕ) → m ≤ n → take m (replicate n a) ≡ replicate m a
 take_replicate a zero n l = refl

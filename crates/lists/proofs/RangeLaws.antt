@@ -128,23 +128,6 @@ module _ {A : Type 0} (F : ℕ → List A) where
         (two_down n hi lo l h (omega arith) (λ r a b. e r a (omega arith)))
   ]
 
--- the places before i, and those from i on
-module _ {A : Type 0} (g : ℕ → A) (n i : ℕ) (h : i ≤ n) where
-  split : map g (up_from 0 n) ≡ map g (up_from 0 i) ++ map g (up_from i (n - i))
-  split =
-      let e : n ≡ i + (n - i) = omega arith in
-      let z : 0 + i ≡ i = omega arith in
-      ap (λ (m : ℕ). map g (up_from 0 m)) e ∙ rw (up_from_add 0 i (n - i), map-append, z)
-
-  size : length (map g (up_from 0 i)) ≡ i
-  size = length-map (up_from 0 i) g ∙ length_up 0 i
-
-  pub take_places : take i (map g (up_from 0 n)) ≡ map g (up_from 0 i)
-  take_places = rw split (take_at (map g (up_from 0 i)) (map g (up_from i (n - i))) i size)
-
-  pub drop_places : drop i (map g (up_from 0 n)) ≡ map g (up_from i (n - i))
-  drop_places = rw split (drop_at (map g (up_from 0 i)) (map g (up_from i (n - i))) i size)
-
 ---- what is left of a fold over the numbers below n, or from n down, with those before k passed
 
 module _ {A : Type 0} (f : A → ℕ → A) (x : A) (n k : ℕ) where
@@ -165,17 +148,6 @@ module _ {A : Type 0} (f : A → ℕ → A) (x : A) (n k : ℕ) where
   pub down_end : n ≤ k → foldl f x (down_from (n - k)) ≡ x
   unfolding down_from
   down_end h = let e : n - k ≡ 0 = omega arith in rw e
-
--- a fold over the places of a list is one over its elements
-pub fold_places : {A B : Type 0} (f : A → B → A) (g : ℕ → B) (d : B) (xs : List B) (a : ℕ) (x : A)
-    → ((i : ℕ) → i < length xs → g (a + i) ≡ get_or xs i d) → foldl (λ y i. f y (g i)) x (up_from a (length xs)) ≡ foldl f x xs
-unfolding up_from
-fold_places f g d [] a x h = refl
-fold_places f g d (y ∷ ys) a x h =
-    let z : a + 0 ≡ a = omega arith in
-    let first : g a ≡ y = rw z at (h 0 (omega arith)) in
-    ap (λ z. foldl (λ u i. f u (g i)) (f x z) (up_from (suc a) (length ys))) first
-    ∙ fold_places f g d ys (suc a) (f x y) (λ i l. let e : suc a + i ≡ a + suc i = omega arith in rw e (h (suc i) (omega arith)))
 
 -- n blocks of w numbers, block a first, are one row of numbers
 pub blocks : (w n a : ℕ) → 1 ≤ a → concat (map (λ s. up_from (w * (s - 1) + 1) w) (up_from a n)) ≡ up_from (w * (a - 1) + 1) (w * n)

@@ -20,7 +20,8 @@ fn mark_op(op: &[u8], marks: &mut [u8])
     }
 }
 
-// Marks every node that an op of a sound log removes.
+// Marks every node that an op of a sound log removes. A mark is a byte: the definition (`marks_of`) is a list
+// of numbers, which the skipping view takes for what is hidden.
 pub fn mark_ops(file: &[u8], marks: &mut [u8])
     requires { Markable file.now marks.old }
     ensures { marks.new ≡ marks_of (log_of width file.now) }

@@ -29,33 +29,6 @@ pub front_step : (r d : List ℕ) (j : ℕ) → j < length r → length r ≤ le
 front_step r d j h hd =
     rw (drop-cons d j 0 (omega arith), set_at (take j r) _ _ _ j (length-take-le j r (omega arith)), add-one, take-suc r j 0, append_snoc)
 
--- part is d with its first j bytes replaced by r's
-pub record Fronted (r d part : List ℕ) (end j : ℕ) : Type 0 where
-  pub whole : end ≡ length r
-  pub long : length r ≤ length d
-  pub few : j ≤ length r
-  pub same : length part ≡ length d
-  pub bytes : part ≡ front r d j
-
-module _ (r d : List ℕ) where
-  pub front_first : length r ≤ length d → Fronted r d d (length r) 0
-  front_first h = record { whole = refl; long = h; few = omega arith; same = refl; bytes = refl }
-
-  module _ (part : List ℕ) (end j : ℕ) (t : Fronted r d part end j) where
-    pub front_next : j < end → Fronted r d (set part j (get_or r j 0)) end (j + 1)
-    front_next h =
-        let l : j < length r = omega (arith, t.whole) in
-        record {
-          whole = t.whole;
-          long = t.long;
-          few = omega arith;
-          same = length-set part _ _ ∙ t.same;
-          bytes = ap (λ (x : List ℕ). set x j (get_or r j 0)) t.bytes ∙ front_step r d j l t.long;
-        }
-
-    pub front_last : end ≤ j → part ≡ r ++ drop (length r) d
-    front_last h = let e : j ≡ length r = omega (arith, t.whole, t.few) in t.bytes ∙ rw (e, take-length)
-
 -- the ops in front of the bytes that were moved up
 pub shift_front : (r p a b : List ℕ) → length r ≤ length p → a ≡ take (length r) p ++ take (length p - length r) p
     → b ≡ r ++ drop (length r) a → b ≡ shifted r p

@@ -137,17 +137,3 @@ module _ (w : ℕ) (f : List ℕ) (good : laid w f ≡ true) (m m' : Marker) (e 
 
 ---- what the code of the marker needs: search stepping
 pub ruleset stepping = (rules, in_file_read, next_more, next_replica)
-
----- what the walk of a whole log says
-
--- all ops
-ops_row : (log : Log) (s : ℕ) → row log (op_at log) s 1 ≡ ops_of log s
-unfolding row op_at
-ops_row log s =
-    let n : length (ops_of log s) + 1 - 1 ≡ length (ops_of log s) = omega arith in
-    rw n (map_get_d [] (ops_of log s) 1)
-
-pub left_ops : (log : Log) → length log ≡ 8 → concat log ≡ left log (op_at log) 1 1
-left_ops log e =
-    sym (ap concat (map_replicas (λ s. row log (op_at log) s 1) (ops_of log) (λ s l u. ops_row log s) ∙ log_eta log e))
-    ∙ left_first log (op_at log)

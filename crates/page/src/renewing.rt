@@ -10,7 +10,7 @@ use schedule::{Entry, OPS, Schedule, write_order};
 use soundness::WIDTH;
 use undo::{Undoable, first_beyond};
 
-// The slots of entries, and 0 behind them. By index: of a table that iter_mut lent a proof knows no
+// The slots of entries, and 0 behind them: a table, since the one that C lends is compared with it. By index: of a table that iter_mut lent a proof knows no
 // element.
 #[tactic(auto, using(crate::proofs::RenewLaws::slots_none, crate::proofs::RenewLaws::slots_more))]
 fn slots_of(entries: &[Entry]) -> [u16; OPS]

@@ -33,12 +33,6 @@ module _ (log : Log) (cut done : Vector) (s : ℕ) where
 
 -- n ops of the replica are done, and the cut has more
 module _ (w : ℕ) (f : List ℕ) (cut : Vector) (s : ℕ) (x : HeldAt w f cut s) (n : ℕ) (h : n < get_or cut (s - 1) 0) where
-  pub next_fits : Fits w8 (n + 1)
-  unfolding count_in
-  next_fits =
-      let b : get_or cut (s - 1) 0 ≤ 255 = count_small w f cut x.held s x.replica.low x.replica.high in
-      Fits-under w8 (n + 1) 256 (omega arith) tt
-
   module _ (q : ℕ) (is : q ≡ n + 1) where
     pub next_in_file : InFile w f s q
     unfolding count_in

@@ -8,7 +8,8 @@ use codec::{Kind, NoKind, kind_at};
 use oplog::place;
 
 // The class of a kind, in the order in which ops of one timestamp are judged: adds, removes,
-// upward moves, downward moves. Any other kind is in none of them.
+// upward moves, downward moves. Any other kind is in none of them. A number: the definitions have the classes
+// of all replicas as one vector (`classes_of`).
 #[tactic(auto, unfolding(crate::specs::Level::class_of))]
 fn class_of(kind: u8) -> u8
     ensures { result ≡ class_of kind }

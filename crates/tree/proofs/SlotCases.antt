@@ -48,8 +48,5 @@ module _ (w : ℕ) (f : List ℕ) (k s q : ℕ) (hs : s ≡ replica_in k) (hq : 
   pub slot_in_file : InSlot w f k → InFile w f s q
   slot_in_file x = rw (hs, hq) x.in_file
 
-  pub slot_starts : (at : ℕ) → (at ≡ place_of w f s q) × (at + w ≤ length f) → (at ≡ slot_place w f k) × (at + w ≤ length f)
-  slot_starts at e = (e.0 ∙ rw (hs, hq), e.1)
-
 ---- what the code of slots needs: search slotting
 pub ruleset slotting = (rules, slot_low, slot_high, slot_inside, slot_outside, node_root, node_other, slot_in_file)

@@ -34,34 +34,6 @@ pub count_of : (v : Vector) (i : ℕ) → count_in v (i + 1) ≡ get_or v i 0
 unfolding count_in
 count_of v i = let e : i + 1 - 1 ≡ i = omega arith in rw e
 
--- a loop that fills a vector by a rule: i counts are made
-pub record Built (F : ℕ → ℕ) (v : List ℕ) (i : ℕ) : Type 0 where
-  pub made : i ≤ 8
-  pub eight : length v ≡ 8
-  pub part : take i v ≡ take i (map F replicas)
-
--- a turn
-pub build_step : (F : ℕ → ℕ) (v : List ℕ) (i x : ℕ) → take i v ≡ take i (map F replicas) → i < 8 → length v ≡ 8 → x ≡ F (i + 1)
-    → take (i + 1) (set v i x) ≡ take (i + 1) (map F replicas)
-build_step F v i x e h l ex =
-    copy_step v (map F replicas) i x e (omega arith) (omega (arith, length_eight F))
-    (ex ∙ sym (count_map F (i + 1) (omega arith) (omega arith)) ∙ count_of (map F replicas) i)
-
-pub build_none : (F : ℕ → ℕ) (v : List ℕ) → length v ≡ 8 → Built F v 0
-build_none F v l = record { made = omega arith; eight = l; part = refl }
-
-pub build_more : (F : ℕ → ℕ) (v : List ℕ) (i x : ℕ) → Built F v i → i < 8 → x ≡ F (i + 1) → Built F (set v i x) (i + 1)
-build_more F v i x b h e = record {
-  made = omega arith;
-  eight = length-set v i x ∙ b.eight;
-  part = build_step F v i x b.part h b.eight e;
-}
-
-pub build_all : (F : ℕ → ℕ) (v : List ℕ) (i : ℕ) → Built F v i → 8 ≤ i → v ≡ map F replicas
-build_all F v i b h =
-    let e : i ≡ 8 = omega (arith, b.made) in
-    sym (take_all 8 v (omega (arith, b.eight))) ∙ rw e at b.part ∙ take_all 8 (map F replicas) (omega (arith, length_eight F))
-
 ---- a comparison of four counts at once
 
 -- bit 8 of the lowest part
