@@ -1,6 +1,6 @@
 -- The bits of a head, from the lowest that is set on.
 use Prim.Native.Nat.{ℕ, zero, suc, ◌+◌, ◌*◌, ◌-◌, ◌/◌, ◌%◌, ◌^◌, ◌≤◌, ◌<◌}
-use lib.Count.{ones, ones-le, ones_step, trailing_le, count_trailing_zeros, under}
+use lib.Count.{ones, ones_step, count_trailing_zeros, under}
 use lib.Dec.{ltb, lit<}
 use lib.ListN.{length, drop, get_or, replicate}
 use mathlib.Core.List.{List, [], ◌∷◌, ◌++◌}

@@ -1,11 +1,10 @@
 -- Laws of writing an op.
-use lib.ListN.{length-append, length, take, drop, get_or, set}
-use lib.Seq.{take-suc, drop-cons, set_at, length-take-le, drop-drop, sets-eq}
+use lib.ListN.{length, take, drop, set}
+use lib.Seq.{drop-drop, sets-eq}
 use mathlib.Core.Path.{◌≡◌, ap, ◌∙◌}
-use mathlib.Core.List.{List, [], ◌∷◌, ◌++◌, append_assoc}
-use Prim.Native.Nat.{ℕ, suc, ◌+◌, ◌/◌, ◌%◌, ◌≤◌, ◌<◌}
+use mathlib.Core.List.{List, [], ◌∷◌, ◌++◌}
+use Prim.Native.Nat.{ℕ, ◌/◌, ◌%◌, ◌≤◌}
 use native.Mathlib.Omega.{arith}
-use native.Mathlib.Numerals.{add-one}
 use Rattle.rules.specs.Issue.{op_bytes}
 use Rattle.rules.specs.Bytes.{word}
 

@@ -3,12 +3,10 @@ use Rattle.lists.specs.Lists.{all, any, filter}
 use Rattle.lists.proofs.BoolLaws.{and_both, and_left, and_right}
 use mathlib.Core.Bool.{Bool, ◌&&◌, ◌||◌, cond, false, or_assoc, true}
 use mathlib.Core.List.{List, [], ◌++◌, ◌∷◌, map}
-use mathlib.Core.Path.{◌≡◌, ap, refl, sym, ◌∙◌}
-use Prim.Native.Nat.{ℕ, ◌+◌, ◌<◌, ◌≤◌, suc, zero}
+use mathlib.Core.Path.{◌≡◌, ap, refl, sym}
+use Prim.Native.Nat.{ℕ, ◌<◌, suc, zero}
 use native.Mathlib.Omega.{arith}
-use lib.ListN.{drop, drop_of_length-le, get_or, length}
-use lib.Seq.{drop-cons}
-use native.Mathlib.Numerals.{add-one}
+use lib.ListN.{get_or, length}
 use native.Mathlib.Nat.{le_of_suc-le-suc, not-suc-le-zero}
 
 pub all_true : (p : ℕ → Bool) (xs : List ℕ) → ((x : ℕ) → p x ≡ true) → all p xs ≡ true

@@ -1,11 +1,10 @@
 -- The library's words for lists and bytes, as this repository's.
-use Rattle.std.specs.Prelude.{Bool, true, false, cond, ◌&&◌, ◌||◌, not, List, [], ◌∷◌, ℕ, zero, suc, ◌+◌, ◌*◌, ◌/◌, ◌%◌, ◌<◌, ◌≡◌}
+use Rattle.std.specs.Prelude.{Bool, true, false, cond, ◌&&◌, ◌||◌, not, List, [], ◌∷◌, ℕ, zero, suc, ◌+◌, ◌<◌, ◌≡◌}
 use Rattle.std.specs.Prelude.{Option, eqb, get_or, map}
 use Rattle.std.specs.List.{FoldsTo, list_all, list_any, position_or_len, sum_by}
 use Rattle.std.specs.List.{range_with_len}
 use Rattle.std.specs.List as library
 use Rattle.std.specs.Array.{IsFromFnResult, IsFromFnResultFrom}
-use Rattle.std.specs.Int.{w16, from_be_bytes, to_be_bytes}
 use Rattle.std.specs.Str.{bytes_eq}
 use Rattle.std.specs.Fn.{Called}
 use Rattle.std.specs.Iterator.{YieldsThen}

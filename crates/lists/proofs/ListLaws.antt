@@ -1,15 +1,15 @@
 -- Laws of lists: sums, equal lists, lists of lists, parts and stores.
 use Rattle.lists.proofs.BoolLaws.{and_left, and_right, both_ways, never}
 use Rattle.lists.specs.Lists.{concat, same, sum}
-use mathlib.Core.Bool.{Bool, ◌&&◌, false, true}
+use mathlib.Core.Bool.{true}
 use mathlib.Core.List.{List, [], ◌++◌, ◌∷◌, append_assoc, map, map-append}
 use Prim.Native.Nat.{◌+◌, ◌-◌, ◌<◌, ◌≤◌, suc, zero, ℕ}
 use mathlib.Core.Path.{◌∙◌, ◌≡◌, ap, ap₂, refl, sym}
 use native.Mathlib.Numerals.{add-one}
 use native.Mathlib.Omega.{arith}
-use lib.ListN.{length-append, length-set, drop, drop_of_length-le, get_or, length, replicate, replicate-append-replicate, set, take, take-append-drop}
-use lib.Seq.{drop-cons, drop-drop, drop-set-lt, take_all, take-nil, take-suc, take-suc-set}
-use borrow.Author.Tests.{eq-eqb, eqb-true, ne_eqb}
+use lib.ListN.{length-append, length-set, drop, get_or, length, replicate, set, take, take-append-drop}
+use lib.Seq.{drop-drop, drop-set-lt, take-nil, take-suc, take-suc-set}
+use borrow.Author.Tests.{eq-eqb, eqb-true}
 use lib.Dec.{eqb}
 use native.Mathlib.Nat.{le_of_suc-le-suc, not-suc-le-zero, suc-add, zero-add}
 

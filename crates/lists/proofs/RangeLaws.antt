@@ -2,14 +2,13 @@
 use Rattle.lists.specs.Lists.{all, concat, down_from, sum, up_from}
 use Rattle.lists.proofs.BoolLaws.{and_left, and_right, never}
 use mathlib.Core.Bool.{Bool, ◌&&◌, false, true}
-use mathlib.Core.List.{List, [], ◌++◌, ◌∷◌, append-nil, foldl, map, map-append}
+use mathlib.Core.List.{List, [], ◌++◌, ◌∷◌, append-nil, foldl, map}
 use Prim.Native.Nat.{◌*◌, ◌+◌, ◌-◌, ◌<◌, ◌≤◌, suc, zero, ℕ}
 use mathlib.Core.Path.{◌∙◌, ◌≡◌, ap, ap₂, refl, sym}
 use native.Mathlib.Nat.{add-suc, add-zero, le_refl, mul-suc, mul-zero, suc-add, zero-add}
 use native.Mathlib.Numerals.{add-one}
 use native.Mathlib.Omega.{arith}
-use lib.ListN.{drop, get_or, length, length-map, take}
-use lib.Seq.{drop_at, take_at}
+use lib.ListN.{get_or, length}
 use lib.Arith.{lt_of_le-ne}
 use native.Mathlib.Decide.{dec_lt, ℕ_discrete}
 

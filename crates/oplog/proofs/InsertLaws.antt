@@ -1,6 +1,6 @@
 -- Laws of putting ops into a buffer: bytes moved up, the ops in front of them, the header anew.
-use lib.ListN.{length-take, length-drop, length-append, length-set, length, take, drop, get_or, set}
-use lib.Seq.{take_all, take-length, take-suc, drop-cons, append_snoc, set_at, length-take-le, take-take, drop-drop, take-add, drop_at}
+use lib.ListN.{length-take, length-drop, length-append, length, take, drop, get_or, set}
+use lib.Seq.{take_all, take-suc, drop-cons, append_snoc, set_at, length-take-le, take-take, drop-drop, take-add, drop_at}
 use mathlib.Core.List.{List, [], ◌∷◌, ◌++◌, map, append_assoc}
 use mathlib.Core.Path.{◌≡◌, refl, sym, ap, ◌∙◌}
 use mathlib.Core.Bool.{true}

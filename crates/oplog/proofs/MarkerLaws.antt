@@ -1,6 +1,6 @@
 -- A walk through all ops with a marker, in file order. E says something of replica s's op number q; what is left at a
 -- marker is what E says of the ops from there on.
-use mathlib.Core.Path.{◌≡◌, sym, ap, ◌∙◌}
+use mathlib.Core.Path.{◌≡◌, sym, ◌∙◌}
 use mathlib.Core.Bool.{Bool, true, cond}
 use mathlib.Core.List.{List, [], ◌∷◌, ◌++◌, map}
 use Prim.Native.Nat.{ℕ, zero, suc, ◌+◌, ◌*◌, ◌-◌, ◌≤◌, ◌<◌}
@@ -13,11 +13,8 @@ use borrow.Author.Rules.{rules}
 use borrow.Author.Tests.{le-leb, lt-leb, lt-ltb, le-ltb}
 use Rattle.lists.specs.Lists.{up_from, concat}
 use Rattle.rules.specs.Op.{replicas}
-use Rattle.rules.specs.File.{Log, count_at, ops_of, log_of, op_at}
+use Rattle.rules.specs.File.{Log, count_at, ops_of, log_of}
 use Rattle.rules.specs.Log.{laid}
-use Rattle.lists.proofs.RangeLaws.{map_get_d}
-use Rattle.rules.proofs.FileLaws.{log_eta}
-use Rattle.rules.proofs.ReplicaLaws.{map_replicas}
 use Rattle.rules.proofs.StructureLaws.{count_held, laid_reads}
 use Rattle.oplog.specs.declared.marker.Marker.{Marker}
 use Rattle.oplog.specs.Places.{next_marker}

@@ -1,15 +1,13 @@
 -- Laws of decimal numbers and of a line: how many digits, and that five are enough and read back.
-use lib.ListN.{drop, set, take, length, length-append, length-set, take-append-drop}
-use mathlib.Core.Path.{ap, refl, ◌≡◌, ◌∙◌}
-use mathlib.Core.List.{List, [], ◌∷◌, ◌++◌, append_assoc}
+use lib.ListN.{length, length-append}
+use mathlib.Core.Path.{◌≡◌}
+use mathlib.Core.List.{[], ◌∷◌, ◌++◌}
 use mathlib.Core.Bool.{Bool}
-use Prim.Native.Nat.{ℕ, zero, suc, ◌+◌, ◌/◌, ◌%◌, ◌≤◌, ◌<◌}
+use Prim.Native.Nat.{ℕ, suc, ◌+◌, ◌/◌, ◌%◌, ◌≤◌, ◌<◌}
 use native.Mathlib.Omega.{arith}
 use native.Mathlib.Decide.{dec_le}
 use borrow.Author.Tests.{lt-ltb, le-ltb}
 use Rattle.rules.specs.Listing.{digits, decimal, line_of}
-use native.Mathlib.Numerals.{add-one}
-use lib.Seq.{drop-cons, drop-set-lt, get_or-set_same, take-set-le}
 
 ---- how many digits
 

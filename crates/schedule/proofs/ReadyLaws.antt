@@ -7,9 +7,6 @@ use native.Mathlib.Omega.{arith}
 use native.Mathlib.Decide.{dec_lt}
 use lib.ListN.{drop, get_or}
 use borrow.Author.Tests.{lt-ltb, le-ltb}
-use borrow.Author.Rules.{Fits-under}
-use mir.Syntax.{w8}
-use mir.Val.{Fits}
 use Rattle.rules.specs.Op.{count_in, vector_of, Vector}
 use Rattle.rules.specs.File.{op_at, Log, log_of, within}
 use Rattle.rules.proofs.FileLaws.{count_map}
@@ -17,7 +14,6 @@ use Rattle.oplog.specs.Places.{Held, InFile, place_of}
 use Rattle.oplog.proofs.FieldLaws.{in_file_of, fields_at}
 use Rattle.order.specs.Levels.{next_at, ready_ops, ready}
 use Rattle.schedule.specs.Level.{HeldAt}
-use Rattle.oplog.proofs.HeldLaws.{count_small}
 
 ---- the next op of a replica
 

@@ -4,12 +4,11 @@ use borrow.Author.Rules.{rules}
 use borrow.Author.Tests.{eq-eqb, le-ltb, lt-ltb, ne_eqb}
 use mathlib.Core.Path.{◌≡◌, ◌∙◌}
 use mathlib.Core.List.{List}
-use lib.ListN.{length}
 use Rattle.rules.specs.Tree.{slot, slot_of, slots}
 use native.Mathlib.Decide.{ℕ_discrete}
 use native.Mathlib.Omega.{arith}
-use Rattle.tree.specs.Slots.{InSlot, replica_in, sequence_in, slot_node, slot_in, slot_place}
-use Rattle.oplog.specs.Places.{InFile, place_of}
+use Rattle.tree.specs.Slots.{InSlot, replica_in, sequence_in, slot_node, slot_in}
+use Rattle.oplog.specs.Places.{InFile}
 
 ---- the slot of a node, as the code computes it
 

@@ -2,8 +2,8 @@
 use Prim.Native.Nat.{ℕ, ◌+◌, ◌-◌, ◌<◌, ◌*◌, ◌/◌, ◌%◌, ◌≤◌}
 use borrow.Author.Tests.{lt-leb, le-leb, eq-eqb, ne_eqb}
 use lib.Dec.{leb, eqb}
-use lib.ListN.{length, take, drop, get_or, set, length-set, length-take, length-drop}
-use lib.Seq.{take_all, get_or-take, get_or-drop}
+use lib.ListN.{length, take, drop, get_or, length-take, length-drop}
+use lib.Seq.{get_or-take, get_or-drop}
 use Rattle.std.specs.List.{range_with_len}
 use Rattle.std.proofs.lemmas.List.FromFn.{fill_by_all}
 use mathlib.Core.Bool.{◌&&◌, Bool, and-eq-true_iff, true, false}
@@ -13,11 +13,9 @@ use native.Mathlib.Decide.{dec_le}
 use native.Mathlib.Omega.{arith}
 use Rattle.vector.specs.Spread.{all_marked, spread_of, Counts}
 use Rattle.lists.proofs.BoolLaws.{both_ways}
-use Rattle.rules.proofs.FileLaws.{count_map}
 use Rattle.lists.specs.Lists.{up_from, all}
 use Rattle.rules.specs.File.{within}
 use Rattle.rules.specs.Op.{Vector, count_in, replicas}
-use Rattle.lists.proofs.ListLaws.{copy_step}
 use borrow.Author.Rules.{rules}
 
 -- eight bytes from a place on, read one by one
