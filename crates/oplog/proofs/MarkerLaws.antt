@@ -1,6 +1,6 @@
 -- A walk through all ops with a marker, in file order. E says something of replica s's op number q; what is left at a
 -- marker is what E says of the ops from there on.
-use mathlib.Core.Path.{◌≡◌, sym, ap, ◌∙◌}
+use mathlib.Core.Path.{◌≡◌, sym, ◌∙◌}
 use mathlib.Core.Bool.{Bool, true, cond}
 use mathlib.Core.List.{List, [], ◌∷◌, ◌++◌, map}
 use Prim.Native.Nat.{ℕ, zero, suc, ◌+◌, ◌*◌, ◌-◌, ◌≤◌, ◌<◌}
@@ -13,11 +13,8 @@ use borrow.Author.Rules.{rules}
 use borrow.Author.Tests.{le-leb, lt-leb, lt-ltb, le-ltb}
 use Rattle.lists.specs.Lists.{up_from, concat}
 use Rattle.rules.specs.Op.{replicas}
-use Rattle.rules.specs.File.{Log, count_at, ops_of, log_of, op_at}
+use Rattle.rules.specs.File.{Log, count_at, ops_of, log_of}
 use Rattle.rules.specs.Log.{laid}
-use Rattle.lists.proofs.RangeLaws.{map_get_d}
-use Rattle.rules.proofs.FileLaws.{log_eta}
-use Rattle.rules.proofs.ReplicaLaws.{map_replicas}
 use Rattle.rules.proofs.StructureLaws.{count_held, laid_reads}
 use Rattle.oplog.specs.declared.marker.Marker.{Marker}
 use Rattle.oplog.specs.Places.{next_marker}
@@ -137,17 +134,3 @@ module _ (w : ℕ) (f : List ℕ) (good : laid w f ≡ true) (m m' : Marker) (e 
 
 ---- what the code of the marker needs: search stepping
 pub ruleset stepping = (rules, in_file_read, next_more, next_replica)
-
----- what the walk of a whole log says
-
--- all ops
-ops_row : (log : Log) (s : ℕ) → row log (op_at log) s 1 ≡ ops_of log s
-unfolding row op_at
-ops_row log s =
-    let n : length (ops_of log s) + 1 - 1 ≡ length (ops_of log s) = omega arith in
-    rw n (map_get_d [] (ops_of log s) 1)
-
-pub left_ops : (log : Log) → length log ≡ 8 → concat log ≡ left log (op_at log) 1 1
-left_ops log e =
-    sym (ap concat (map_replicas (λ s. row log (op_at log) s 1) (ops_of log) (λ s l u. ops_row log s) ∙ log_eta log e))
-    ∙ left_first log (op_at log)
