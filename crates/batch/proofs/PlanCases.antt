@@ -31,6 +31,7 @@ use Rattle.issue.specs.Issuing.{Lent, bytes_of, cleared_op, drafted, put_out}
 use Rattle.issue.specs.Issuing.{Drafted}
 use Rattle.std.specs.Prelude.{Ok, Err}
 use Rattle.issue.proofs.IssueCases.{issue_put, issue_refused, op_of}
+use Rattle.soundness.proofs.SoundCases.{end_asks}
 use Rattle.marks.specs.Knowing.{MarkedLog}
 use Rattle.batch_rules.specs.Batch.{move_buffer, moves_answer, moves_buffer, moves_ops, most_moves}
 use Rattle.batch_rules.proofs.BatchLaws.{AllTaken, Carried, Settled, yes, no, issue_settled, ops_parts, parents_after, taken_answer, taken_both, taken_carried, taken_first}
@@ -315,4 +316,4 @@ module _ (f : List ℕ) (u : Vector) (marks : List ℕ) (s : ℕ) (ns : List ℕ
 ---- what the code of planning needs: search planning
 pub ruleset turning = (plan_counts, plan_node, plan_part, plan_asks, plan_refused, plan_on)
 
-pub ruleset planning = (rules, tested, leaving, plan_starts, plan_inside, plan_fits, plan_end_fits, plan_small, turning, plan_ends)
+pub ruleset planning = (rules, tested, end_asks, leaving, plan_starts, plan_inside, plan_fits, plan_end_fits, plan_small, turning, plan_ends)

@@ -94,6 +94,7 @@ fn plan_all(
 
 // Plans a batch at a sound log: its ops, or the first refusal. The log is judged once, and its marks
 // are looked up once.
+#[tactic(auto, using(crate::proofs::PutCases::putting))]
 pub(crate) fn plan(
     file: &[u8],
     replica: u8,
