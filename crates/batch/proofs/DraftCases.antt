@@ -29,6 +29,7 @@ use Rattle.issue.specs.declared.draft.Draft.{Draft}
 use Rattle.issue.specs.Issuing.{Drafted}
 use Rattle.std.specs.Prelude.{Ok, Err}
 use Rattle.issue.proofs.IssueCases.{drafted_names, known_small, passes}
+use Rattle.batch.specs.declared.drafting.Batch.{Batch}
 use Rattle.batch.specs.Planning.{Drawable, Next, Turn, drafted_in, next_by, put_next}
 
 ---- the tests 9, 7, 11 and 10
@@ -111,10 +112,10 @@ module _ (size end : ℕ) (u : Vector) (s : ℕ) (t op : List ℕ) where
     unfolding next_by
     next_put d e y h = rw (← e) h
 
-pub drawable : (f : List ℕ) (u : Vector) (marks : List ℕ) (end : ℕ) (t : List ℕ) (s : ℕ) (op : List ℕ) → Turn f u marks end t s op
-    → (v : Vector) (n p : ℕ) (d : Draft) → Ok d ≡ drafted_in (log_of width f) v t s n p → (size : ℕ) → size ≡ length f → Drawable t op d end size
-drawable f u marks end t s op x v n p d e size l = record {
-  there = rw x.ground.size (draft_slot (log_of width f) v t s n p d (sym e));
+pub drawable : (b : Batch) (end : ℕ) (t op : List ℕ) → Turn b end t op → (v : Vector) (n : ℕ) (d : Draft)
+    → Ok d ≡ drafted_in (log_of width b.file.now) v t b.replica n b.parent → (size : ℕ) → size ≡ length b.file.now → Drawable t op d end size
+drawable b end t op x v n d e size l = record {
+  there = rw x.ground.size (draft_slot (log_of width b.file.now) v t b.replica n b.parent d (sym e));
   bytes = x.bytes;
   inside = rw l x.inside;
 }

@@ -31,9 +31,11 @@ use Rattle.issue.specs.Issuing.{Lent, bytes_of, cleared_op, drafted, put_out}
 use Rattle.issue.specs.Issuing.{Drafted}
 use Rattle.std.specs.Prelude.{Ok, Err}
 use Rattle.issue.proofs.IssueCases.{issue_put, issue_refused, op_of}
+use Rattle.soundness.proofs.SoundCases.{end_asks}
 use Rattle.marks.specs.Knowing.{MarkedLog}
 use Rattle.batch_rules.specs.Batch.{move_buffer, moves_answer, moves_buffer, moves_ops, most_moves}
 use Rattle.batch_rules.proofs.BatchLaws.{AllTaken, Carried, Settled, yes, no, issue_settled, ops_parts, parents_after, taken_answer, taken_both, taken_carried, taken_first}
+use Rattle.batch.specs.declared.drafting.Batch.{Batch}
 use Rattle.batch.specs.Planning.{Next, Planned, Prepared, Turn, drafted_in, next_by, put_next}
 use Rattle.batch.proofs.DraftCases.{leaving, draft_moved, draft_node, draft_parent}
 use Rattle.batch.proofs.TakenLaws.{taken_count, taken_counts, taken_end}
@@ -123,10 +125,10 @@ pub record PlannedTo (f : List ℕ) (u : Vector) (marks : List ℕ) (s : ℕ) (n
   pub size : length ops ≡ width * length ns
   pub written : take (width * i) ops ≡ concat (moves_ops width f s (take i ns) p)
 
-pub plan_starts : (f : List ℕ) (u : Vector) (marks t : List ℕ) (s : ℕ) (ns ops : List ℕ) (p start k : ℕ) → Prepared f u marks t s ns ops
-    → start ≡ start_of width (header_counts f) 9 → k ≡ s → PlannedTo f u marks s ns p start k (length ns) t t ops 0
+pub plan_starts : (b : Batch) (t ns ops : List ℕ) (start k : ℕ) → Prepared b t ns ops → start ≡ start_of width (header_counts b.file.now) 9
+    → k ≡ b.replica → PlannedTo b.file.now b.held b.marks.now b.replica ns b.parent start k (length ns) t t ops 0
 unfolding moves_buffer moves_ops concat
-plan_starts f u marks t s ns ops p start k x es ek = record {
+plan_starts b t ns ops start k x es ek = record {
   marked = x.marked;
   is_replica_so = x.plannable.is_replica_so;
   most = x.plannable.few;
@@ -189,14 +191,17 @@ module _ (f : List ℕ) (u : Vector) (marks : List ℕ) (s : ℕ) (ns : List ℕ
     abbrev part : List ℕ
     part = take (to - at) (drop at ops)
 
+    plan_there : start + at ≤ length f
+    plan_there = omega (arith, plan_inside)
+
     part_long : length part ≡ width
     part_long = simp (length-take, length-drop) (omega (arith, plan_part))
 
-    pub plan_asks : Turn f u marks (start + at) t s part
-    plan_asks = record {
-      ground = record { marked = x.marked; size = plan_table; is_replica_so = x.is_replica_so };
+    pub plan_asks : (b : Batch) → b.file.now ≡ f → b.held ≡ u → b.marks.now ≡ marks → b.replica ≡ s → Turn b (start + at) t part
+    plan_asks b ef eu em es = record {
+      ground = record { marked = rw (ef, eu, em) x.marked; size = plan_table; is_replica_so = rw es x.is_replica_so };
       bytes = part_long;
-      inside = omega (arith, plan_inside);
+      inside = rw ef plan_there;
     }
 
     abbrev node : ℕ
@@ -311,4 +316,4 @@ module _ (f : List ℕ) (u : Vector) (marks : List ℕ) (s : ℕ) (ns : List ℕ
 ---- what the code of planning needs: search planning
 pub ruleset turning = (plan_counts, plan_node, plan_part, plan_asks, plan_refused, plan_on)
 
-pub ruleset planning = (rules, tested, leaving, plan_starts, plan_inside, plan_fits, plan_end_fits, plan_small, turning, plan_ends)
+pub ruleset planning = (rules, tested, end_asks, leaving, plan_starts, plan_inside, plan_fits, plan_end_fits, plan_small, turning, plan_ends)

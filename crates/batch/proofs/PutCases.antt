@@ -30,6 +30,7 @@ use Rattle.batch_rules.specs.Batch.{batch_answer, batch_buffer, batch_out, moves
 use Rattle.batch_rules.specs.Claims.{Tested}
 use Rattle.batch_rules.proofs.BatchLaws.{AllTaken, all_taken, ops_count, ops_wide, taken_carried}
 use Rattle.batch_rules.proofs.BatchTheorem.{empty_accepted, on_to_moves}
+use Rattle.batch.specs.declared.drafting.Batch.{Batch}
 use Rattle.batch.specs.Planning.{Plannable, Planned, Prepared}
 use Rattle.batch.specs.Putting.{Puttable, SomeMoves, with_ops}
 use Rattle.batch.proofs.TakenLaws.{taken_bytes, taken_count, taken_end}
@@ -37,11 +38,11 @@ use Rattle.batch_rules.specs.Batch as rules
 
 ---- planning, with the counts, the marks and the tree of the log
 
-pub prepared : (f : List ℕ) (s : ℕ) (ns ops : List ℕ) → Plannable f s ns ops → (u : Vector) → u ≡ header_counts f
-    → (marks : List ℕ) → marks ≡ marks_of (log_of width f) → (t : List ℕ) → t ≡ parents_of (log_of width f) → Prepared f u marks t s ns ops
-prepared f s ns ops x u eu marks em t et = record {
+pub prepared : (b : Batch) (ns ops : List ℕ) → Plannable b.file.now b.replica ns ops → b.held ≡ header_counts b.file.now
+    → b.marks.now ≡ marks_of (log_of width b.file.now) → (t : List ℕ) → t ≡ parents_of (log_of width b.file.now) → Prepared b t ns ops
+prepared b ns ops x eu em t et = record {
   plannable = x;
-  marked = record { tallied = tallied f x.is_sound_so u eu; marks_are = em };
+  marked = record { tallied = tallied b.file.now x.is_sound_so b.held eu; marks_are = em };
   tree = et;
 }
 

@@ -18,6 +18,7 @@ use Rattle.issue.specs.declared.draft.Draft.{Draft}
 use Rattle.issue.specs.Issuing.{Drafted}
 use Rattle.std.specs.Prelude.{Ok, Err}
 use Rattle.marks.specs.Knowing.{MarkedLog}
+use Rattle.batch.specs.declared.drafting.Batch.{Batch}
 
 ---- one move
 
@@ -54,16 +55,16 @@ pub record Planned (f : List ℕ) (s : ℕ) (ns : List ℕ) (p : ℕ) (a : Answe
 ---- what the steps ask
 
 -- a sound buffer, its counts and marks, a table of parents, and a replica
-pub record Ground (f : List ℕ) (u : Vector) (marks t : List ℕ) (s : ℕ) : Type 0 where
-  pub marked : MarkedLog f u marks
+pub record Ground (b : Batch) (t : List ℕ) : Type 0 where
+  pub marked : MarkedLog b.file.now b.held b.marks.now
   pub size : length t ≡ slots
-  pub is_replica_so : is_replica s ≡ true
+  pub is_replica_so : is_replica b.replica ≡ true
 
 -- and bytes for just one op, and where the file would end
-pub record Turn (f : List ℕ) (u : Vector) (marks : List ℕ) (end : ℕ) (t : List ℕ) (s : ℕ) (op : List ℕ) : Type 0 where
-  pub ground : Ground f u marks t s
+pub record Turn (b : Batch) (end : ℕ) (t op : List ℕ) : Type 0 where
+  pub ground : Ground b t
   pub bytes : length op ≡ width
-  pub inside : end ≤ length f
+  pub inside : end ≤ length b.file.now
 
 -- a drafted op whose node has a slot in the table, and bytes for just one op
 pub record Drawable (t op : List ℕ) (d : Draft) (end size : ℕ) : Type 0 where
@@ -79,7 +80,7 @@ pub record Plannable (f : List ℕ) (s : ℕ) (ns ops : List ℕ) : Type 0 where
   pub bytes : length ops ≡ width * length ns
 
 -- and the counts, the marks and the tree of the log
-pub record Prepared (f : List ℕ) (u : Vector) (marks t : List ℕ) (s : ℕ) (ns ops : List ℕ) : Type 0 where
-  pub plannable : Plannable f s ns ops
-  pub marked : MarkedLog f u marks
-  pub tree : t ≡ parents_of (log_of width f)
+pub record Prepared (b : Batch) (t ns ops : List ℕ) : Type 0 where
+  pub plannable : Plannable b.file.now b.replica ns ops
+  pub marked : MarkedLog b.file.now b.held b.marks.now
+  pub tree : t ≡ parents_of (log_of width b.file.now)

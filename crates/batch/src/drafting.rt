@@ -28,7 +28,7 @@ pub(crate) fn draft_next(
     parents: &[u16],
     node: u16,
 ) -> Result<Draft, Refusal>
-    requires { Ground batch.now.file.now batch.now.held batch.now.marks.now parents.now batch.now.replica }
+    requires { Ground batch.now parents.now }
     ensures { result
         ≡ drafted_in (log_of width batch.now.file.now) counts parents.now batch.now.replica node batch.now.parent }
 {

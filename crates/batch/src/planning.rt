@@ -61,7 +61,7 @@ fn plan_next(
     node: u16,
     op: &mut [u8],
 ) -> Result<usize, Refusal>
-    requires { Turn batch.now.file.now batch.now.held batch.now.marks.now end parents.old batch.now.replica op.old }
+    requires { Turn batch.now end parents.old op.old }
     ensures { record { answer = answer_of result; tree = parents.new; op = op.new }
         ≡ next_by (length batch.now.file.now) end counts batch.now.replica parents.old op.old
         (drafted_in (log_of width batch.now.file.now) counts parents.old batch.now.replica node batch.now.parent) }
@@ -78,7 +78,7 @@ fn plan_all(
     nodes: &[u16],
     ops: &mut [u8],
 ) -> Result<usize, Refusal>
-    requires { Prepared batch.now.file.now batch.now.held batch.now.marks.now parents.old batch.now.replica nodes.now ops.old }
+    requires { Prepared batch.now parents.old nodes.now ops.old }
     ensures { Planned batch.now.file.now batch.now.replica nodes.now batch.now.parent (answer_of result) ops.new }
 {
     let start = end_of(batch.file, 8, WIDTH);
@@ -94,6 +94,7 @@ fn plan_all(
 
 // Plans a batch at a sound log: its ops, or the first refusal. The log is judged once, and its marks
 // are looked up once.
+#[tactic(auto, using(crate::proofs::PutCases::putting))]
 pub(crate) fn plan(
     file: &[u8],
     replica: u8,

@@ -6,11 +6,5 @@ use Rattle.batch.proofs.planning.plan.Goals as goal
 pub counts_of-held-requires : goal.counts_of-held-requires
 counts_of-held-requires c = header_of _ (search putting)
 
-pub mark_ops-requires : goal.mark_ops-requires
-mark_ops-requires c = search putting
-
-pub replay_all-requires : goal.replay_all-requires
-replay_all-requires c = search putting
-
 pub plan_all-requires : goal.plan_all-requires
 plan_all-requires c = search putting

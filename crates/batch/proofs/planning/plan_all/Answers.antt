@@ -2,15 +2,8 @@
 use Rattle.std.proofs.lemmas.Result.{err_from_is_err_and}
 use mathlib.Core.Path.{refl}
 use borrow.Author.Rules.{rules}
-use Rattle.soundness.proofs.SoundCases.{end_asks}
 use Rattle.batch.proofs.PlanCases.{plan_on, planning}
 use Rattle.batch.proofs.planning.plan_all.Goals as goal
-
-pub end_of-start-requires : goal.end_of-start-requires
-end_of-start-requires c = end_asks _ (search planning)
-
-pub loop-i-init : goal.loop-i-init
-loop-i-init c = search planning
 
 pub with_more-counts-requires : goal.with_more-counts-requires
 with_more-counts-requires c = search planning
