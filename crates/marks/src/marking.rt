@@ -5,7 +5,7 @@ ghost use Rattle.rules.specs.File.{width, log_of};
 ghost use Rattle.rules.specs.Tree.{slots};
 ghost use Rattle.marks.specs.Marking.{Markable, mark, marks_of};
 
-use codec::{kind_at, node_at};
+use codec::{Kind, kind_at, node_at};
 use oplog::end_of;
 use soundness::WIDTH;
 use tree::slot_in;
@@ -15,7 +15,7 @@ fn mark_op(op: &[u8], marks: &mut [u8])
     requires { (length op.now ≡ width) × (length marks.old ≡ slots) }
     ensures { marks.new ≡ mark marks.old op.now }
 {
-    if kind_at(op, 0) == 2 {
+    if kind_at(op, 0) == u8::from(Kind::Remove) {
         marks[slot_in(node_at(op, 0))] = 1;
     }
 }

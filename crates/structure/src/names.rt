@@ -8,7 +8,7 @@ ghost use Rattle.rules.specs.Marks.{is_known, node_within, knowledge};
 ghost use Rattle.oplog.specs.Places.{Held};
 ghost use Rattle.structure.specs.Tests.{move_names, names_by};
 
-use codec::kind_at;
+use codec::{Kind, NoKind, kind_at};
 use oplog::place;
 
 // Whether a vector counts the op of a node's replica and sequence.
@@ -66,9 +66,11 @@ pub fn names_known(
     requires { Held width file.now v }
     ensures { result ≡ names_by (log_of width file.now) v kind node parent own }
 {
-    match kind {
-        1 => known_parent(file, v, parent, width) && node == own,
-        2 => known_in(file, v, node, width),
-        0 | 3..=255 => move_known(file, v, node, parent, width),
+    match Kind::try_from(kind) {
+        Ok(Kind::Add) => known_parent(file, v, parent, width) && node == own,
+        Ok(Kind::Remove) => known_in(file, v, node, width),
+        Ok(Kind::Upward | Kind::Downward) | Err(NoKind) => {
+            move_known(file, v, node, parent, width)
+        }
     }
 }
