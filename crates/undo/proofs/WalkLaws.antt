@@ -23,6 +23,12 @@ use Rattle.undo.specs.Tables.{ops_along, slot_counted, timed_along}
 use Rattle.undo.proofs.KeepLaws.{counted_slot}
 
 module _ (log : Log) (cut : Vector) where
+  -- one entry more
+  timed_last : (es : List Entry) (e : Entry) → timed_along log cut (es ++ e ∷ [])
+      ≡ timed_along log cut es ++ cond (counted cut (op_in log e.slot)) (stamped_of log e ∷ []) []
+  unfolding timed_along stamped_of filter
+  timed_last es e = rw map-append (filter_append (λ (x : Stamped). counted cut x.op) (map (stamped_of log) es) _)
+
   ops_last : (es : List Entry) (e : Entry) → ops_along log cut (es ++ e ∷ [])
       ≡ ops_along log cut es ++ cond (counted cut (op_in log e.slot)) (op_in log e.slot ∷ []) []
   unfolding ops_along filter
