@@ -30,7 +30,7 @@ pub fn is_replica(s: u8) -> bool
     (1..=8).contains(&s)
 }
 
-// Whether a kind can stand with a parent: a remove has parent 0.
+// Whether a kind can stand with a parent: a remove has parent 0. Any number may be asked, as any byte may be read.
 pub fn kind_fits(kind: u8, parent: u16) -> bool
     ensures { result ≡ kind_fits kind parent }
 {
@@ -79,7 +79,7 @@ pub fn read_op(bytes: &[u8], width: usize) -> Result<Fields, Refusal>
     })
 }
 
-// Writes an op of 14 bytes to the front of lent bytes.
+// Writes an op of 14 bytes to the front of lent bytes. It promises so for any number as its kind.
 pub fn write_op(out: &mut [u8], kind: u8, replica: u8, node: u16, parent: u16, vector: [u8; 8])
     requires { 14 ≤ length out.old }
     ensures { out.new ≡ op_bytes kind replica node parent vector ++ drop 14 out.old }

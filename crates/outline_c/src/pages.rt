@@ -25,6 +25,8 @@ fn number_of<T: Reply>(paged: Result<Paged<T>, Refusal>) -> usize
     }
 }
 
+// A function for each call, and a pointer and a length for each table: C has no generics and no structs of slices.
+
 // Delivers an op to the log in a buffer, with its page in three tables.
 #[unsafe(no_mangle)]
 pub extern "C" fn outline_page_deliver(

@@ -8,7 +8,7 @@ ghost use Rattle.page_tables.specs.Tables.{Comparable, FillablePage, OrderLent, 
 use schedule::OPS;
 use tree::SLOTS;
 
-// Whether lent tables have room for every page.
+// Whether lent tables have room for every page. C lends them one by one, so they go one by one.
 #[tactic(auto, unfolding(page_rules::specs::Page::long_enough))]
 pub fn long_enough(order: &[u16], parents: &[u16], outcomes: &[u8]) -> bool
     ensures { result ≡ rules.long_enough (page order.now parents.now outcomes.now) }

@@ -27,6 +27,8 @@ fn mark_byte(marked: bool) -> u8
     b'k'
 }
 
+// Three writers over one another: by value, on a lent pen, and by value through a lent pen. The listing uses
+// all three, and what is said of them (docs/PROOFS.md) is said of each.
 impl Pen {
     // Writes a line behind what is written, and hands the pen back with the line counted.
     pub fn write_line(self, out: &mut [u8], depth: u16, node: u16, marked: bool) -> Pen

@@ -289,7 +289,7 @@ fn loaded(rt: &impl Print, lent: &[u8]) {
     memory(rt, lent);
 }
 
-// Makes the call of a line on the lent buffer.
+// Makes the call of a line on the lent buffer. Its number is a byte of the input.
 fn dispatch(rt: &impl Print, call: u8, line: &[u8], lent: &mut [u8]) {
     if line.len() == 0 {
         return;
