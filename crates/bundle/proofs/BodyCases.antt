@@ -212,3 +212,6 @@ module _ (f : List ℕ) (counts : Vector) (out : List ℕ) (x : WholeRoom f coun
 pub ruleset copyings = (copy_fits, copy_is, body_skipped, body_copies, body_fits, body_put)
 
 pub ruleset bodying = (rules, copyings, order_asks)
+
+---- what the walk along the entries needs
+pub ruleset alongs = (along_starts, body_asks, along_on, along_ends)

@@ -36,7 +36,7 @@ fn write_body(file: &[u8], counts: [u8; 8], slot: usize, out: &mut [u8], at: usi
 }
 
 // Writes the ops beyond the other's counts along entries.
-#[tactic(auto, using(crate::proofs::BodyCases::along_starts, crate::proofs::BodyCases::body_asks, crate::proofs::BodyCases::along_on, crate::proofs::BodyCases::along_ends))]
+#[tactic(auto, using(crate::proofs::BodyCases::alongs))]
 fn write_along(file: &[u8], counts: [u8; 8], entries: &[Entry], out: &mut [u8])
     requires { BodiesRoom file.now counts entries.now out.old }
     ensures { out.new

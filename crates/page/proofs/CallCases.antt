@@ -124,7 +124,8 @@ module _ (f op ls lp lo : List ℕ) where
   unfolding deliver_page_answer with_page taken_with page_with require
   deliver_unsound e = rw e
 
-  pub deliver_short : sound width f ≡ true → long_enough (page ls lp lo) ≡ false → handed (refused 2) 0 f (page ls lp lo) ≡ deliver_page width f op (page ls lp lo)
+  pub deliver_short : sound width f ≡ true → long_enough (page ls lp lo) ≡ false
+      → handed (refused 2) 0 f (page ls lp lo) ≡ deliver_page width f op (page ls lp lo)
   unfolding deliver_page_answer with_page taken_with page_with require
   deliver_short s e = rw (s, e)
 
@@ -180,7 +181,8 @@ module _ (f out : List ℕ) (s : ℕ) (q : Request) (ls lp lo : List ℕ) where
   unfolding issue_page_answer with_page taken_with page_with require
   issue_unsound e = rw e
 
-  pub issue_short : sound width f ≡ true → long_enough (page ls lp lo) ≡ false → handed_out (refused 2) 0 f out (page ls lp lo) ≡ issue_page width f out s q (page ls lp lo)
+  pub issue_short : sound width f ≡ true → long_enough (page ls lp lo) ≡ false
+      → handed_out (refused 2) 0 f out (page ls lp lo) ≡ issue_page width f out s q (page ls lp lo)
   unfolding issue_page_answer with_page taken_with page_with require
   issue_short h e = rw (h, e)
 

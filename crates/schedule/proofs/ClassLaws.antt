@@ -32,3 +32,6 @@ module _ (w : ℕ) (f : List ℕ) (next : Vector) (s : ℕ) (x : HeldAt w f next
   pub class_so : (at : ℕ) → at ≡ place_of w f s q → (c r : ℕ) → c ≡ kind_of (drop at f) → r ≡ class_of c → r ≡ class_at (log_of w f) next s
   unfolding class_at count_in
   class_so at e c r hc hr = hr ∙ rw (← is, ne_eqb q 0 nz, hc, ← (fields_at w f s q class_in_file at e).kind)
+
+---- what the code that looks up a class needs
+pub ruleset classing = (class_in_file, class_so)

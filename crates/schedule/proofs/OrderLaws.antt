@@ -225,3 +225,6 @@ module _ (w : ℕ) (f : List ℕ) (cut : Vector) where
       go : (xs : List Stamped) → Each Slotted xs → map (stamped_of (log_of w f)) (map entry_of xs) ≡ xs
       go [] k = refl
       go (x ∷ xs) k = rw (k.0.same_op, go xs k.1)
+
+---- what the code that writes the order needs
+pub ruleset ordering = (order_starts, order_ends, order_idle, level_asks, order_on)

@@ -61,3 +61,6 @@ next_held w f cut done h = record {
     go : {a m : ℕ} (b : Bool) → a ≤ m → cond b a 0 ≤ m
     go true h = h
     go false h = omega arith
+
+---- what the code that looks for a next op needs
+pub ruleset readying = (next_in_file, next_none, next_ready, next_waits)

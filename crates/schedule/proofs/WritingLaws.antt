@@ -159,3 +159,8 @@ module _ (classes next : Vector) (time : ℕ) where
   pub level_idle : Idle classes → (start : List Entry) → start ≡ start ++ level_entries classes next time
   unfolding level_entries
   level_idle z start = rw (concat_nothing (class_entries classes next time) 4 1 (λ k a b. class_idle classes next time k a z)) (sym (append-nil start))
+
+---- what the code that writes a level needs
+pub ruleset class_writing = (class_starts, due_asks, class_on, class_ends)
+
+pub ruleset level_writing = (level_starts, class_asks, level_on, level_ends, level_idle)

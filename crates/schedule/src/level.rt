@@ -24,7 +24,7 @@ fn class_of(kind: u8) -> u8
 }
 
 // The class of the op of a replica that is ready, or 0.
-#[tactic(auto, using(crate::proofs::ClassLaws::class_in_file, crate::proofs::ClassLaws::class_so), unfolding(crate::specs::Level::class_at, rules::specs::Op::count_in))]
+#[tactic(auto, using(crate::proofs::ClassLaws::classing), unfolding(crate::specs::Level::class_at, rules::specs::Op::count_in))]
 fn class_at(file: &[u8], next: [u8; 8], s: usize, width: usize) -> u8
     requires { HeldAt width file.now next s }
     ensures { result ≡ class_at (log_of width file.now) next s }

@@ -10,7 +10,7 @@ use vector::within;
 
 // The number of replica s's next op, if it is within the cut and all that it has seen is done;
 // else 0. No Option: `next` is a version vector as `done` is, which counts 0 where there is none.
-#[tactic(auto, using(crate::proofs::ReadyLaws::next_in_file, crate::proofs::ReadyLaws::next_none, crate::proofs::ReadyLaws::next_ready, crate::proofs::ReadyLaws::next_waits))]
+#[tactic(auto, using(crate::proofs::ReadyLaws::readying))]
 fn next_op(file: &[u8], cut: [u8; 8], done: [u8; 8], s: usize, width: usize) -> u8
     requires { HeldAt width file.now cut s }
     ensures { result ≡ next_at (log_of width file.now) cut done s }

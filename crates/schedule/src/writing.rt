@@ -43,7 +43,7 @@ impl Level {
     }
 
     // The ops of a class, the higher replica first. None is ready below low or above high.
-    #[tactic(auto, using(crate::proofs::WritingLaws::class_starts, crate::proofs::WritingLaws::due_asks, crate::proofs::WritingLaws::class_on, crate::proofs::WritingLaws::class_ends))]
+    #[tactic(auto, using(crate::proofs::WritingLaws::class_writing))]
     fn write_class(&self, class: u8, low: usize, high: usize, schedule: &mut Schedule)
         requires { RoomIn self.now.classes self.now.next self.now.time class low high schedule.old }
         ensures { schedule.new
@@ -55,7 +55,7 @@ impl Level {
     }
 
     // All, class by class: adds, removes, upward moves, downward moves.
-    #[tactic(auto, using(crate::proofs::WritingLaws::level_starts, crate::proofs::WritingLaws::class_asks, crate::proofs::WritingLaws::level_on, crate::proofs::WritingLaws::level_ends, crate::proofs::WritingLaws::level_idle))]
+    #[tactic(auto, using(crate::proofs::WritingLaws::level_writing))]
     fn write(&self, schedule: &mut Schedule)
         requires { Room schedule.old
             (level_entries self.now.classes self.now.next self.now.time) }
@@ -77,7 +77,7 @@ const TIMES: u16 = OPS as u16 + 2;
 // Writes the ops within a closed cut in the order of replay: level after level, until nothing is
 // ready. It is lent: handed back by value, with the tables of a replay, judging 100 ops took 7 to 43 %
 // longer.
-#[tactic(auto, using(crate::proofs::OrderLaws::order_starts, crate::proofs::OrderLaws::order_ends, crate::proofs::OrderLaws::order_idle, crate::proofs::OrderLaws::level_asks, crate::proofs::OrderLaws::order_on))]
+#[tactic(auto, using(crate::proofs::OrderLaws::ordering))]
 pub fn write_order(file: &[u8], cut: [u8; 8], schedule: &mut Schedule, width: usize)
     requires { SchedulableCut width file.now cut }
     ensures { schedule.new ≡ scheduled (log_of width file.now) cut }

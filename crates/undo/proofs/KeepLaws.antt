@@ -44,3 +44,6 @@ module _ (w : ℕ) (f : List ℕ) (e : Entry) (x : Applicable w f e) where
   pub counted_slot : (cut : Vector) → counted cut op ≡ slot_counted cut e.slot
   unfolding slot_counted op_in
   counted_slot cut = let o = held_op w f x.is_structural (replica_in e.slot) (sequence_in e.slot) x.in_slot.in_file in rw (o.origin, o.number)
+
+---- what the code that keeps and puts back needs
+pub ruleset keeping = (own_small, own_slot)

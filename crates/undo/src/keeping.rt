@@ -50,7 +50,7 @@ impl Undoable {
     }
 
     // Judges the op of an entry, and keeps what it may overwrite.
-    #[tactic(auto, using(crate::proofs::KeepLaws::own_small, crate::proofs::KeepLaws::own_slot), unfolding(order::specs::Undo::step_keeping, schedule::specs::Schedule::stamped_of))]
+    #[tactic(auto, using(crate::proofs::KeepLaws::keeping), unfolding(order::specs::Undo::step_keeping, schedule::specs::Schedule::stamped_of))]
     pub(crate) fn keep(&mut self, file: &[u8], entry: Entry, width: usize)
         requires { Applicable width file.now entry }
         ensures { undoable_of self.new
@@ -64,7 +64,7 @@ impl Undoable {
     }
 
     // Takes back the op of an entry, which was judged last.
-    #[tactic(auto, using(crate::proofs::KeepLaws::own_small, crate::proofs::KeepLaws::own_slot), unfolding(order::specs::Undo::undo))]
+    #[tactic(auto, using(crate::proofs::KeepLaws::keeping), unfolding(order::specs::Undo::undo))]
     pub(crate) fn undo(&mut self, file: &[u8], entry: Entry, width: usize)
         requires { Applicable width file.now entry }
         ensures { undoable_of self.new
