@@ -62,7 +62,9 @@ fn open_in(buf: &mut [u8], bundle: &[u8], copy: &mut [u8]) -> Result<usize, Refu
     ensures { record { answer = answer_of result; buffer = buf.new }
         ≡ open_bundle width buf.old bundle.now }
 {
-    let end = try_bodies(buf, bundle, copy)?;
+    let tried = try_bodies(buf, bundle, copy);
+    // Only what has passed is copied back.
+    let end = tried?;
     put_front(buf, copy);
     Ok(end)
 }

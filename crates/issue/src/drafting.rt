@@ -53,7 +53,8 @@ pub fn draft_move(parents: &[u16], node: u16, parent: u16) -> Result<Draft, Refu
     }
 }
 
-// The same in the present tree.
+// The same in the present tree. Apart from its caller: an add and a remove need no room for its tables.
+#[inline(never)]
 fn draft_move_now(file: &[u8], node: u16, parent: u16) -> Result<Draft, Refusal>
     requires { Movable file.now node parent }
     ensures { result ≡ moved_in (parents_of (log_of width file.now)) node parent }

@@ -5,7 +5,7 @@ ghost use Rattle.rules.specs.File.{width, log_of};
 ghost use Rattle.rules.specs.Tree.{slots};
 ghost use Rattle.marks.specs.Marking.{Markable, mark, marks_of};
 
-use codec::{Kind, kind_at, node_at};
+use codec::{Kind, NoKind, kind_at, node_at};
 use oplog::end_of;
 use soundness::WIDTH;
 use tree::slot_in;
@@ -15,8 +15,9 @@ fn mark_op(op: &[u8], marks: &mut [u8])
     requires { (length op.now ≡ width) × (length marks.old ≡ slots) }
     ensures { marks.new ≡ mark marks.old op.now }
 {
-    if kind_at(op, 0) == u8::from(Kind::Remove) {
-        marks[slot_in(node_at(op, 0))] = 1;
+    match Kind::try_from(kind_at(op, 0)) {
+        Ok(Kind::Remove) => marks[slot_in(node_at(op, 0))] = 1,
+        Ok(Kind::Add | Kind::Upward | Kind::Downward) | Err(NoKind) => {}
     }
 }
 

@@ -1,4 +1,4 @@
-ghost use Rattle.std.specs.Prelude.{◌≡◌, ◌≤◌, length, map};
+ghost use Rattle.std.specs.Prelude.{◌≡◌, ◌≤◌, length, map, replicate};
 ghost use Rattle.rules.specs.File.{log_of, width};
 ghost use Rattle.rules.specs.Tree.{most_ops};
 ghost use Rattle.page_rules.specs.Page.{padded, page_filled, page, page_of};
@@ -10,18 +10,16 @@ use schedule::{Entry, OPS, Schedule, write_order};
 use soundness::WIDTH;
 use undo::{Undoable, first_beyond};
 
-// The slots of entries, and 0 behind them: a table, since the one that C lends is compared with it. By index: of a table that iter_mut lent a proof knows no
-// element.
+// Puts the slots of entries into a table of zeros, which stay behind them: a table, since the one that C lends is compared with it. By index: of a table that
+// iter_mut lent a proof knows no element. It is lent: handed back by value, it would stand on the stack twice.
 #[tactic(auto, using(crate::proofs::RenewLaws::slots_none, crate::proofs::RenewLaws::slots_more))]
-fn slots_of(entries: &[Entry]) -> [u16; OPS]
-    requires { length entries.now ≤ most_ops }
-    ensures { result ≡ padded (map slot_in_entry entries.now) }
+fn put_slots(entries: &[Entry], slots: &mut [u16; OPS])
+    requires { (length entries.now ≤ most_ops) × (slots.old ≡ replicate most_ops 0) }
+    ensures { slots.new ≡ padded (map slot_in_entry entries.now) }
 {
-    let mut slots = [0; OPS];
     for (place, entry) in entries.iter().enumerate() {
         slots[place] = entry.slot;
     }
-    slots
 }
 
 // Judges the old ops, looks whether the lent tables show that, and brings them on to all ops. Answers
@@ -41,7 +39,8 @@ fn rejudge(
         × Took (log_of width file.now) old
         (page order.old parents.old outcomes.old) result }
 {
-    let slots = slots_of(entries);
+    let mut slots = [0; OPS];
+    put_slots(entries, &mut slots);
     let mut judged = Undoable::new();
     judged.judge_along(file, old, entries, WIDTH);
     let place = first_beyond(entries, old);

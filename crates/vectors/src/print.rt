@@ -55,11 +55,19 @@ pub fn answered<T: Reply>(rt: &impl Print, answer: Result<T, Refusal>) {
     }
 }
 
-// The bytes in hexadecimal.
+const DIGITS: [u8; 16] = *b"0123456789abcdef";
+
+// The bytes in hexadecimal, of which there are at most 64, by one write: `print!` would be one for each byte.
 fn hex(rt: &impl Print, bytes: &[u8]) {
-    for byte in bytes {
-        let _written = print!(rt; "{byte:02x}");
+    if 64 < bytes.len() {
+        return;
     }
+    let mut out = [0u8; 128];
+    for (i, byte) in bytes.iter().enumerate() {
+        out[2 * i] = DIGITS[usize::from(*byte / 16)];
+        out[2 * i + 1] = DIGITS[usize::from(*byte % 16)];
+    }
+    front(rt, &out, 2 * bytes.len());
 }
 
 // Writes the first n bytes.
